@@ -1,11 +1,11 @@
 //! Both filters, one after the other. What the first wrote is what the second reads, through a file
 //! or a pipe, cut anywhere on both sides.
 
-ghost use Rattle.std.specs.Prelude.{◌≡◌, ◌+◌, ◌-◌, ◌<◌, ◌^◌, List, ℕ, Some, [], OnOk};
+ghost use Rattle.std.specs.Prelude.{◌≡◌, List, ℕ, Some, [], OnOk};
 ghost use Rattle.std.specs.Io.KnownBytes.{Appends};
 ghost use Rattle.std.specs.Str.{IsUtf8};
 ghost use Rattle.utf16_units.specs.Encoding.{IsUtf16};
-ghost use Rattle.utf16_streams.specs.Watched.{watched_faults, watched_inner};
+ghost use Rattle.utf16_streams.specs.Watched.{watched_inner};
 
 use std::alloc::Allocator;
 use std::io::{Read, Write};
@@ -18,10 +18,6 @@ use utf16_streams::{FilterFault, Utf16Order, Watched, encode_stream, filter};
 /// # Errors
 ///
 /// The errors of the filter that stops.
-///
-/// # Precondition
-///
-/// No error count is `u64::MAX`.
 pub fn encode_then_filter<
     E: Utf16Order,
     R: Read,
@@ -38,10 +34,6 @@ pub fn encode_then_filter<
     utf16: &mut Watched<S>,
     back: &mut Watched<V>,
 ) -> Result<(), FilterFault>
-    requires utf8 { watched_faults utf8.old < 2 ^ 64 - 1 }
-    requires between { watched_faults between.old < 2 ^ 64 - 1 }
-    requires utf16 { watched_faults utf16.old < 2 ^ 64 - 1 }
-    requires back { watched_faults back.old < 2 ^ 64 - 1 }
     ensures same { OnOk result ((bytes : List ℕ)
         → R.remaining (watched_inner utf8.old) ≡ Some bytes → IsUtf8 bytes
         → W.contents (watched_inner between.old) ≡ Some []
@@ -61,10 +53,6 @@ pub fn encode_then_filter<
 /// # Errors
 ///
 /// The errors of the filter that stops.
-///
-/// # Precondition
-///
-/// No error count is `u64::MAX`.
 pub fn filter_then_encode<
     E: Utf16Order,
     R: Read,
@@ -81,10 +69,6 @@ pub fn filter_then_encode<
     utf8: &mut Watched<S>,
     back: &mut Watched<V>,
 ) -> Result<(), FilterFault>
-    requires utf16 { watched_faults utf16.old < 2 ^ 64 - 1 }
-    requires between { watched_faults between.old < 2 ^ 64 - 1 }
-    requires utf8 { watched_faults utf8.old < 2 ^ 64 - 1 }
-    requires back { watched_faults back.old < 2 ^ 64 - 1 }
     ensures same { OnOk result ((bytes : List ℕ)
         → R.remaining (watched_inner utf16.old) ≡ Some bytes → IsUtf16 E.BIG bytes
         → W.contents (watched_inner between.old) ≡ Some []

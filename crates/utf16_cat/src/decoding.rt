@@ -2,7 +2,7 @@
 
 ghost use Rattle.std.specs.Prelude.{◌≡◌, ◌≢◌, ◌↔◌, ◌+◌, Some, refl};
 ghost use Rattle.utf16_streams.specs.Filter.{FiltersIn};
-ghost use Rattle.utf16_streams.specs.Watched.{watched_faults, watched_inner};
+ghost use Rattle.utf16_streams.specs.Watched.{Counts, watched_inner};
 ghost use Rattle.utf16_program.specs.Outcome.{EndsBy};
 ghost use Rattle.utf16_program.specs.Status.{reads_failed, writes_failed};
 ghost use Rattle.utf16_cat.specs.Line.{line_of};

@@ -2,7 +2,7 @@
 
 ghost use Rattle.std.specs.Prelude.{◌≡◌, ◌+◌, ◌-◌, ◌<◌, ◌≤◌, ◌^◌, All, IfErr, IfOk, OnOk, drop, length, take};
 ghost use Rattle.std.specs.Io.KnownBytes.{Appends, ReadConsumes};
-ghost use Rattle.utf16_streams.specs.Watched.{CountsFaults, watched_faults, watched_inner};
+ghost use Rattle.utf16_streams.specs.Watched.{Counts, CountsFaults, watched_faults, watched_inner};
 ghost use Rattle.utf16_program.specs.Status.{reads_failed, writes_failed};
 ghost use Rattle.utf16_check.specs.Checker.{IsPending, Takes, checker_ill_formed, checker_lines, checker_offset, checker_report};
 ghost use Rattle.utf16_check.specs.Checks.{ChecksBy, EndsBy, FailsBy};
@@ -10,7 +10,7 @@ ghost use Rattle.utf16_check.specs.Checks.{ChecksBy, EndsBy, FailsBy};
 use crate::checker::Checker;
 use std::alloc::Allocator;
 use std::io::{Read, Write};
-use utf16_program::{Outcome, write_all};
+use utf16_program::Outcome;
 use utf16_streams::{DeviceFault, Watched};
 use utf16_units::laws::are_bytes;
 
@@ -24,10 +24,6 @@ const BLOCK_LEN: usize = 4096;
 /// Returns `Done` if the input is well formed, and `IllFormed` if not. It stops at the first I/O
 /// error, if allocation fails, or after 2^64 - 1 bytes.
 ///
-/// # Precondition
-///
-/// Neither error count is `u64::MAX`.
-///
 /// # Complexity
 ///
 /// Linear time. The memory for lines is limited by the length of a block.
@@ -37,13 +33,11 @@ pub fn check<R: Read, W: Write, A: Allocator>(
     reader: &mut Watched<R>,
     writer: &mut Watched<W>,
 ) -> Outcome
-    requires reader { watched_faults reader.old < 2 ^ 64 - 1 }
-    requires writer { watched_faults writer.old < 2 ^ 64 - 1 }
     ensures checks { ChecksBy big_endian (R.remaining (watched_inner reader.old))
         (R.remaining (watched_inner reader.new)) (W.contents (watched_inner writer.old))
         (W.contents (watched_inner writer.new)) result }
-    ensures reads { watched_faults reader.new ≡ watched_faults reader.old + reads_failed result }
-    ensures writes { watched_faults writer.new ≡ watched_faults writer.old + writes_failed result }
+    ensures reads { Counts reader.old reader.new (reads_failed result) }
+    ensures writes { Counts writer.old writer.new (writes_failed result) }
 {
     let mut checker = Checker::new(big_endian);
     let mut lines = String::new(alloc);
@@ -80,7 +74,6 @@ fn read_behind<R: Read>(
     room: usize,
 ) -> Result<usize, DeviceFault>
     requires room { pending + room ≤ length block.old }
-    requires reader { watched_faults reader.old < 2 ^ 64 - 1 }
     ensures before { take pending block.new ≡ take pending block.old }
     ensures within { IfOk result (λ count. count ≤ room) }
     ensures transfers { ReadConsumes (R.remaining (watched_inner reader.old))
@@ -102,7 +95,6 @@ fn check_block<W: Write, A: Allocator>(
     writer: &mut Watched<W>,
 ) -> Result<usize, Outcome>
     requires fits { checker_offset checker.old + length block.now < 2 ^ 64 }
-    requires writer { watched_faults writer.old < 2 ^ 64 - 1 }
     ensures takes { IfOk result (Takes checker.old checker.new block.now) }
     ensures lines { OnOk result (Appends (W.contents (watched_inner writer.old))
         (W.contents (watched_inner writer.new)) (checker_lines checker.old block.now)) }
@@ -110,13 +102,13 @@ fn check_block<W: Write, A: Allocator>(
         (W.contents (watched_inner writer.new)) (checker_lines checker.old block.now)) }
     ensures succeeds { OnOk result (watched_faults writer.new ≡ watched_faults writer.old) }
     ensures writes { IfErr result (λ outcome.
-        watched_faults writer.new ≡ watched_faults writer.old + writes_failed outcome) }
+        Counts writer.old writer.new (writes_failed outcome)) }
 {
     lines.clear();
     let Ok(taken) = checker.feed(block, lines) else {
         return Err(Outcome::Memory);
     };
-    let Ok(()) = write_all(lines.as_bytes(), writer) else {
+    let Ok(()) = writer.write_all(lines.as_bytes()) else {
         return Err(Outcome::Write);
     };
     Ok(taken)
@@ -131,18 +123,17 @@ fn end<W: Write, A: Allocator>(
 ) -> Outcome
     requires pending { IsPending checker pending.now }
     requires fits { checker_offset checker + length pending.now < 2 ^ 64 }
-    requires writer { watched_faults writer.old < 2 ^ 64 - 1 }
     ensures ends { EndsBy (W.contents (watched_inner writer.old))
         (W.contents (watched_inner writer.new)) (checker_report checker pending.now)
         (checker_ill_formed checker pending.now) result }
-    ensures writes { watched_faults writer.new ≡ watched_faults writer.old + writes_failed result }
+    ensures writes { Counts writer.old writer.new (writes_failed result) }
 {
     let mut lines = lines;
     lines.clear();
     let Ok(well_formed) = checker.finish(pending, &mut lines) else {
         return Outcome::Memory;
     };
-    let Ok(()) = write_all(lines.as_bytes(), writer) else {
+    let Ok(()) = writer.write_all(lines.as_bytes()) else {
         return Outcome::Write;
     };
     let Ok(()) = writer.flush() else {

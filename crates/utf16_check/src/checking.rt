@@ -1,7 +1,7 @@
 //! What the program checks for each of its words, and its messages.
 
 ghost use Rattle.std.specs.Prelude.{◌≡◌, ◌≢◌, ◌↔◌, ◌+◌, Some, refl};
-ghost use Rattle.utf16_streams.specs.Watched.{watched_faults, watched_inner};
+ghost use Rattle.utf16_streams.specs.Watched.{Counts, watched_inner};
 ghost use Rattle.utf16_program.specs.Status.{reads_failed, writes_failed};
 ghost use Rattle.utf16_check.specs.Checks.{ChecksBy};
 ghost use Rattle.utf16_check.specs.Line.{line_of};

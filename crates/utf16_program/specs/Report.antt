@@ -1,10 +1,10 @@
 -- What a run reports at its end: the exit status and the message of its outcome.
-use Rattle.std.specs.Prelude.{◌≡◌, ◌⊎◌, ℕ, ◌+◌, ◌-◌, ◌^◌, List, [], Option, min}
+use Rattle.std.specs.Prelude.{◌≡◌, ◌⊎◌, ℕ, List, [], Option}
 use Rattle.std.specs.Io.KnownBytes.{Appends}
 use Rattle.utf16_program.specs.Status.{status_of}
 use Rattle.utf16_program.specs.declared.outcome.Outcome.{Outcome}
 use Rattle.utf16_streams.specs.Filter.{AppendsPrefix}
-use Rattle.utf16_streams.specs.Watched.{watched_faults, watched_inner}
+use Rattle.utf16_streams.specs.Watched.{Counts, watched_faults, watched_inner}
 use Rattle.utf16_streams.specs.declared.watched.Watched.{Watched}
 
 module _ {W : Type 0} (contents : W → Option (List ℕ)) (old new : Watched W) where
@@ -18,7 +18,7 @@ module _ {W : Type 0} (contents : W → Option (List ℕ)) (old new : Watched W)
   abbrev pub TellsPrefix : List ℕ → Type 0
   TellsPrefix line =
       AppendsPrefix (contents (watched_inner old)) (contents (watched_inner new)) line
-      × (watched_faults new ≡ min (watched_faults old + 1) (2 ^ 64 - 1))
+      × Counts old new 1
 
   -- one of the two; for an empty line the writer was not called
   abbrev pub Tells : List ℕ → Type 0

@@ -1,8 +1,8 @@
 -- What a run did, given the outcome that it ended with.
-use Rattle.std.specs.Prelude.{◌≡◌, ◌⊎◌, ℕ, ◌+◌, List, [], ◌∷◌}
+use Rattle.std.specs.Prelude.{◌≡◌, ◌⊎◌, ℕ, List, [], ◌∷◌}
 use Rattle.utf16_program.specs.Status.{reads_failed, writes_failed}
 use Rattle.utf16_program.specs.declared.outcome.Outcome.{Outcome}
-use Rattle.utf16_streams.specs.Watched.{watched_faults}
+use Rattle.utf16_streams.specs.Watched.{Counts}
 use Rattle.utf16_streams.specs.declared.watched.Watched.{Watched}
 
 -- If the only word names a choice, the outcome is the one of its filter, and bytes were read and
@@ -15,5 +15,5 @@ Runs {C} word_of filters words IsRefused reader reader_after writer writer_after
     ((choice : C) → words ≡ word_of choice ∷ [] → filters choice ended)
     × (((choice : C) × (words ≡ word_of choice ∷ []))
     ⊎ (IsRefused ended × (reader_after ≡ reader) × (writer_after ≡ writer)))
-    × (watched_faults reader_after ≡ watched_faults reader + reads_failed ended)
-    × (watched_faults writer_after ≡ watched_faults writer + writes_failed ended)
+    × Counts reader reader_after (reads_failed ended)
+    × Counts writer writer_after (writes_failed ended)

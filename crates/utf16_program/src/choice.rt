@@ -1,7 +1,7 @@
 //! What a program defines: the words that it knows, what each of them chooses, and its messages.
 
-ghost use Rattle.std.specs.Prelude.{◌≡◌, ◌≢◌, ◌↔◌, ◌+◌, ◌-◌, ◌<◌, ◌^◌, [], ℕ, List, Option, Some};
-ghost use Rattle.utf16_streams.specs.Watched.{watched_faults, watched_inner};
+ghost use Rattle.std.specs.Prelude.{◌≡◌, ◌≢◌, ◌↔◌, [], ℕ, List, Option, Some};
+ghost use Rattle.utf16_streams.specs.Watched.{Counts, watched_inner};
 ghost use Rattle.utf16_program.specs.Status.{reads_failed, writes_failed};
 ghost use Rattle.utf16_program.specs.declared.outcome.Outcome.{Outcome};
 
@@ -31,25 +31,17 @@ pub trait Choice: Sized {
 
     /// Filters a reader to a writer, as this choice says, and returns how it ended, which is never
     /// `Usage`.
-    ///
-    /// # Precondition
-    ///
-    /// Neither error count is `u64::MAX`.
     fn filter<R: Read, W: Write, A: Allocator>(
         self,
         alloc: A,
         reader: &mut Watched<R>,
         writer: &mut Watched<W>,
     ) -> Outcome
-        requires reader { watched_faults reader.old < 2 ^ 64 - 1 }
-        requires writer { watched_faults writer.old < 2 ^ 64 - 1 }
         ensures transfers { filters self (R.remaining (watched_inner reader.old))
             (R.remaining (watched_inner reader.new)) (W.contents (watched_inner writer.old))
             (W.contents (watched_inner writer.new)) result }
-        ensures reads { watched_faults reader.new
-            ≡ watched_faults reader.old + reads_failed result }
-        ensures writes { watched_faults writer.new
-            ≡ watched_faults writer.old + writes_failed result }
+        ensures reads { Counts reader.old reader.new (reads_failed result) }
+        ensures writes { Counts writer.old writer.new (writes_failed result) }
         ensures chosen { result ≢ Outcome.Usage };
 
     /// Returns the message of an outcome, a line with its newline; empty for `Done`.

@@ -10,6 +10,6 @@ mod programs;
 
 pub use arguments::choice_of;
 pub use choice::Choice;
-pub use messages::{report, tell, write_all};
+pub use messages::{report, tell};
 pub use outcome::{Outcome, outcome_of};
 pub use programs::{program, run};

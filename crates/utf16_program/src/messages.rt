@@ -1,7 +1,6 @@
 //! The message of a run's outcome, and its exit status.
 
-ghost use Rattle.std.specs.Prelude.{◌≡◌, ◌+◌, ◌-◌, ◌<◌, ◌^◌, [], OnErr, OnOk};
-ghost use Rattle.utf16_streams.specs.Watched.{watched_faults};
+ghost use Rattle.std.specs.Prelude.{◌≡◌, [], OnErr, OnOk};
 ghost use Rattle.utf16_program.specs.Report.{Reports, TellsAll, TellsPrefix};
 
 use crate::choice::Choice;
@@ -13,8 +12,7 @@ use utf16_streams::{DeviceFault, Watched};
 ///
 /// # Errors
 ///
-/// If a write fails; the writer is not called again after that. Also if the error count is
-/// `u64::MAX`; in that case the writer is not called.
+/// If a write fails; the writer is not called again after that.
 pub fn tell<C: Choice, W: Write>(outcome: &Outcome, to: &mut Watched<W>) -> Result<(), DeviceFault>
     ensures line { OnOk result (TellsAll W.contents to.old to.new (C.line_of outcome.now)) }
     ensures err { OnErr result (TellsPrefix W.contents to.old to.new (C.line_of outcome.now)) }
@@ -24,31 +22,7 @@ pub fn tell<C: Choice, W: Write>(outcome: &Outcome, to: &mut Watched<W>) -> Resu
     if line.is_empty() {
         return Ok(());
     }
-    if to.faults() == u64::MAX {
-        return Err(DeviceFault);
-    }
-    write_all(line, to)
-}
-
-/// Writes all of the bytes.
-///
-/// # Errors
-///
-/// If a write fails; the writer is not called again after that.
-///
-/// # Precondition
-///
-/// The error count is not `u64::MAX`.
-pub fn write_all<W: Write>(bytes: &[u8], to: &mut Watched<W>) -> Result<(), DeviceFault>
-    requires { watched_faults to.old < 2 ^ 64 - 1 }
-    ensures appended { OnOk result (TellsAll W.contents to.old to.new bytes.now) }
-    ensures err { OnErr result (TellsPrefix W.contents to.old to.new bytes.now) }
-{
-    let mut written = 0;
-    while written < bytes.len() {
-        written += to.write(&bytes[written..])?;
-    }
-    Ok(())
+    to.write_all(line)
 }
 
 /// Writes the message of an outcome, and returns the exit status. A failure to write is ignored.

@@ -1,10 +1,10 @@
 //! A run of a program, with any arguments, reader and writers.
 
-ghost use Rattle.std.specs.Prelude.{◌≡◌, ◌⊎◌, ◌+◌, ◌-◌, ◌<◌, ◌≤◌, ◌^◌, [], ◌∷◌, string_bytes};
+ghost use Rattle.std.specs.Prelude.{◌≡◌, ◌⊎◌, ◌≤◌, [], ◌∷◌, string_bytes};
 ghost use Rattle.std.specs.IoError.{error_kind};
 ghost use Rattle.std.specs.Process.{exit_status};
 ghost use Rattle.std.specs.Vec.Iter.{into_iter_items};
-ghost use Rattle.utf16_streams.specs.Watched.{watched_faults, watched_inner};
+ghost use Rattle.utf16_streams.specs.Watched.{Counts, watched_inner};
 ghost use Rattle.utf16_program.specs.Arguments.{IsRefusal, words_of};
 ghost use Rattle.utf16_program.specs.Report.{Reports};
 ghost use Rattle.utf16_program.specs.Run.{Runs};
@@ -24,10 +24,6 @@ use utf16_streams::Watched;
 /// `report` does: it writes the message to `errors` and returns the exit status. The status is 0 if
 /// the whole input was converted, or was checked and is well formed; 2 if the arguments name no
 /// choice; and 1 otherwise.
-///
-/// # Precondition
-///
-/// The error counts of the reader and of the writer are below `u64::MAX`.
 pub fn program<C: Choice, R: Read, W: Write, T: Write, A: Allocator>(
     alloc: A,
     args: io::Result<Args>,
@@ -35,8 +31,6 @@ pub fn program<C: Choice, R: Read, W: Write, T: Write, A: Allocator>(
     writer: &mut Watched<W>,
     errors: &mut Watched<T>,
 ) -> ExitCode
-    requires reader { watched_faults reader.old < 2 ^ 64 - 1 }
-    requires writer { watched_faults writer.old < 2 ^ 64 - 1 }
     ensures ends { (ended : Outcome) × Runs C.word_of (λ choice. C.filters choice
         (R.remaining (watched_inner reader.old)) (R.remaining (watched_inner reader.new))
         (W.contents (watched_inner writer.old)) (W.contents (watched_inner writer.new)))
@@ -66,18 +60,12 @@ pub fn program<C: Choice, R: Read, W: Write, T: Write, A: Allocator>(
 /// Filters a reader to a writer, as the choice that the only argument names says, and returns the
 /// outcome. The arguments are what `env::args` of std returned. If they name no choice, it returns
 /// the error of `choice_of`, and reads and writes nothing.
-///
-/// # Precondition
-///
-/// Neither error count is `u64::MAX`.
 pub fn run<C: Choice, R: Read, W: Write, A: Allocator>(
     alloc: A,
     args: io::Result<Args>,
     reader: &mut Watched<R>,
     writer: &mut Watched<W>,
 ) -> Outcome
-    requires reader { watched_faults reader.old < 2 ^ 64 - 1 }
-    requires writer { watched_faults writer.old < 2 ^ 64 - 1 }
     ensures named { (choice : C)
         → words_of into_iter_items string_bytes args ≡ C.word_of choice ∷ []
         → C.filters choice (R.remaining (watched_inner reader.old))
@@ -87,8 +75,8 @@ pub fn run<C: Choice, R: Read, W: Write, A: Allocator>(
         × (words_of into_iter_items string_bytes args ≡ C.word_of choice ∷ []))
         ⊎ (IsRefusal (λ error. error_kind error ≡ ErrorKind.OutOfMemory) args result
         × (reader.new ≡ reader.old) × (writer.new ≡ writer.old)) }
-    ensures reads { watched_faults reader.new ≡ watched_faults reader.old + reads_failed result }
-    ensures writes { watched_faults writer.new ≡ watched_faults writer.old + writes_failed result }
+    ensures reads { Counts reader.old reader.new (reads_failed result) }
+    ensures writes { Counts writer.old writer.new (writes_failed result) }
     ensures usage { result ≡ Outcome.Usage → (reader.new ≡ reader.old)
         × (writer.new ≡ writer.old) }
 {

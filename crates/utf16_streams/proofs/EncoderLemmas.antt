@@ -1,7 +1,7 @@
 -- The UTF-16 of a stream of UTF-8, and how it continues when more bytes come, with a BOM first and
 -- without one.
-use Rattle.std.proofs.Common.{◌≡◌, ◌≢◌, ◌⊎◌, inl, inr, ⊎_elim, ℕ, ◌+◌, ◌*◌, ◌≤◌, Bool, true, false, List, [], ◌∷◌, ◌++◌, Option, Result, length, take, drop, if◌then◌else◌, refl, sym, ap, ap₂, ◌∙◌, subst, arith, append-nil, append_assoc, length-append}
-use Rattle.std.proofs.lemmas.List.{drop_all, length-map, nil_from_length}
+use Rattle.std.proofs.Common.{◌≡◌, ◌≢◌, ◌⊎◌, inl, inr, ⊎_elim, ℕ, ◌+◌, ◌*◌, ◌≤◌, Bool, true, false, List, [], ◌∷◌, ◌++◌, Option, Result, length, take, if◌then◌else◌, refl, sym, ap, ap₂, ◌∙◌, subst, arith, append-nil, append_assoc, length-append}
+use Rattle.std.proofs.lemmas.List.{length-map, nil_from_length}
 use Rattle.utf16_units.specs.Encoding.{char_bytes, char_size, encode, size}
 use Rattle.utf16_units.proofs.CharLemmas.{char_size_cases}
 use Rattle.utf16_units.proofs.EncodingLemmas.{encode-append, encode-nil, length-encode, size-cons, size-nil}

@@ -1,8 +1,8 @@
 //! Filters from a reader of UTF-8 to a writer of UTF-16.
 
-ghost use Rattle.std.specs.Prelude.{◌≡◌, ◌+◌, ◌-◌, ◌<◌, ◌^◌, true, false};
+ghost use Rattle.std.specs.Prelude.{◌≡◌, true, false};
 ghost use Rattle.utf16_streams.specs.Filter.{read_faults, write_faults};
-ghost use Rattle.utf16_streams.specs.Watched.{watched_faults, watched_inner};
+ghost use Rattle.utf16_streams.specs.Watched.{Counts, watched_inner};
 ghost use Rattle.utf16_streams.specs.Encoder.{EncodesAs, EncodesWithBom};
 
 use crate::encoder::Encoder;
@@ -22,10 +22,6 @@ use utf16_units::Utf16Order;
 /// At the first I/O error, if allocation fails, or after 2^64 - 1 reads that returned bytes.
 /// `FilterFault` says what has been written in each case.
 ///
-/// # Precondition
-///
-/// Neither error count is `u64::MAX`.
-///
 /// # Complexity
 ///
 /// Allocates once, for the output of one chunk, however long the input is. Allocates nothing if no
@@ -40,13 +36,11 @@ pub fn encode_stream<E: Utf16Order, R: Read, W: Write, A: Allocator>(
     reader: &mut Watched<R>,
     writer: &mut Watched<W>,
 ) -> Result<(), FilterFault>
-    requires reader { watched_faults reader.old < 2 ^ 64 - 1 }
-    requires writer { watched_faults writer.old < 2 ^ 64 - 1 }
     ensures transfers { EncodesAs E.BIG (R.remaining (watched_inner reader.old))
         (R.remaining (watched_inner reader.new)) (W.contents (watched_inner writer.old))
         (W.contents (watched_inner writer.new)) result }
-    ensures reads { watched_faults reader.new ≡ watched_faults reader.old + read_faults result }
-    ensures writes { watched_faults writer.new ≡ watched_faults writer.old + write_faults result }
+    ensures reads { Counts reader.old reader.new (read_faults result) }
+    ensures writes { Counts writer.old writer.new (write_faults result) }
 {
     filter_by(alloc, Encoder::<E>::new(false), reader, writer)
 }
@@ -59,22 +53,16 @@ pub fn encode_stream<E: Utf16Order, R: Read, W: Write, A: Allocator>(
 /// # Errors
 ///
 /// The same as for `encode_stream`.
-///
-/// # Precondition
-///
-/// Neither error count is `u64::MAX`.
 pub fn encode_stream_with_bom<E: Utf16Order, R: Read, W: Write, A: Allocator>(
     alloc: A,
     reader: &mut Watched<R>,
     writer: &mut Watched<W>,
 ) -> Result<(), FilterFault>
-    requires reader { watched_faults reader.old < 2 ^ 64 - 1 }
-    requires writer { watched_faults writer.old < 2 ^ 64 - 1 }
     ensures transfers { EncodesWithBom E.BIG (R.remaining (watched_inner reader.old))
         (R.remaining (watched_inner reader.new)) (W.contents (watched_inner writer.old))
         (W.contents (watched_inner writer.new)) result }
-    ensures reads { watched_faults reader.new ≡ watched_faults reader.old + read_faults result }
-    ensures writes { watched_faults writer.new ≡ watched_faults writer.old + write_faults result }
+    ensures reads { Counts reader.old reader.new (read_faults result) }
+    ensures writes { Counts writer.old writer.new (write_faults result) }
 {
     filter_by(alloc, Encoder::<E>::new(true), reader, writer)
 }

@@ -3,7 +3,7 @@
 ghost use Rattle.std.specs.Prelude.{◌≡◌, ◌+◌, ◌-◌, ◌*◌, ◌<◌, ◌≤◌, ◌^◌, [], IfOk, OnErr, OnOk, length};
 ghost use Rattle.std.specs.Io.KnownBytes.{Appends};
 ghost use Rattle.utf16_streams.specs.Filter.{AppendsPrefix, FiltersAs, FiltersAuto, FiltersBy, read_faults, write_faults};
-ghost use Rattle.utf16_streams.specs.Watched.{CountsFaults, watched_faults, watched_inner};
+ghost use Rattle.utf16_streams.specs.Watched.{Counts, CountsFaults, watched_inner};
 
 use crate::any_lossy::AnyLossy;
 use crate::lossy::Lossy;
@@ -46,10 +46,6 @@ pub enum FilterFault {
 /// At the first I/O error, if allocation fails, or after 2^64 - 1 reads that returned bytes.
 /// `FilterFault` says what has been written in each case.
 ///
-/// # Precondition
-///
-/// Neither error count is `u64::MAX`.
-///
 /// # Complexity
 ///
 /// Allocates once, for the text of one chunk, however long the input is. Allocates nothing if no
@@ -59,13 +55,11 @@ pub fn filter<E: Utf16Order, R: Read, W: Write, A: Allocator>(
     reader: &mut Watched<R>,
     writer: &mut Watched<W>,
 ) -> Result<(), FilterFault>
-    requires reader { watched_faults reader.old < 2 ^ 64 - 1 }
-    requires writer { watched_faults writer.old < 2 ^ 64 - 1 }
     ensures transfers { FiltersAs E.BIG (R.remaining (watched_inner reader.old))
         (R.remaining (watched_inner reader.new)) (W.contents (watched_inner writer.old))
         (W.contents (watched_inner writer.new)) result }
-    ensures reads { watched_faults reader.new ≡ watched_faults reader.old + read_faults result }
-    ensures writes { watched_faults writer.new ≡ watched_faults writer.old + write_faults result }
+    ensures reads { Counts reader.old reader.new (read_faults result) }
+    ensures writes { Counts writer.old writer.new (write_faults result) }
 {
     filter_by(alloc, Lossy::<E>::new(), reader, writer)
 }
@@ -77,22 +71,16 @@ pub fn filter<E: Utf16Order, R: Read, W: Write, A: Allocator>(
 /// # Errors
 ///
 /// The same as for `filter`.
-///
-/// # Precondition
-///
-/// Neither error count is `u64::MAX`.
 pub fn filter_auto<R: Read, W: Write, A: Allocator>(
     alloc: A,
     reader: &mut Watched<R>,
     writer: &mut Watched<W>,
 ) -> Result<(), FilterFault>
-    requires reader { watched_faults reader.old < 2 ^ 64 - 1 }
-    requires writer { watched_faults writer.old < 2 ^ 64 - 1 }
     ensures transfers { FiltersAuto (R.remaining (watched_inner reader.old))
         (R.remaining (watched_inner reader.new)) (W.contents (watched_inner writer.old))
         (W.contents (watched_inner writer.new)) result }
-    ensures reads { watched_faults reader.new ≡ watched_faults reader.old + read_faults result }
-    ensures writes { watched_faults writer.new ≡ watched_faults writer.old + write_faults result }
+    ensures reads { Counts reader.old reader.new (read_faults result) }
+    ensures writes { Counts writer.old writer.new (write_faults result) }
 {
     filter_by(alloc, AnyLossy::new(), reader, writer)
 }
@@ -105,10 +93,6 @@ pub fn filter_auto<R: Read, W: Write, A: Allocator>(
 /// At the first I/O error, if allocation fails, or after 2^64 - 1 reads that returned bytes.
 /// `FilterFault` says what has been written in each case; its text is the output of the transcoder.
 ///
-/// # Precondition
-///
-/// Neither error count is `u64::MAX`.
-///
 /// # Complexity
 ///
 /// Allocates once, for the output of one chunk, however long the input is. Allocates nothing if no
@@ -119,13 +103,11 @@ pub fn filter_by<T: Transcoder, R: Read, W: Write, A: Allocator>(
     reader: &mut Watched<R>,
     writer: &mut Watched<W>,
 ) -> Result<(), FilterFault>
-    requires reader { watched_faults reader.old < 2 ^ 64 - 1 }
-    requires writer { watched_faults writer.old < 2 ^ 64 - 1 }
     ensures transfers { FiltersBy (T.decided transcoder) (T.whole transcoder)
         (R.remaining (watched_inner reader.old)) (R.remaining (watched_inner reader.new))
         (W.contents (watched_inner writer.old)) (W.contents (watched_inner writer.new)) result }
-    ensures reads { watched_faults reader.new ≡ watched_faults reader.old + read_faults result }
-    ensures writes { watched_faults writer.new ≡ watched_faults writer.old + write_faults result }
+    ensures reads { Counts reader.old reader.new (read_faults result) }
+    ensures writes { Counts writer.old writer.new (write_faults result) }
 {
     transcoder.laws();
     let mut transcoder = transcoder;
@@ -147,7 +129,7 @@ pub fn filter_by<T: Transcoder, R: Read, W: Write, A: Allocator>(
             return Err(FilterFault::Memory);
         };
         let len = transcoder.feed_to(&block[..count], to);
-        let Ok(()) = write_all(writer, &to[..len]) else {
+        let Ok(()) = writer.write_all(&to[..len]) else {
             return Err(FilterFault::Write);
         };
     }
@@ -176,7 +158,6 @@ fn space_for<'a, A: Allocator>(
 
 // Writes what the end of the stream adds to the output, and flushes once.
 fn end<T: Transcoder, W: Write>(transcoder: T, writer: &mut Watched<W>) -> Result<(), DeviceFault>
-    requires { watched_faults writer.old < 2 ^ 64 - 1 }
     ensures appended { OnOk result (Appends (W.contents (watched_inner writer.old))
         (W.contents (watched_inner writer.new)) (T.whole transcoder [])) }
     ensures err { OnErr result (AppendsPrefix (W.contents (watched_inner writer.old))
@@ -185,22 +166,6 @@ fn end<T: Transcoder, W: Write>(transcoder: T, writer: &mut Watched<W>) -> Resul
 {
     let mut buffer = [0; SHORT_OUTPUT];
     let len = transcoder.finish_to(&mut buffer);
-    write_all(writer, &buffer[..len])?;
+    writer.write_all(&buffer[..len])?;
     writer.flush()
-}
-
-// Writes all of the bytes.
-fn write_all<W: Write>(writer: &mut Watched<W>, bytes: &[u8]) -> Result<(), DeviceFault>
-    requires { watched_faults writer.old < 2 ^ 64 - 1 }
-    ensures appended { OnOk result (Appends (W.contents (watched_inner writer.old))
-        (W.contents (watched_inner writer.new)) bytes.now) }
-    ensures err { OnErr result (AppendsPrefix (W.contents (watched_inner writer.old))
-        (W.contents (watched_inner writer.new)) bytes.now) }
-    ensures faults { CountsFaults writer.old writer.new result }
-{
-    let mut written = 0;
-    while written < bytes.len() {
-        written += writer.write(&bytes[written..])?;
-    }
-    Ok(())
 }

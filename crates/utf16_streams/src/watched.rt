@@ -1,8 +1,9 @@
 //! Readers and writers whose I/O errors are counted.
 
-ghost use Rattle.std.specs.Prelude.{◌≡◌, ◌+◌, ◌-◌, ◌<◌, ◌≤◌, ◌^◌, IfOk, length};
-ghost use Rattle.std.specs.Io.KnownBytes.{Keeps, ReadConsumes, WriteAppends};
-ghost use Rattle.utf16_streams.specs.Watched.{CountsFaults, watched_faults, watched_inner};
+ghost use Rattle.std.specs.Prelude.{◌≡◌, ◌<◌, ◌≤◌, IfOk, OnErr, OnOk, length};
+ghost use Rattle.std.specs.Io.KnownBytes.{Appends, Keeps, ReadConsumes, WriteAppends};
+ghost use Rattle.utf16_streams.specs.Filter.{AppendsPrefix};
+ghost use Rattle.utf16_streams.specs.Watched.{Counts, CountsFaults, watched_faults, watched_inner};
 
 use std::io::{Read, Write};
 
@@ -10,7 +11,8 @@ use std::io::{Read, Write};
 #[derive(Clone, Copy, Debug, PartialEq, Eq)]
 pub struct DeviceFault;
 
-/// A reader or a writer, and a count of its I/O errors. Each call uses the reader or writer once.
+/// A reader or a writer, and a count of its I/O errors, which stops at `u64::MAX`. Each call except
+/// `write_all` uses the reader or writer once.
 #[derive(Drop)]
 pub struct Watched<T> {
     inner: T,
@@ -55,12 +57,10 @@ impl<T> Watched<T> {
     // Counts an I/O error.
     #[inline]
     fn fault(&mut self) -> DeviceFault
-        requires { watched_faults self.old < 2 ^ 64 - 1 }
         ensures inner { watched_inner self.new ≡ watched_inner self.old }
-        ensures faults { watched_faults self.new ≡ watched_faults self.old + 1 }
+        ensures faults { Counts self.old self.new 1 }
     {
-        let Watched { inner: _, faults } = self;
-        *faults += 1;
+        self.faults = self.faults.saturating_add(1);
         DeviceFault
     }
 }
@@ -72,12 +72,7 @@ impl<R: Read> Watched<R> {
     /// # Errors
     ///
     /// If the reader fails; an interrupted call is also an error. The error count goes up by one.
-    ///
-    /// # Precondition
-    ///
-    /// The error count is not `u64::MAX` (check with `faults`).
     pub fn read(&mut self, buf: &mut [u8]) -> Result<usize, DeviceFault>
-        requires { watched_faults self.old < 2 ^ 64 - 1 }
         ensures within { IfOk result (λ n. n ≤ length buf.new) }
         ensures transfers { ReadConsumes (R.remaining (watched_inner self.old))
             (R.remaining (watched_inner self.new)) result buf.new }
@@ -98,12 +93,7 @@ impl<W: Write> Watched<W> {
     ///
     /// If the writer fails or writes none of the bytes; an interrupted call is also an error. The
     /// error count goes up by one.
-    ///
-    /// # Precondition
-    ///
-    /// The error count is not `u64::MAX` (check with `faults`).
     pub fn write(&mut self, buf: &[u8]) -> Result<usize, DeviceFault>
-        requires { watched_faults self.old < 2 ^ 64 - 1 }
         ensures within { IfOk result (λ n. n ≤ length buf.now) }
         ensures advances { 0 < length buf.now → IfOk result (λ n. 0 < n) }
         ensures transfers { WriteAppends (W.contents (watched_inner self.old))
@@ -117,17 +107,32 @@ impl<W: Write> Watched<W> {
         }
     }
 
+    /// Writes all of the bytes, by as many calls of `write` as it takes.
+    ///
+    /// # Errors
+    ///
+    /// If a write fails; the writer is not called again after that. A prefix of the bytes is
+    /// written.
+    pub fn write_all(&mut self, bytes: &[u8]) -> Result<(), DeviceFault>
+        ensures appended { OnOk result (Appends (W.contents (watched_inner self.old))
+            (W.contents (watched_inner self.new)) bytes.now) }
+        ensures err { OnErr result (AppendsPrefix (W.contents (watched_inner self.old))
+            (W.contents (watched_inner self.new)) bytes.now) }
+        ensures faults { CountsFaults self.old self.new result }
+    {
+        let mut written = 0;
+        while written < bytes.len() {
+            written += self.write(&bytes[written..])?;
+        }
+        Ok(())
+    }
+
     /// Flushes once.
     ///
     /// # Errors
     ///
     /// If the writer fails; an interrupted call is also an error. The error count goes up by one.
-    ///
-    /// # Precondition
-    ///
-    /// The error count is not `u64::MAX` (check with `faults`).
     pub fn flush(&mut self) -> Result<(), DeviceFault>
-        requires { watched_faults self.old < 2 ^ 64 - 1 }
         ensures transfers { Keeps (W.contents (watched_inner self.old))
             (W.contents (watched_inner self.new)) }
         ensures faults { CountsFaults self.old self.new result }

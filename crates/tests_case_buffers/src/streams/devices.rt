@@ -68,9 +68,6 @@ pub fn write<E: Utf16Order>(
     let pieces = pieces::<E>(alloc, values)?;
     let mut writer = Watched::new(Taker::new(alloc, manner(&how.writes, how.writes.odd_at)));
     for piece in &pieces {
-        if writer.faults() == u64::MAX {
-            return Err(Trouble::Condition);
-        }
         moved(answer, writer.write(piece));
     }
     let faults = writer.faults();
