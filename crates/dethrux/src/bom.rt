@@ -5,6 +5,7 @@ ghost use Rattle.dethrux.specs.Numbers.{is_big};
 
 use crate::byte_order::{BIG_ENDIAN, LITTLE_ENDIAN, is_big_endian};
 use crate::results::Bom;
+use utf16_units::bom_of;
 
 const ABSENT: u32 = 0;
 
@@ -30,18 +31,13 @@ pub extern "C" fn dethrux_detect_bom(default_order: u32, bytes: &[u8]) -> Bom
     if bytes.len() < 2 {
         return without_bom(default_order, UNDECIDED);
     }
-    match (bytes[0], bytes[1]) {
-        (0xFF, 0xFE) => Bom {
+    match bom_of([bytes[0], bytes[1]]) {
+        Some(is_big) => Bom {
             len: 2,
-            byte_order: LITTLE_ENDIAN,
+            byte_order: if is_big { BIG_ENDIAN } else { LITTLE_ENDIAN },
             status: PRESENT,
         },
-        (0xFE, 0xFF) => Bom {
-            len: 2,
-            byte_order: BIG_ENDIAN,
-            status: PRESENT,
-        },
-        _ => without_bom(default_order, ABSENT),
+        None => without_bom(default_order, ABSENT),
     }
 }
 

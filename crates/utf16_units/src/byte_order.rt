@@ -1,6 +1,6 @@
 //! The two byte orders of a code unit.
 
-ghost use Rattle.std.specs.Prelude.{◌≡◌, Bool, true, false, slice_index};
+ghost use Rattle.std.specs.Prelude.{◌≡◌, ◌↔◌, ◌∷◌, [], Bool, Some, true, false, slice_index};
 ghost use Rattle.utf16_units.specs.Unit.{unit_bytes, unit_of};
 
 use byteorder::ByteOrder;
@@ -61,5 +61,24 @@ impl Utf16Order for LittleEndian {
         let mut two = [0; 2];
         LittleEndian::write_u16(&mut two, unit);
         two
+    }
+}
+
+/// Returns the byte order that a byte order mark (BOM) at the start of a stream gives: `Some(true)`,
+/// big endian, for `FE FF`, `Some(false)`, little endian, for `FF FE`, and `None` for any other two
+/// bytes.
+///
+/// # Source
+///
+/// Unicode, section 23.8: byte order mark.
+#[inline]
+pub fn bom_of(first_two: [u8; 2]) -> Option<bool>
+    ensures big { (result ≡ Some true) ↔ (first_two ≡ 0xFE ∷ 0xFF ∷ []) }
+    ensures little { (result ≡ Some false) ↔ (first_two ≡ 0xFF ∷ 0xFE ∷ []) }
+{
+    match first_two {
+        [0xFE, 0xFF] => Some(true),
+        [0xFF, 0xFE] => Some(false),
+        _ => None,
     }
 }

@@ -20,7 +20,7 @@ pub mod text;
 mod unit;
 mod validate;
 
-pub use crate::byte_order::{BE, BigEndian, LE, LittleEndian, Utf16Order};
+pub use crate::byte_order::{BE, BigEndian, LE, LittleEndian, Utf16Order, bom_of};
 pub use crate::char::Utf16CharExt;
 pub use crate::error::{Detail, Utf16Error};
 pub use crate::moved::Moved;
