@@ -1,13 +1,12 @@
--- Whether a part is empty, from whether no bytes begin with it.
-use Rattle.std.proofs.Common.{◌≡◌, ℕ, Bool, List, [], ◌∷◌, ◌++◌, length, refl, sym, ap, ◌∙◌, arith, length-append}
-use Rattle.utf16_units.specs.Encoding.{encode}
+-- Whether a part is empty, from the length of its encoding.
+use Rattle.std.proofs.Common.{◌≡◌, ℕ, List, [], ◌∷◌, ap, ◌∙◌, arith, refl}
+use Rattle.utf16_units.specs.Encoding.{size}
 use Rattle.utf16_units.proofs.BoundaryLemmas.{char_size-pos}
-use Rattle.utf16_units.proofs.EncodingLemmas.{encode-nil, length-encode, size-cons}
+use Rattle.utf16_units.proofs.EncodingLemmas.{size-cons, size-nil}
 
-pub part-empty : (big : Bool) (part rest : List ℕ) → [] ≡ encode big part ++ rest → part ≡ []
-part-empty big [] rest e = refl
-part-empty big (c ∷ part) rest e =
-    absurd (omega (arith, ap length e, length-append (encode big (c ∷ part)) rest, length-encode big (c ∷ part), size-cons c part, char_size-pos c))
+pub part-empty : (part : List ℕ) → size part ≡ 0 → part ≡ []
+part-empty [] none = refl
+part-empty (c ∷ part) none = absurd (omega (arith, none, size-cons c part, char_size-pos c))
 
-pub begun-empty : (big : Bool) (part : List ℕ) → part ≡ [] → (rest : List ℕ) × ([] ≡ encode big part ++ rest)
-begun-empty big part none = ([], ap (λ t. t ++ []) (sym (ap (encode big) none ∙ encode-nil big)))
+pub size-empty : (part : List ℕ) → part ≡ [] → size part ≡ 0
+size-empty part none = ap size none ∙ size-nil

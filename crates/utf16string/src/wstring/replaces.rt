@@ -80,7 +80,7 @@ fn push_replaced<E: Utf16Order, P: Pattern<E> + Copy, A: Allocator>(
     ensures { OnOk result (wstring_text made.new ≡ push_text (wstring_text made.old)
         (replaced_first count (P.part from) (wstr_text to.entry) (wstr_text text.entry))) }
 {
-    if from.prefix_len(&[]).is_some() {
+    if from.encoded_len() == 0 {
         push_between(made, text, to, count)
     } else {
         push_around(made, text, from, to, count)
@@ -144,6 +144,6 @@ fn split_around<'a, E: Utf16Order, P: Pattern<E> + Copy>(
 {
     let at = text.find(pattern)?;
     let (before, matched) = text.split_at(at);
-    let after = matched.strip_prefix(pattern).unwrap();
+    let (_, after) = matched.split_at(pattern.encoded_len());
     Some((before, after))
 }

@@ -1,7 +1,7 @@
-use Rattle.std.proofs.Common.{◌≡◌, ◌∙◌, ◌+◌, append_assoc, ap₂, sym, Some, ◌++◌}
-use Rattle.std.proofs.lemmas.List.{append_cancel_left}
+use Rattle.std.proofs.Common.{◌≡◌, ◌∙◌, ◌+◌, append_assoc, ap, ap₂, sym, Some, ◌++◌}
 use Rattle.utf16_units.specs.Boundary.{text_from, text_to}
 use Rattle.utf16_units.specs.Encoding.{size}
+use Rattle.utf16_units.proofs.BoundaryLemmas.{text_from-at}
 use Rattle.utf16_str.specs.WStr.{wstr_text}
 use Rattle.utf16string.proofs.Matches.{absent_match, found_match, from_match}
 use Rattle.utf16string.proofs.wstring.replaces.split_around.Given.{Over}
@@ -27,14 +27,16 @@ returns-in_err-at g c = rw c.from_residual.ensures (sym (absent_match (wstr_text
 pub split_at-requires : goal.split_at-requires
 split_at-requires g c = c.in_ok-at.ensures.first.0.start
 
-pub unwrap-after-requires : goal.unwrap-after-requires
-unwrap-after-requires g c = c.strip_prefix.ensures.some.1 (_, on g (goal.at.unwrap-after-requires g c).After-split_at)
+pub split_at-requires-2 : goal.split_at-requires-2
+split_at-requires-2 g c =
+    let at = (goal.at.split_at-requires-2 g c).After-split_at in
+    record { front = g.P.Pattern.part c.args.pattern; back = _; split = sym (on g at); offset = sym c.encoded_len.ensures }
 
 pub returns : goal.returns
 returns g c =
     let at = (goal.at.returns g c).After-split_at in
     let part = g.P.Pattern.part c.args.pattern in
-    let after = rw c.unwrap-after.ensures at c.strip_prefix.ensures.text in
-    let same = append_cancel_left part (wstr_text c.unwrap-after.result) (text_from (wstr_text c.args.text) (c.in_ok-at.at + size part)) (sym after ∙ on g at) in
+    let rest = text_from (wstr_text c.args.text) (c.in_ok-at.at + size part) in
+    let same = c.split_at-2.ensures.back ∙ ap (λ t. text_from t c.encoded_len.result) (on g at) ∙ text_from-at part rest c.encoded_len.result (sym c.encoded_len.ensures) in
     ap₂ (λ x y. Some (x, y)) c.split_at.ensures.front same
     ∙ sym (found_match (wstr_text c.args.text) part c.in_ok-at.at c.in_ok-at.ensures.first (around g at))
