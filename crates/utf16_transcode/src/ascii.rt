@@ -18,7 +18,7 @@ use utf16_units::{Moved, Utf16Order, first_char_len};
 // Writes blocks of ASCII to the start of a buffer, with U+FFFD for each unpaired surrogate in them,
 // until another character comes. Kept out of line so that its loop has all registers.
 #[inline(never)]
-pub(crate) fn write_ascii_blocks<E: Utf16Order>(raw: &[u8], to: &mut [u8]) -> Moved
+pub(crate) fn write_lossy_ascii_blocks<E: Utf16Order>(raw: &[u8], to: &mut [u8]) -> Moved
     requires bytes { 66 ≤ length raw.now }
     requires space { 35 ≤ length to.old }
     ensures { DecodesTo E.BIG raw.now to.new result.read result.written }
@@ -28,7 +28,7 @@ pub(crate) fn write_ascii_blocks<E: Utf16Order>(raw: &[u8], to: &mut [u8]) -> Mo
     let mut read = 0;
     let mut written = 0;
     while read <= last && written <= most {
-        let Some(block) = write_ascii_block::<E>(&raw[read..], &mut to[written..]) else {
+        let Some(block) = write_lossy_ascii_block::<E>(&raw[read..], &mut to[written..]) else {
             break;
         };
         read += block.read;
@@ -40,14 +40,14 @@ pub(crate) fn write_ascii_blocks<E: Utf16Order>(raw: &[u8], to: &mut [u8]) -> Mo
 // Writes the ASCII at the start of a block to the start of a buffer, and U+FFFD for the unpaired
 // surrogate that follows it; `None` if another character follows.
 #[inline(always)]
-fn write_ascii_block<E: Utf16Order>(raw: &[u8], to: &mut [u8]) -> Option<Moved>
+fn write_lossy_ascii_block<E: Utf16Order>(raw: &[u8], to: &mut [u8]) -> Option<Moved>
     requires bytes { 66 ≤ length raw.now }
     requires space { 35 ≤ length to.old }
     ensures decodes { IfSome result (λ done.
         DecodesTo E.BIG raw.now to.new done.read done.written) }
     ensures advances { IfSome result (λ done. 0 < done.read) }
 {
-    let len = write_ascii::<E>(raw, to);
+    let len = write_ascii_prefix::<E>(raw, to);
     if len == 32 {
         return Some(Moved {
             read: 2 * len,
@@ -66,7 +66,7 @@ fn write_ascii_block<E: Utf16Order>(raw: &[u8], to: &mut [u8]) -> Option<Moved>
 // Writes the ASCII at the start of a block to the start of a buffer, and returns the number of its
 // code units. The bytes after them may be overwritten.
 #[inline(always)]
-fn write_ascii<E: Utf16Order>(raw: &[u8], to: &mut [u8]) -> usize
+fn write_ascii_prefix<E: Utf16Order>(raw: &[u8], to: &mut [u8]) -> usize
     requires bytes { 64 ≤ length raw.now }
     requires space { 32 ≤ length to.old }
     ensures few { result ≤ 32 }
@@ -74,7 +74,7 @@ fn write_ascii<E: Utf16Order>(raw: &[u8], to: &mut [u8]) -> usize
     ensures stop { result < 32 → 0x80 ≤ slice_index (units_of E.BIG (take 64 raw.now)) result }
 {
     let units = units32::<E>(u8x64::from_slice(raw));
-    let bytes = low_bytes(clamped(units));
+    let bytes = narrowed(clamped(units));
     bytes.copy_to_slice(to);
     ascii_len(bytes)
 }
@@ -87,9 +87,9 @@ fn clamped(units: u16x32) -> u16x32
     units.simd_min(u16x32::splat(0xFF))
 }
 
-// The low byte of each unit.
+// The units as bytes.
 #[inline(always)]
-fn low_bytes(units: u16x32) -> u8x32
+fn narrowed(units: u16x32) -> u8x32
     requires { (i : ℕ) → i < length units → slice_index units i ≤ 0xFF }
     ensures { HasLanes 32 result (λ i. slice_index units i) }
 {

@@ -14,7 +14,7 @@ ghost use Rattle.utf16_transcode.specs.Stops.{StopsLossy, StopsLossyWhole};
 ghost use Rattle.utf16_transcode.specs.Wrote.{DecodesTo};
 ghost use Rattle.utf16_transcode.specs.declared.progress.Stop.TheVariants.{NoSpace};
 
-use crate::ascii::write_ascii_blocks;
+use crate::ascii::write_lossy_ascii_blocks;
 use crate::decode::ToUtf8;
 use crate::lossy_direction::LossyDirection;
 use crate::lossy_transcoding::{transcode_lossy, transcode_partial};
@@ -106,7 +106,7 @@ fn write_with_replacements<E: Utf16Order>(raw: &[u8], to: &mut [u8]) -> Moved
     ensures advances { split_items E.BIG raw.now ≢ [] → 0 < result.read }
 {
     if raw.len() >= ASCII_LEN {
-        let ascii = write_ascii_blocks::<E>(raw, to);
+        let ascii = write_lossy_ascii_blocks::<E>(raw, to);
         if ascii.read >= ASCII_LEN {
             return ascii;
         }

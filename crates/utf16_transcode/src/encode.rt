@@ -76,7 +76,7 @@ impl<E: Utf16Order> Direction for FromUtf8<E> {
 
     #[inline(always)]
     fn first_char(rest: &[u8]) -> Result<(char, usize), Option<u8>> {
-        first_char(rest)
+        first_utf8_char(rest)
     }
 
     // Begins with the ASCII at the start, as `write_ascii` does, which is all of an input of ASCII.
@@ -180,7 +180,7 @@ fn write_short_rest<E: Utf16Order>(text: &[u8], to: &mut [u8], from: Moved) -> M
         mut written,
     } = from;
     while read < text.len() {
-        let Ok((c, len)) = first_char(&text[read..]) else {
+        let Ok((c, len)) = first_utf8_char(&text[read..]) else {
             break;
         };
         if to.len() - written < c.encoded_utf16_len() {
@@ -261,7 +261,7 @@ fn can_begin(lead: u8, second: u8) -> bool
 // Returns the first character and its length in bytes, or the `error_len` of what is there instead
 // (Unicode Standard, table 3-7).
 #[inline(always)]
-pub(crate) fn first_char(rest: &[u8]) -> Result<(char, usize), Option<u8>>
+pub(crate) fn first_utf8_char(rest: &[u8]) -> Result<(char, usize), Option<u8>>
     requires { 0 < length rest.now }
     ensures char { IfOk result (λ first. BeginsWith encode_utf8 rest.now first.0 first.1) }
     ensures ill_formed { IfErr result (IsIllFormedUtf8At rest.now) }

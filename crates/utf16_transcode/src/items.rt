@@ -10,7 +10,7 @@ ghost use Rattle.utf16_transcode.specs.FromUtf8.{TranscodesToUtf16};
 ghost use Rattle.utf16_transcode.specs.Utf8Stream.{DecodesUtf8To, FirstItem};
 
 use crate::ascii::ascii_len;
-use crate::encode::{first_char, write_char};
+use crate::encode::{first_utf8_char, write_char};
 use std::simd::prelude::*;
 use utf16_from_utf8::write_ascii_block;
 use utf16_units::{Moved, Utf16Order};
@@ -115,7 +115,7 @@ fn first_item(text: &[u8]) -> (char, usize)
     requires { ITEM_LEN ≤ length text.now }
     ensures { FirstItem text.now result.0 result.1 }
 {
-    match first_char(text) {
+    match first_utf8_char(text) {
         Ok(first) => first,
         Err(Some(len)) => (char::REPLACEMENT_CHARACTER, len as usize),
         // Four bytes never end inside the first character.

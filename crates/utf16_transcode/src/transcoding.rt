@@ -54,7 +54,7 @@ fn transcode_many<D: Direction>(input: &[u8], to: &mut [u8], begun: Moved) -> Pr
         mut written,
     } = begun;
     // Tested first, because an ill-formed sequence often follows another.
-    if let Err(stop) = first_char::<D>(&input[read..]) {
+    if let Err(stop) = first_char_or_stop::<D>(&input[read..]) {
         return Progress {
             read,
             written,
@@ -142,7 +142,7 @@ fn write_validated_tail<D: Direction>(rest: &[u8], to: &mut [u8], at: usize) -> 
     if len <= D::surely_fit(to.len() - at) {
         return write_valid::<D>(&rest[..len], to, at);
     }
-    write_last_bytes::<D>(rest, to, at)
+    write_near_end::<D>(rest, to, at)
 }
 
 // Writes a valid prefix of bytes that surely fit.
@@ -168,7 +168,7 @@ fn write_valid<D: Direction>(rest: &[u8], to: &mut [u8], at: usize) -> Moved
 
 // Writes a valid prefix of bytes that may not all fit. It goes character by character if there is
 // little space, or if an ill-formed sequence is near, since a block would stop there.
-fn write_last_bytes<D: Direction>(rest: &[u8], to: &mut [u8], at: usize) -> Moved
+fn write_near_end<D: Direction>(rest: &[u8], to: &mut [u8], at: usize) -> Moved
     requires some { 0 < length rest.now }
     requires within { at ≤ length to.old }
     ensures { Puts (Gives D.IsValid D.other) rest.now to.old to.new at result.read result.written }
@@ -179,16 +179,16 @@ fn write_last_bytes<D: Direction>(rest: &[u8], to: &mut [u8], at: usize) -> Move
     }
     let mut buf = [0; BLOCK_ROOM];
     if rest.len() < BLOCK_LEN {
-        return write_short_text::<D>(rest, &mut buf, to, at);
+        return write_buffered_text::<D>(rest, &mut buf, to, at);
     }
     if is_near_ill_formed::<D>(rest) {
         return write_chars::<D>(rest, to, at);
     }
-    let block = write_block::<D>(rest, &mut buf, to, at);
+    let block = write_buffered_block::<D>(rest, &mut buf, to, at);
     if block.read > 0 {
         return block;
     }
-    let few = write_short_text::<D>(&rest[block.read..], &mut buf, to, block.written);
+    let few = write_buffered_text::<D>(&rest[block.read..], &mut buf, to, block.written);
     Moved {
         read: block.read + few.read,
         written: few.written,
@@ -210,7 +210,12 @@ fn is_near_ill_formed<D: Direction>(rest: &[u8]) -> bool
 // Writes a valid prefix through `buf`, and validates it at the same time: a block, or two blocks if
 // more space than a block takes is left. A block of UTF-16 needs the code unit after it.
 #[inline(always)]
-fn write_block<D: Direction>(rest: &[u8], buf: &mut [u8], to: &mut [u8], at: usize) -> Moved
+fn write_buffered_block<D: Direction>(
+    rest: &[u8],
+    buf: &mut [u8],
+    to: &mut [u8],
+    at: usize,
+) -> Moved
     requires { at ≤ length to.old }
     ensures { Puts (Gives D.IsValid D.other) rest.now to.old to.new at result.read result.written }
 {
@@ -224,7 +229,7 @@ fn write_block<D: Direction>(rest: &[u8], buf: &mut [u8], to: &mut [u8], at: usi
 }
 
 // Writes a valid prefix of a few bytes through `buf`, and validates it first.
-fn write_short_text<D: Direction>(rest: &[u8], buf: &mut [u8], to: &mut [u8], at: usize) -> Moved
+fn write_buffered_text<D: Direction>(rest: &[u8], buf: &mut [u8], to: &mut [u8], at: usize) -> Moved
     requires space { BLOCK_ROOM ≤ length buf.old }
     requires within { at ≤ length to.old }
     ensures { Puts (Gives D.IsValid D.other) rest.now to.old to.new at result.read result.written }
@@ -317,7 +322,7 @@ fn write_next_char<D: Direction>(rest: &[u8], to: &mut [u8], at: usize) -> Resul
     ensures unchanged { IfErr result (λ _. to.new ≡ to.old) }
 {
     D::laws();
-    let (c, len) = first_char::<D>(rest)?;
+    let (c, len) = first_char_or_stop::<D>(rest)?;
     match D::write_char(c, to, at) {
         Some(end) => Ok(Moved {
             read: len,
@@ -329,7 +334,7 @@ fn write_next_char<D: Direction>(rest: &[u8], to: &mut [u8], at: usize) -> Resul
 
 // Returns the first character and its length in bytes, or why a call stops before it.
 #[inline(always)]
-fn first_char<D: Direction>(rest: &[u8]) -> Result<(char, usize), Stop>
+fn first_char_or_stop<D: Direction>(rest: &[u8]) -> Result<(char, usize), Stop>
     requires { 0 < length rest.now }
     ensures char { IfOk result (λ first. BeginsWith D.from rest.now first.0 first.1) }
     ensures stop { IfErr result (λ stop. (left : ℕ)

@@ -10,6 +10,7 @@ ghost use Rattle.utf16_units.specs.Split.{lossy_chars, lossy_text, split_items, 
 ghost use Rattle.utf16_transcode.specs.Unpaired.{unpaired};
 
 use crate::decode::valid_up_to;
+use crate::progress::put;
 use crate::replacement::REPLACEMENT_UNIT;
 use utf16_units::laws::are_bytes;
 use utf16_units::{Utf16Order, first_char_len, is_leading_surrogate};
@@ -88,22 +89,10 @@ fn mend<E: Utf16Order>(utf16: &mut [u8]) -> usize
         match first_char_len::<E>(&utf16[at..]) {
             Ok(len) => at += len + valid_up_to::<E>(&utf16[at + len..]),
             Err(_) => {
-                write_unit(utf16, at, replacement);
-                at += 2;
+                at = put(&replacement, utf16, at);
                 count += 1;
             }
         }
     }
     count
-}
-
-// Writes the two bytes of a code unit at `at`.
-#[inline]
-fn write_unit(utf16: &mut [u8], at: usize, unit: [u8; 2])
-    requires { at + 2 ≤ length utf16.old }
-    ensures put { take (at + 2) utf16.new ≡ take at utf16.old ++ unit }
-    ensures rest { drop (at + 2) utf16.new ≡ drop (at + 2) utf16.old }
-{
-    utf16[at] = unit[0];
-    utf16[at + 1] = unit[1];
 }

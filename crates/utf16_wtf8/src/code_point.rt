@@ -11,7 +11,7 @@ use utf16_transcode::put;
 /// # Precondition
 ///
 /// `at` is at most the length of the buffer.
-pub(crate) fn write_unit(unit: u16, to: &mut [u8], at: usize) -> Option<usize>
+pub(crate) fn write_code_point(unit: u16, to: &mut [u8], at: usize) -> Option<usize>
     requires { at ≤ length to.old }
     ensures within { IfSome result (λ end. end ≤ length to.new) }
     ensures bytes { IfSome result (λ end.

@@ -4,7 +4,7 @@
 ghost use Rattle.utf16_wtf8.specs.ToWtf8.{wtf8_parts};
 ghost use Rattle.utf16_wtf8.specs.Wtf8.{generalized_utf8};
 
-use crate::code_point::write_unit;
+use crate::code_point::write_code_point;
 use std::marker::PhantomData;
 use utf16_transcode::{LossyDirection, Moved, ToUtf8};
 use utf16_units::Utf16Order;
@@ -26,7 +26,7 @@ impl<E: Utf16Order> LossyDirection for ToWtf8<E> {
 
     fn write_ill_formed(input: &[u8], _len: u8, to: &mut [u8]) -> Option<Moved> {
         let unit = E::read_unit([input[0], input[1]]);
-        let written = write_unit(unit, to, 0)?;
+        let written = write_code_point(unit, to, 0)?;
         Some(Moved { read: 2, written })
     }
 
@@ -34,6 +34,6 @@ impl<E: Utf16Order> LossyDirection for ToWtf8<E> {
         if tail.len() < 2 {
             return Some(at);
         }
-        write_unit(E::read_unit([tail[0], tail[1]]), to, at)
+        write_code_point(E::read_unit([tail[0], tail[1]]), to, at)
     }
 }

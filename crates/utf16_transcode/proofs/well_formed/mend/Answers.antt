@@ -1,4 +1,4 @@
-use Rattle.std.proofs.Common.{◌++◌, take, arith, ap, ◌∙◌, subst}
+use Rattle.std.proofs.Common.{◌≡◌, ◌+◌, ◌++◌, arith, ap, ◌∙◌, drop, subst, sym, take}
 use Rattle.utf16_units.proofs.FirstChar.{AreBytes-from_All}
 use Rattle.utf16_transcode.proofs.MendLemmas.{Mended, Mended-char, Mended-lone, Mended-none, Mended-text, mended_bytes, mended_count}
 use Rattle.utf16_transcode.proofs.well_formed.mend.Goals as goal
@@ -14,8 +14,12 @@ loop-at-preserved-in-Ok g c =
 
 pub loop-at-preserved : goal.loop-at-preserved
 loop-at-preserved g c =
-    Mended-lone _ _ _ _ _ c.loop-at.invariant _ c.in-Err.field-0 (AreBytes-from_All _ c.are_bytes.ensures) (omega (arith, c.loop-at-test.true, c.loop-at.invariant.long)) c.in-Err.ensures.ill_formed c.write_unit.auto.utf16
-    (c.write_unit.ensures.put ∙ ap (λ b. take c.loop-at.at c.loop-at.utf16 ++ b) c.write_unit-replacement.ensures) c.write_unit.ensures.rest
+    let put = c.put-at in
+    let end : put.result ≡ c.loop-at.at + 2 = omega (arith, put.ensures.written_to) in
+    let bytes = put.ensures.bytes ∙ ap (λ b. take c.loop-at.at c.loop-at.utf16 ++ b) c.write_unit-replacement.ensures in
+    subst (λ at. Mended g.E.Utf16Order.BIG c.args.utf16.now put.new.to at (c.loop-at.count + 1)) (sym end)
+    (Mended-lone _ _ _ _ _ c.loop-at.invariant _ c.in-Err.field-0 (AreBytes-from_All _ c.are_bytes.ensures) (omega (arith, c.loop-at-test.true, c.loop-at.invariant.long)) c.in-Err.ensures.ill_formed put.auto.to
+    (sym (ap (λ at. take at put.new.to) end) ∙ bytes) (subst (λ at. drop at put.new.to ≡ drop at c.loop-at.utf16) end put.ensures.rest))
 
 pub returns-clause-bytes : goal.returns-clause-bytes
 returns-clause-bytes g c = mended_bytes _ _ _ _ _ c.loop-at.invariant (omega arith)

@@ -5,11 +5,11 @@ use Rattle.utf16_wtf8.proofs.direction.ToWtf8LossyDirection.write_ill_formed.Goa
 
 pub returns-in_err-written-clause-none : goal.returns-in_err-written-clause-none
 returns-in_err-written-clause-none g c none =
-    let few = subst (λ unit. length c.write_unit.new.to - 0 < length (generalized_utf8 unit)) c.read_unit-unit.ensures (c.write_unit.ensures.none c.in_err-written.was) in
+    let few = subst (λ unit. length c.write_code_point.new.to - 0 < length (generalized_utf8 unit)) c.read_unit-unit.ensures (c.write_code_point.ensures.none c.in_err-written.was) in
     surrogate_does_not_fit g.E.Utf16Order.BIG c.args.input.now c.args._len (λ k. omega (arith, c.type_inv.input k)) c.requires.some c.requires.ill_formed
-    (length c.write_unit.new.to) (omega (arith, few))
+    (length c.write_code_point.new.to) (omega (arith, few))
 
 pub returns-clause-decodes : goal.returns-clause-decodes
 returns-clause-decodes g c =
     DecodesToWtf8-surrogate g.E.Utf16Order.BIG c.args.input.now c.args._len (λ k. omega (arith, c.type_inv.input k)) c.requires.some c.requires.ill_formed
-    c.write_unit.new.to c.in_ok-written.written c.in_ok-written.ensures.within (c.in_ok-written.ensures.bytes ∙ ap generalized_utf8 c.read_unit-unit.ensures)
+    c.write_code_point.new.to c.in_ok-written.written c.in_ok-written.ensures.within (c.in_ok-written.ensures.bytes ∙ ap generalized_utf8 c.read_unit-unit.ensures)

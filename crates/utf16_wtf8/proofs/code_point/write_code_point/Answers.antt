@@ -1,6 +1,6 @@
 use Rattle.std.proofs.Common.{◌≡◌, ◌-◌, ◌<◌, ◌++◌, IfSome, length, take, sym, subst, arith}
 use Rattle.utf16_units.proofs.Utf8Lemmas.{three_bytes, two_bytes}
-use Rattle.utf16_wtf8.proofs.code_point.write_unit.Goals as goal
+use Rattle.utf16_wtf8.proofs.code_point.write_code_point.Goals as goal
 
 pub returns-then-unit-lt2048-clause-bytes : goal.returns-then-unit-lt2048-clause-bytes
 returns-then-unit-lt2048-clause-bytes c =

@@ -1,7 +1,7 @@
 use Rattle.std.proofs.Common.{sym, subst, ◌∙◌, arith}
 use Rattle.utf16_transcode.specs.FromUtf8.{IsIllFormedUtf8At}
 use Rattle.utf16_transcode.proofs.NoCharLemmas.{cut_after_three, cut_after_two, no_fourth_at, no_third_at, not_begun_at, one_byte_is}
-use Rattle.utf16_transcode.proofs.encode.first_char.Goals as goal
+use Rattle.utf16_transcode.proofs.encode.first_utf8_char.Goals as goal
 
 pub returns-then-rest-lt2-clause-ill_formed : goal.returns-then-rest-lt2-clause-ill_formed
 returns-then-rest-lt2-clause-ill_formed c =

@@ -1,6 +1,6 @@
 use Rattle.std.proofs.Common.{◌-◌, length}
 use Rattle.utf16_transcode.specs.Wrote.{DecodesTo}
-use Rattle.utf16_transcode.proofs.ascii.write_ascii_blocks.Given as goal
+use Rattle.utf16_transcode.proofs.ascii.write_lossy_ascii_blocks.Given as goal
 
 -- what was read so far is decoded and written
 abbrev pub invariant-loop-read : goal.invariant-loop-read

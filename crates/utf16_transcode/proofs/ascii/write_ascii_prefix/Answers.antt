@@ -4,7 +4,7 @@ use Rattle.std.specs.Prelude.{min, take}
 use Rattle.utf16_units.specs.Encoding.{units_of}
 use Rattle.utf16_units.specs.Lanes.{HasLanes}
 use Rattle.utf16_transcode.proofs.AsciiLemmas.{ascii_is_text, ascii_written}
-use Rattle.utf16_transcode.proofs.ascii.write_ascii.Goals as goal
+use Rattle.utf16_transcode.proofs.ascii.write_ascii_prefix.Goals as goal
 
 pub returns-clause-text : goal.returns-clause-text
 returns-clause-text g c =
@@ -12,7 +12,7 @@ returns-clause-text g c =
     let raw = c.args.raw.now in
     let units = c.units32-units.ensures in
     let n = c.ascii_len.result in
-    let bytes = c.low_bytes-bytes in
+    let bytes = c.narrowed-bytes in
     let long = subst (λ us. length us ≡ 32) units.units units.len in
     let clamped : HasLanes 32 bytes.result (λ i. min (slice_index (units_of big (take 64 raw)) i) 0xFF) = record {
       len = bytes.ensures.len;
@@ -28,5 +28,5 @@ returns-clause-text g c =
 pub returns-clause-stop : goal.returns-clause-stop
 returns-clause-stop g c within =
     let n = c.ascii_len.result in
-    let lane = c.low_bytes-bytes.ensures.lanes n within ∙ c.clamped.ensures.lanes n within in
+    let lane = c.narrowed-bytes.ensures.lanes n within ∙ c.clamped.ensures.lanes n within in
     subst (λ units. 0x80 ≤ slice_index units n) c.units32-units.ensures.units (omega (arith, c.ascii_len.ensures.stop within, lane))

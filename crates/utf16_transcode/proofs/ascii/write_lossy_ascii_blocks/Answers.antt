@@ -2,7 +2,7 @@ use Rattle.std.proofs.Common.{[], append-nil, rules, ◌∙◌}
 use Rattle.std.proofs.lemmas.List.{take_rest}
 use Rattle.utf16_transcode.proofs.StreamSteps.{DecodesTo-window}
 use Rattle.utf16_transcode.proofs.ToUtf8Parts.{utf16_chunks}
-use Rattle.utf16_transcode.proofs.ascii.write_ascii_blocks.Goals as goal
+use Rattle.utf16_transcode.proofs.ascii.write_lossy_ascii_blocks.Goals as goal
 
 pub loop-read-preserved : goal.loop-read-preserved
 loop-read-preserved g c =
