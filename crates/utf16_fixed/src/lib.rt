@@ -1,8 +1,8 @@
-//! Conversion between UTF-16 in either byte order and the encodings that have one code unit for each
-//! character, into buffers that you own, without allocation: UTF-32 in the machine's byte order, up
-//! to the first ill-formed sequence or lossy with U+FFFD for each, and Latin-1 (ISO 8859-1), whose
-//! bytes are the characters U+0000 to U+00FF. Also the length of each lossy result, a validator of
-//! UTF-32, and what kind of text bytes are.
+//! Conversion between UTF-16 in either byte order and the encodings that have one code unit for
+//! each character, into buffers that you own, without allocation: UTF-32 in the machine's byte
+//! order, up to the first ill-formed sequence or lossy with U+FFFD for each, and Latin-1 (ISO
+//! 8859-1), whose bytes are the characters U+0000 to U+00FF. Also the length of each lossy result,
+//! a validator of UTF-32, and what kind of text bytes are.
 //!
 //! A `Progress` counts units of either side: bytes of UTF-16, and code units of UTF-32.
 #![tactic(auto)]

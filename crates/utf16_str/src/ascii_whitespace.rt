@@ -69,9 +69,11 @@ impl<'a, E: Utf16Order> WStr<'a, E> {
     /// `str::trim_ascii_start`.
     #[inline]
     pub fn trim_ascii_start(self) -> Self
-        ensures text { IsTrimmedStartWith SaysIsAsciiWhitespace (wstr_text self.entry) (wstr_text result) }
+        ensures text { IsTrimmedStartWith SaysIsAsciiWhitespace (wstr_text self.entry)
+            (wstr_text result) }
         ensures bytes { wstr_bytes result
-            ≡ drop (length (wstr_bytes self.entry) - length (wstr_bytes result)) (wstr_bytes self.entry) }
+            ≡ drop (length (wstr_bytes self.entry) - length (wstr_bytes result))
+            (wstr_bytes self.entry) }
     {
         self.trim_start_by(&is_space)
     }
@@ -87,8 +89,10 @@ impl<'a, E: Utf16Order> WStr<'a, E> {
     /// `str::trim_ascii_end`.
     #[inline]
     pub fn trim_ascii_end(self) -> Self
-        ensures text { IsTrimmedEndWith SaysIsAsciiWhitespace (wstr_text self.entry) (wstr_text result) }
-        ensures bytes { wstr_bytes result ≡ take (length (wstr_bytes result)) (wstr_bytes self.entry) }
+        ensures text { IsTrimmedEndWith SaysIsAsciiWhitespace (wstr_text self.entry)
+            (wstr_text result) }
+        ensures bytes { wstr_bytes result
+            ≡ take (length (wstr_bytes result)) (wstr_bytes self.entry) }
     {
         self.trim_end_by(&is_space)
     }
@@ -104,9 +108,10 @@ impl<'a, E: Utf16Order> WStr<'a, E> {
     /// `str::trim_ascii`.
     #[inline]
     pub fn trim_ascii(self) -> Self
-        ensures text { IsTrimmedWith SaysIsAsciiWhitespace (wstr_text self.entry) (wstr_text result) }
-        ensures bytes { LiesAfterTrim SaysIsAsciiWhitespace (wstr_text self.entry) (wstr_bytes self.entry)
-            (wstr_bytes result) }
+        ensures text { IsTrimmedWith SaysIsAsciiWhitespace (wstr_text self.entry)
+            (wstr_text result) }
+        ensures bytes { LiesAfterTrim SaysIsAsciiWhitespace (wstr_text self.entry)
+            (wstr_bytes self.entry) (wstr_bytes result) }
     {
         self.trim_by(&is_space)
     }

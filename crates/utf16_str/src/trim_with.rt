@@ -26,9 +26,11 @@ impl<'a, E: Utf16Order> WStr<'a, E> {
     #[inline]
     pub fn trim_start_with<F: Fn(char) -> bool>(self, predicate: F) -> Self
         requires { F.IsAlwaysCallable predicate }
-        ensures text { IsTrimmedStartWith (F.post predicate) (wstr_text self.entry) (wstr_text result) }
+        ensures text { IsTrimmedStartWith (F.post predicate) (wstr_text self.entry)
+            (wstr_text result) }
         ensures bytes { wstr_bytes result
-            ≡ drop (length (wstr_bytes self.entry) - length (wstr_bytes result)) (wstr_bytes self.entry) }
+            ≡ drop (length (wstr_bytes self.entry) - length (wstr_bytes result))
+            (wstr_bytes self.entry) }
     {
         self.trim_start_by(&predicate)
     }
@@ -51,8 +53,10 @@ impl<'a, E: Utf16Order> WStr<'a, E> {
     #[inline]
     pub fn trim_end_with<F: Fn(char) -> bool>(self, predicate: F) -> Self
         requires { F.IsAlwaysCallable predicate }
-        ensures text { IsTrimmedEndWith (F.post predicate) (wstr_text self.entry) (wstr_text result) }
-        ensures bytes { wstr_bytes result ≡ take (length (wstr_bytes result)) (wstr_bytes self.entry) }
+        ensures text { IsTrimmedEndWith (F.post predicate) (wstr_text self.entry)
+            (wstr_text result) }
+        ensures bytes { wstr_bytes result
+            ≡ take (length (wstr_bytes result)) (wstr_bytes self.entry) }
     {
         self.trim_end_by(&predicate)
     }
@@ -76,8 +80,8 @@ impl<'a, E: Utf16Order> WStr<'a, E> {
     pub fn trim_with<F: Fn(char) -> bool>(self, predicate: F) -> Self
         requires { F.IsAlwaysCallable predicate }
         ensures text { IsTrimmedWith (F.post predicate) (wstr_text self.entry) (wstr_text result) }
-        ensures bytes { LiesAfterTrim (F.post predicate) (wstr_text self.entry) (wstr_bytes self.entry)
-            (wstr_bytes result) }
+        ensures bytes { LiesAfterTrim (F.post predicate) (wstr_text self.entry)
+            (wstr_bytes self.entry) (wstr_bytes result) }
     {
         self.trim_by(&predicate)
     }

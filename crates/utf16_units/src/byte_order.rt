@@ -64,9 +64,9 @@ impl Utf16Order for LittleEndian {
     }
 }
 
-/// Returns the byte order that a byte order mark (BOM) at the start of a stream gives: `Some(true)`,
-/// big endian, for `FE FF`, `Some(false)`, little endian, for `FF FE`, and `None` for any other two
-/// bytes.
+/// Returns the byte order that a byte order mark (BOM) at the start of a stream gives:
+/// `Some(true)`, big endian, for `FE FF`, `Some(false)`, little endian, for `FF FE`, and `None` for
+/// any other two bytes.
 ///
 /// # Source
 ///

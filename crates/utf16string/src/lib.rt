@@ -1,8 +1,8 @@
 //! UTF-16 strings in either byte order: `WStr` and `WString` are to UTF-16 bytes what `str` and
 //! `String` are to UTF-8.
 //!
-//! This crate holds the owned string. It re-exports the views of `utf16_str` and the byte orders, so
-//! that you need to name only this crate.
+//! This crate holds the owned string. It re-exports the views of `utf16_str` and the byte orders,
+//! so that you need to name only this crate.
 #![tactic(auto)]
 
 mod retain;
