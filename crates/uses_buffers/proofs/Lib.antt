@@ -16,4 +16,3 @@ mod Utf8Joined
 mod BlockLaw
 mod CallLemmas
 mod StdLemmas
-mod StrictLemmas

@@ -115,10 +115,6 @@ pub fn partial_through<D: LossyDirection, A: Allocator>(
 
 /// A direction that finds an error again after the text before it is taken away.
 pub trait StrictDirection: Direction {
-    /// States that a character takes at most four bytes, and does nothing.
-    fn short_law()
-        ensures { (c : ℕ) → length (Self.into c) ≤ 4 };
-
     /// States what the proof of `strict_through` needs, and does nothing: what follows the longest
     /// valid prefix is an ill-formed sequence, or an incomplete character, where it begins.
     fn strict_laws()
@@ -127,14 +123,10 @@ pub trait StrictDirection: Direction {
 }
 
 impl<E: Utf16Order> StrictDirection for ToUtf8<E> {
-    fn short_law() {}
-
     fn strict_laws() {}
 }
 
 impl<E: Utf16Order> StrictDirection for FromUtf8<E> {
-    fn short_law() {}
-
     fn strict_laws() {}
 }
 
@@ -158,7 +150,6 @@ pub fn strict_through<D: StrictDirection, A: Allocator>(
         (vec_items done.0) done.1 done.2) }
 {
     D::laws();
-    D::short_law();
     D::strict_laws();
     let mut all = Vec::new(alloc);
     let mut at = 0;

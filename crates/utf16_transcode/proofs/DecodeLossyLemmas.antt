@@ -1,9 +1,11 @@
 -- Lossy decoding: a text that was written, and U+FFFD for the ill-formed sequence that follows it.
-use Rattle.std.proofs.Common.{◌≡◌, ◌≢◌, ℕ, ◌+◌, ◌*◌, ◌<◌, ◌≤◌, Bool, List, [], ◌∷◌, ◌++◌, Option, None, Some, length, map, take, drop, encode_utf8_all, refl, sym, ap, ap₂, ◌∙◌, subst, arith, append-nil, length-append, length-drop, take-add, take-append-drop, take_at, ⊎_elim}
+use Rattle.std.proofs.Common.{◌≡◌, ◌≢◌, ℕ, ◌+◌, ◌*◌, ◌<◌, ◌≤◌, Bool, List, [], ◌∷◌, ◌++◌, Option, None, Some, length, map, take, drop, encode_utf8_all, refl, sym, ap, ap₂, ◌∙◌, subst, arith, append-nil, length-append, length-drop, take-add, take-append-drop, take_all, take_at, ⊎_elim}
+use Rattle.std.proofs.lemmas.Bool.{cases_lt}
 use Rattle.std.proofs.lemmas.List.{append_cancel_left, drop_all}
 use Rattle.std.proofs.lemmas.List.Concat.{flat_map-append}
 use Rattle.std.proofs.lemmas.List.Elements.{All-cons, All-nil}
 use Rattle.std.specs.Char.{IsScalar, encode_utf8}
+use Rattle.std.specs.Option.{ForSome}
 use Rattle.utf16_units.specs.Encoding.{Encodes, IsUtf16, char_bytes, char_size, text_of}
 use Rattle.utf16_units.specs.IllFormed.{BeginsWithNoChar, IsErrorLen, IsIllFormedAt, IsIncomplete}
 use Rattle.utf16_units.specs.Split.{Item, whole_lossy_chars, good, lossy_text, lossy_chars, split_items, split_tail}
@@ -73,32 +75,44 @@ stops_lossy big raw n left NoSpace no_fault here = record {
 char_long : (c : ℕ) → 2 ≤ char_size c
 char_long c = ⊎_elim (λ (two : char_size c ≡ 2). omega (arith, two)) (λ (four : char_size c ≡ 4). omega (arith, four)) (char_size_cases c)
 
+two_long : (big : Bool) (rest : List ℕ) (len : Option ℕ) → IsErrorLen big rest len → ForSome len (λ n. n ≡ 2)
+two_long big rest None is = λ x same. absurd (cc)
+two_long big rest (Some n) is = λ x same. (let here = is.0 in cc)
+
+-- what follows the longest well-formed prefix is ill-formed, or incomplete, where it begins
+module _ (big : Bool) (raw : List ℕ) (n : ℕ) (len : Option ℕ) (found : IsIllFormedUtf16 big raw n len) where
+  error_len_there : IsErrorLen big (drop n raw) len
+  error_len_there = subst (λ k. IsErrorLen big (drop k raw) len) (IsUtf16ValidUpTo-unique big raw found.1.valid_up_to n found.1.front found.0) found.1.at_front
+
+  no_char : BeginsWithNoChar big (drop n raw)
+  no_char c rest scalar is =
+      let k = length (char_bytes big c) in
+      let more : take (n + k) raw ≡ take n raw ++ char_bytes big c = take-add n k raw ∙ ap (λ b. take n raw ++ take k b) is ∙ ap (λ b. take n raw ++ b) (take_at (char_bytes big c) rest k refl) in
+      let text = subst (IsUtf16 big) (sym more) (IsUtf16-append big (take n raw) (char_bytes big c) found.0.valid (IsUtf16-char big c scalar)) in
+      let long = ap length is ∙ length-append (char_bytes big c) rest in
+      absurd (omega (arith, found.0.longest (n + k) (omega (arith, long, length-drop n raw, found.0.within)) text, length-char_bytes big c, char_long c))
+
+  pub ill_formed_there : IsIllFormedAt big (drop n raw) len
+  ill_formed_there = (no_char, error_len_there, two_long big (drop n raw) len error_len_there)
+
+  pub some_left : n < length raw
+  some_left = ⊎_elim
+      (λ (some : n < length raw). some)
+      (λ (all : length raw ≤ n). absurd (found.1.ill_formed (subst (IsUtf16 big) (take_all n raw all) found.0.valid)))
+      (cases_lt n (length raw))
+
 -- an ill-formed sequence after a text
 module _ (big : Bool) (raw : List ℕ) (n len : ℕ) (found : IsIllFormedUtf16 big raw n (Some len)) where
   fault : IsErrorLen big (drop n raw) (Some len)
-  fault = subst (λ k. IsErrorLen big (drop k raw) (Some len)) (IsUtf16ValidUpTo-unique big raw found.1.valid_up_to n found.1.front found.0) found.1.at_front
-
-  -- no character begins there
-  pub ill_formed_there : IsIllFormedAt big (drop n raw) (Some len)
-  ill_formed_there = (no_char, fault, λ k is. (let same = fault.0 in cc)) where
-    no_char : BeginsWithNoChar big (drop n raw)
-    no_char c rest scalar is =
-        let k = length (char_bytes big c) in
-        let more : take (n + k) raw ≡ take n raw ++ char_bytes big c = take-add n k raw ∙ ap (λ b. take n raw ++ take k b) is ∙ ap (λ b. take n raw ++ b) (take_at (char_bytes big c) rest k refl) in
-        let text = subst (IsUtf16 big) (sym more) (IsUtf16-append big (take n raw) (char_bytes big c) found.0.valid (IsUtf16-char big c scalar)) in
-        let long = ap length is ∙ length-append (char_bytes big c) rest in
-        absurd (omega (arith, found.0.longest (n + k) (omega (arith, long, length-drop n raw, found.0.within)) text, length-char_bytes big c, char_long c))
+  fault = error_len_there big raw n (Some len) found
 
   -- two bytes are left
   two_left : 2 ≤ length (drop n raw)
-  two_left = two (drop n raw) (λ none. found.1.ill_formed (subst (IsUtf16 big) (sym (append-nil (take n raw)) ∙ ap (λ r. take n raw ++ r) (sym none) ∙ take-append-drop n raw) found.0.valid)) fault.1 where
-    two : (rest : List ℕ) → rest ≢ [] → ¬ (IsIncomplete big rest) → 2 ≤ length rest
-    two [] some whole = absurd (some refl)
+  two_left = two (drop n raw) (omega (arith, some_left big raw n (Some len) found, length-drop n raw)) fault.1 where
+    two : (rest : List ℕ) → 0 < length rest → ¬ (IsIncomplete big rest) → 2 ≤ length rest
+    two [] some whole = absurd (omega (arith, some))
     two (last ∷ []) some whole = absurd (whole tt)
     two (first ∷ second ∷ rest) some whole = omega arith
-
-  pub some_left : n < length raw
-  some_left = omega (arith, two_left, length-drop n raw)
 
   module _ (are : AreBytes raw) where
     abbrev lone : Item

@@ -112,17 +112,20 @@ pub trait Direction {
     fn write_front(rest: &[u8], to: &mut [u8]) -> Moved
         ensures { Wrote (Gives IsValid other) rest.now to.new result.read result.written };
 
-    /// States what the proof of `transcode` needs, and does nothing. Fewer bytes need no more
-    /// space, and a block fits in the buffer on the stack. Two texts together are a text, and so is
-    /// each character. An ill-formed sequence after a text is an ill-formed sequence of the whole
-    /// input.
+    /// States what proofs need, and does nothing. Fewer bytes need no more space, and a block fits
+    /// in the buffer on the stack. A character takes at most four bytes. Two texts together are a
+    /// text, and so is each character. An ill-formed sequence after a text is an ill-formed
+    /// sequence of the whole input, and the reverse.
     fn laws()
         ensures monotone { (m n : ℕ) → m ≤ n → room_for m ≤ room_for n }
         ensures buffered { room_for BLOCK_LEN ≤ BLOCK_ROOM }
+        ensures short { (c : ℕ) → length (into c) ≤ 4 }
         ensures of_nothing { Gives IsValid other [] [] }
         ensures joins { Joins (Gives IsValid other) }
         ensures each_char { (c : ℕ) → IsScalar c → Gives IsValid other (from c) (into c) }
         ensures ill_formed { (input : List ℕ) (read : ℕ) (len : Option ℕ) → read < length input
             → IsValid (take read input) → IsIllFormedAt (drop read input) len
-            → IsIllFormed input read len };
+            → IsIllFormed input read len }
+        ensures there { (input : List ℕ) (read : ℕ) (len : Option ℕ) → IsIllFormed input read len
+            → (read < length input) × IsIllFormedAt (drop read input) len };
 }

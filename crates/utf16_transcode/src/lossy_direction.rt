@@ -69,7 +69,5 @@ pub trait LossyDirection {
         ensures stops { (input : List ℕ) (n left : ℕ) (stop : Stop)
             → ((len : ℕ) → ¬ (stop ≡ IllFormed len))
             → Stops Self.Text.from Self.Text.into Self.Text.IsIllFormed input n left stop
-            → StopsLossyAs parts into (drop n input) left stop }
-        ensures there { (input : List ℕ) (n len : ℕ) → Self.Text.IsIllFormed input n (Some len)
-            → (n < length input) × Self.Text.IsIllFormedAt (drop n input) (Some len) };
+            → StopsLossyAs parts into (drop n input) left stop };
 }

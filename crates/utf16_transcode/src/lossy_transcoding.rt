@@ -6,6 +6,7 @@ ghost use Rattle.utf16_transcode.specs.Stops.{StopsLossyAs, StopsLossyWhole};
 ghost use Rattle.utf16_transcode.specs.Wrote.{DecodesAsTo};
 ghost use Rattle.utf16_transcode.specs.declared.progress.Stop.TheVariants.{NoSpace};
 
+use crate::direction::Direction;
 use crate::lossy_direction::LossyDirection;
 use crate::progress::{Progress, Stop};
 use crate::transcoding::transcode;
@@ -18,6 +19,7 @@ pub fn transcode_partial<D: LossyDirection>(input: &[u8], to: &mut [u8]) -> Prog
     ensures stop { StopsLossyAs D.parts D.into (drop result.read input.now)
         (length to.new - result.written) result.stop }
 {
+    D::Text::laws();
     D::lossy_laws();
     let mut read = 0;
     let mut written = 0;

@@ -23,7 +23,7 @@ loop-all-smaller g c =
     let full : NextDoesNotFit g.D.Direction.from g.D.Direction.into (drop call.result.read rest) (length call.new.to - call.result.written) =
     subst (Stops g.D.Direction.from g.D.Direction.into g.D.Direction.IsIllFormed rest call.result.read (length call.new.to - call.result.written)) c.in-NoSpace.is call.ensures.stop in
     let some = strict_reads g.D.Direction.from g.D.Direction.into g.D.Direction.IsValid g.D.Direction.other g.D.Direction.IsIllFormedAt g.D.Direction.IsIllFormed
-    c.laws.ensures.joins c.laws.ensures.ill_formed c.strict_laws.ensures c.laws.ensures.of_nothing c.short_law.ensures rest call.new.to call.result.read call.result.written 0 room
+    c.laws.ensures.joins c.laws.ensures.ill_formed c.strict_laws.ensures c.laws.ensures.of_nothing c.laws.ensures.short rest call.new.to call.result.read call.result.written 0 room
     call.ensures.wrote full in
     let within = call.ensures.wrote.within in
     let long = ap length (take_rest c.args.input.now c.loop-all.at) ∙ length-drop c.loop-all.at c.args.input.now in

@@ -37,13 +37,13 @@ found g c =
 
 pub write_ill_formed-requires-clause-some : goal.write_ill_formed-requires-clause-some
 write_ill_formed-requires-clause-some g c =
-    let here = (c.lossy_laws.ensures.there _ _ _ (found g (goal.at.write_ill_formed-requires-clause-some g c).In-IllFormed)).0 in
+    let here = (c.laws.ensures.there _ _ _ (found g (goal.at.write_ill_formed-requires-clause-some g c).In-IllFormed)).0 in
     omega (arith, here, length-drop c.transcode-front.result.read (rest_from c.args.input.now c.loop-len.read), ap length (rest_after c.args.input.now c.loop-len.read c.transcode-front.result.read))
 
 pub write_ill_formed-requires-clause-ill_formed : goal.write_ill_formed-requires-clause-ill_formed
 write_ill_formed-requires-clause-ill_formed g c =
     subst (λ b. g.D.Text.Direction.IsIllFormedAt b (Some c.in-IllFormed.len)) (rest_after c.args.input.now c.loop-len.read c.transcode-front.result.read)
-    (c.lossy_laws.ensures.there _ _ _ (found g (goal.at.write_ill_formed-requires-clause-ill_formed g c).In-IllFormed)).1
+    (c.laws.ensures.there _ _ _ (found g (goal.at.write_ill_formed-requires-clause-ill_formed g c).In-IllFormed)).1
 
 pub returns-in_default-write_ill_formed-clause-decodes : goal.returns-in_default-write_ill_formed-clause-decodes
 returns-in_default-write_ill_formed-clause-decodes g c =

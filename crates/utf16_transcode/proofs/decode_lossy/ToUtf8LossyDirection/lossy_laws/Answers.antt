@@ -1,4 +1,4 @@
-use Rattle.utf16_transcode.proofs.DecodeLossyLemmas.{DecodesTo-front, ill_formed_there, some_left, stops_lossy}
+use Rattle.utf16_transcode.proofs.DecodeLossyLemmas.{DecodesTo-front, stops_lossy}
 use Rattle.utf16_transcode.proofs.ToUtf8Parts.{utf16_chunks, utf8_short}
 use Rattle.utf16_transcode.proofs.decode_lossy.ToUtf8LossyDirection.lossy_laws.Goals as goal
 
@@ -13,6 +13,3 @@ returns-clause-text g c input to n w wrote = DecodesTo-front g.E.Utf16Order.BIG 
 
 pub returns-clause-stops : goal.returns-clause-stops
 returns-clause-stops g c = stops_lossy g.E.Utf16Order.BIG
-
-pub returns-clause-there : goal.returns-clause-there
-returns-clause-there g c input n len found = (some_left g.E.Utf16Order.BIG input n len found, ill_formed_there g.E.Utf16Order.BIG input n len found)

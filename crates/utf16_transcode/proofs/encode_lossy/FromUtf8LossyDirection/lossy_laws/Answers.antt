@@ -1,4 +1,3 @@
-use Rattle.utf8_bytes.proofs.ValidLemmas.{none_at}
 use Rattle.utf16_transcode.proofs.DecodesUtf8.{DecodesUtf8To-text, stops_text}
 use Rattle.utf16_transcode.proofs.FeedsUtf8.{utf16_short, utf8_chunks}
 use Rattle.utf16_transcode.proofs.encode_lossy.FromUtf8LossyDirection.lossy_laws.Goals as goal
@@ -14,6 +13,3 @@ returns-clause-text g c = DecodesUtf8To-text g.E.Utf16Order.BIG
 
 pub returns-clause-stops : goal.returns-clause-stops
 returns-clause-stops g c = stops_text g.E.Utf16Order.BIG
-
-pub returns-clause-there : goal.returns-clause-there
-returns-clause-there g c input n len found = (found.0.short, (none_at input n found.0, found.1))

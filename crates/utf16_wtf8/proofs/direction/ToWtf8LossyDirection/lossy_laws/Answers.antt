@@ -1,4 +1,3 @@
-use Rattle.utf16_transcode.proofs.DecodeLossyLemmas.{ill_formed_there, some_left}
 use Rattle.utf16_transcode.proofs.ToUtf8Parts.{utf8_short}
 use Rattle.utf16_wtf8.proofs.ToWtf8Lemmas.{DecodesToWtf8-text, stops_before_tail, wtf8_chunks}
 use Rattle.utf16_wtf8.proofs.direction.ToWtf8LossyDirection.lossy_laws.Goals as goal
@@ -14,6 +13,3 @@ returns-clause-text g c = DecodesToWtf8-text g.E.Utf16Order.BIG
 
 pub returns-clause-stops : goal.returns-clause-stops
 returns-clause-stops g c = stops_before_tail g.E.Utf16Order.BIG
-
-pub returns-clause-there : goal.returns-clause-there
-returns-clause-there g c input n len found = (some_left g.E.Utf16Order.BIG input n len found, ill_formed_there g.E.Utf16Order.BIG input n len found)
