@@ -2,16 +2,9 @@
 //! well-formed UTF-16, and report each ill-formed sequence on standard output.
 #![tactic(auto)]
 
-mod check;
-mod checker;
-mod checking;
-mod order;
-mod scan;
-
-use crate::checking::Checking;
 use std::env;
 use std::process::ExitCode;
-use utf16_program::program;
+use utf16_program::{Program, program};
 use utf16_streams::Watched;
 
 fn main(rt: HostRuntime) -> ExitCode {
@@ -19,5 +12,12 @@ fn main(rt: HostRuntime) -> ExitCode {
     let mut output = Watched::new(rt.stdout());
     let mut errors = Watched::new(rt.stderr());
     let args = env::args(&rt);
-    program::<Checking, _, _, _, _>(rt.alloc(), args, &mut input, &mut output, &mut errors)
+    program(
+        Program::Check,
+        rt.alloc(),
+        args,
+        &mut input,
+        &mut output,
+        &mut errors,
+    )
 }

@@ -2,12 +2,9 @@
 //! output.
 #![tactic(auto)]
 
-mod encoding;
-
-use crate::encoding::Encoding;
 use std::env;
 use std::process::ExitCode;
-use utf16_program::program;
+use utf16_program::{Program, program};
 use utf16_streams::Watched;
 
 fn main(rt: HostRuntime) -> ExitCode {
@@ -15,5 +12,12 @@ fn main(rt: HostRuntime) -> ExitCode {
     let mut output = Watched::new(rt.stdout());
     let mut errors = Watched::new(rt.stderr());
     let args = env::args(&rt);
-    program::<Encoding, _, _, _, _>(rt.alloc(), args, &mut input, &mut output, &mut errors)
+    program(
+        Program::Enc,
+        rt.alloc(),
+        args,
+        &mut input,
+        &mut output,
+        &mut errors,
+    )
 }

@@ -8,7 +8,7 @@ abbrev pub words_of : {X Y E : Type 0} → (X → List Y) → (Y → List ℕ) �
 words_of items bytes (Ok args) = map bytes (drop 1 (items args))
 words_of items bytes (Err error) = []
 
--- the outcome of arguments that name no choice: `Memory` if the error was a lack of memory
+-- the outcome of arguments that name no job: `Memory` if the error was a lack of memory
 abbrev pub IsRefusal : {X E : Type 0} → (E → Type 0) → Result X E → Outcome → Type 0
 IsRefusal lacks_memory (Ok args) ended = ended ≡ Usage
 IsRefusal lacks_memory (Err error) ended =

@@ -1,5 +1,12 @@
 pub mod Arguments
+pub mod Checker
+pub mod Checks
+pub mod Job
+pub mod Message
+pub mod Order
 pub mod Outcome
 pub mod Report
 pub mod Run
+pub mod Scans
 pub mod Status
+pub mod Words

@@ -1,5 +1,5 @@
 -- How a run ends, given the result of its filter.
-use Rattle.std.specs.Prelude.{◌≡◌, Result, Ok, Err}
+use Rattle.std.specs.Prelude.{Result, Ok, Err}
 use Rattle.utf16_program.specs.declared.outcome.Outcome.{Outcome}
 use Rattle.utf16_program.specs.declared.outcome.Outcome.TheVariants.{Done, Long, Memory, Read, Write}
 use Rattle.utf16_streams.specs.declared.filters.FilterFault.{FilterFault}
@@ -12,8 +12,3 @@ outcome (Err fault.Read) = Read
 outcome (Err fault.Write) = Write
 outcome (Err fault.Memory) = Memory
 outcome (Err fault.Long) = Long
-
--- a filter's result gives the outcome, and bytes were read and written as this result says
-abbrev pub EndsBy : Outcome → (Result (Unit {0}) FilterFault → Type 0) → Type 0
-EndsBy ended filters =
-    (answer : Result (Unit {0}) FilterFault) × (ended ≡ outcome answer) × filters answer

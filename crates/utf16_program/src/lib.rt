@@ -1,15 +1,19 @@
-//! What the programs `utf16_cat`, `utf16_enc` and `utf16_check` share: how a run goes and ends, its
-//! message and its exit status.
+//! The programs `utf16_cat`, `utf16_enc` and `utf16_check`: their words, what each word does, how a
+//! run goes and ends, its message and its exit status.
 #![tactic(auto)]
 
 mod arguments;
-mod choice;
+mod check;
+mod checker;
+mod job;
 mod messages;
+mod order;
 mod outcome;
 mod programs;
+mod scan;
+mod words;
 
-pub use arguments::choice_of;
-pub use choice::Choice;
-pub use messages::{report, tell};
-pub use outcome::{Outcome, outcome_of};
-pub use programs::{program, run};
+pub use job::Job;
+pub use outcome::Outcome;
+pub use programs::program;
+pub use words::Program;

@@ -1,6 +1,0 @@
-pub mod ItemLemmas
-pub mod ScanLemmas
-pub mod FollowLemmas
-pub mod WellFormedLemmas
-pub mod CheckLemmas
-pub mod BlockLemmas
