@@ -37,9 +37,16 @@ def line(name, call, values, *answer, how="both"):
 
 
 def parts(*texts, mark=""):
-    """Texts one after another, each so many times."""
-    found = [f"{count}*{mark}{spelled(text)}" for count, text in texts if count and text]
-    return "+".join(found) or ("-" if mark else '""')
+    """Texts one after another, each this many times. Neighbours that stand once are one text."""
+    found = []
+    for count, text in texts:
+        if count == 1 and text and found and found[-1][0] == 1:
+            found[-1] = (1, found[-1][1] + text)
+        elif count and text:
+            found.append((count, text))
+    if len(found) == 1 and found[0][0] == 1:
+        return mark + spelled(found[0][1])
+    return "+".join(f"{count}*{mark}{spelled(text)}" for count, text in found) or ("-" if mark else '""')
 
 
 def utf16(*texts):

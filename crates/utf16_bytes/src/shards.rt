@@ -1,12 +1,13 @@
-//! Parts of a file with about equal lengths.
+//! The shards of a file: parts with about equal lengths.
 
 ghost use Rattle.std.specs.Prelude.{◌≡◌, ◌+◌, ◌*◌, ◌%◌, ◌<◌, ◌≤◌, ◌⊎◌};
 ghost use Rattle.utf16_bytes.specs.Shards.{shard_len, shard_start, units_each};
 
-/// Returns the offset where part `index` of `count` parts begins in a file of `len` bytes: `len`
-/// for `index >= count`, else 0 for part 0. Each part has `len / 2 / count` code units or one more,
-/// and the last part also has the odd byte at the end, if there is one. The offset is even or the
-/// end, but it may be inside a character: move it to a boundary with `floor_char_boundary_around`.
+/// Returns the offset where shard `index` of `count` shards begins in a file of `len` bytes: `len`
+/// for `index >= count`, else 0 for shard 0. Each shard has `len / 2 / count` code units or one
+/// more, and the last shard also has the odd byte at the end, if there is one. The offset is even
+/// or the end, but it may be inside a character: move it to a boundary with
+/// `floor_char_boundary_around`.
 ///
 /// # Complexity
 ///

@@ -13,7 +13,7 @@ use Rattle.utf16_units.specs.Encoding.{encode, size}
 use Rattle.utf16_units.specs.Unit.{unit_bytes}
 use Rattle.utf16_units.proofs.CharLemmas.{char_size_two, one_unit_bytes}
 use Rattle.utf16_units.proofs.EncodingLemmas.{encode-append, encode-cons, encode-nil, length-encode, size-cons, size-nil}
-use Rattle.utf16_from_utf8.specs.Ascii.{IsWritten}
+use Rattle.utf16_from_utf8.specs.Ascii.{IsAsciiWritten}
 use Rattle.utf16_from_utf8.proofs.BlockLemmas.{both_stored, halves}
 
 -- what is after a vector that was stored stays
@@ -80,7 +80,7 @@ pub block-written : (big : Bool) (bytes before old new : List ℕ) (at to : ℕ)
     → ((i : ℕ) → i < 16 → slice_index bytes (at + i) < 0x80)
     → take (2 * at + 32) new ≡ take (2 * at) old ++ encode big (chars (chunk at 16 bytes))
     → drop (2 * at + 32) new ≡ drop (2 * at + 32) old
-    → IsWritten big bytes before old at → IsWritten big bytes before new to
+    → IsAsciiWritten big bytes before old at → IsAsciiWritten big bytes before new to
 block-written big bytes before old new at to is more next wrote rest done = record {
   within = omega (arith, is, more);
   ascii = subst (λ n. IsAscii (take n bytes)) (sym is) all;
@@ -108,7 +108,7 @@ block-written big bytes before old new at to is more next wrote rest done = reco
     end : 2 * to ≡ 2 * at + 32
     end = omega (arith, is)
 
-pub none-written : (big : Bool) (bytes out : List ℕ) → IsWritten big bytes out out 0
+pub none-written : (big : Bool) (bytes out : List ℕ) → IsAsciiWritten big bytes out out 0
 none-written big bytes out = record {
   within = omega arith;
   ascii = IsAscii-nil;
@@ -133,7 +133,7 @@ ascii-less bytes m n less within ascii i = ⊎_elim
     (cases_lt i m)
 
 -- what was written is there up to an earlier place
-less-written : (big : Bool) (bytes before new : List ℕ) (at m : ℕ) → m ≤ at → IsWritten big bytes before new at → IsWritten big bytes new new m
+less-written : (big : Bool) (bytes before new : List ℕ) (at m : ℕ) → m ≤ at → IsAsciiWritten big bytes before new at → IsAsciiWritten big bytes new new m
 less-written big bytes before new at m less done = record {
   within = omega (arith, less, done.within);
   ascii = front-ascii;
@@ -182,7 +182,7 @@ drop-further m n xs ys later same =
     ap (λ k. drop k xs) on ∙ sym (drop-drop (n - m) m xs) ∙ ap (drop (n - m)) same ∙ drop-drop (n - m) m ys ∙ ap (λ k. drop k ys) (sym on)
 
 pub last-written : (big : Bool) (bytes before old new : List ℕ) (at last to : ℕ) → last ≤ at → at ≤ to
-    → (IsWritten big bytes old old last → IsWritten big bytes old new to) → IsWritten big bytes before old at → IsWritten big bytes before new to
+    → (IsAsciiWritten big bytes old old last → IsAsciiWritten big bytes old new to) → IsAsciiWritten big bytes before old at → IsAsciiWritten big bytes before new to
 last-written big bytes before old new at last to less later write done =
     let wrote = write (less-written big bytes before old at last less done) in
     record {

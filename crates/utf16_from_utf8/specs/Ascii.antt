@@ -4,7 +4,7 @@ use Rattle.std.specs.Str.{IsAscii, chars}
 use Rattle.utf16_units.specs.Encoding.{encode}
 
 -- the first n bytes, which are ASCII, were written in UTF-16, and the rest of the buffer stays
-pub record IsWritten (big : Bool) (bytes old new : List ℕ) (n : ℕ) : Type 0 where
+pub record IsAsciiWritten (big : Bool) (bytes old new : List ℕ) (n : ℕ) : Type 0 where
   pub within : n ≤ length bytes
   pub ascii : IsAscii (take n bytes)
   pub wrote : take (2 * n) new ≡ encode big (chars (take n bytes))

@@ -3,7 +3,7 @@
 ghost use Rattle.std.specs.Prelude.{◌≡◌, ◌⊎◌, ◌+◌, ◌*◌, ◌%◌, ◌<◌, ◌≤◌, ◌++◌, ◌↔◌, IsTrue, List, ℕ, drop, length, slice_index, take};
 ghost use Rattle.std.specs.Str.{IsAscii, chars};
 ghost use Rattle.utf16_units.specs.Encoding.{encode};
-ghost use Rattle.utf16_from_utf8.specs.Ascii.{IsWritten};
+ghost use Rattle.utf16_from_utf8.specs.Ascii.{IsAsciiWritten};
 
 use crate::lanes::{halves, masked, set_bits};
 use crate::limits::{are_below, greatest};
@@ -52,7 +52,7 @@ pub fn write_ascii<E: Utf16Order>(bytes: &[u8], out: &mut [u8]) -> usize
 pub(crate) fn write_front<E: Utf16Order>(bytes: &[u8], out: &mut [u8]) -> usize
     requires space { 2 * length bytes.now ≤ length out.old }
     requires some { 16 ≤ length bytes.now }
-    ensures written { IsWritten E.BIG bytes.now out.old out.new result }
+    ensures written { IsAsciiWritten E.BIG bytes.now out.old out.new result }
     ensures whole { IsAscii bytes.now → result ≡ length bytes.now }
     ensures blocks { result < length bytes.now → result % 16 ≡ 0 }
     ensures stop { result + 16 ≤ length bytes.now → ¬ (IsAscii (take (result + 16) bytes.now)) }
@@ -73,8 +73,8 @@ fn write_last_block<E: Utf16Order>(bytes: &[u8], out: &mut [u8], at: usize) -> u
     requires some { 16 ≤ length bytes.now }
     requires few { length bytes.now < at + 16 }
     requires within { at ≤ length bytes.now }
-    ensures written { (before : List ℕ) → IsWritten E.BIG bytes.now before out.old at
-        → IsWritten E.BIG bytes.now before out.new result }
+    ensures written { (before : List ℕ) → IsAsciiWritten E.BIG bytes.now before out.old at
+        → IsAsciiWritten E.BIG bytes.now before out.new result }
     ensures whole { IsAscii bytes.now → result ≡ length bytes.now }
     ensures either { (result ≡ at) ⊎ (result ≡ length bytes.now) }
 {
@@ -89,7 +89,7 @@ fn write_last_block<E: Utf16Order>(bytes: &[u8], out: &mut [u8], at: usize) -> u
 #[inline(always)]
 fn write_wide_blocks<E: Utf16Order>(bytes: &[u8], out: &mut [u8]) -> usize
     requires { 2 * length bytes.now ≤ length out.old }
-    ensures written { IsWritten E.BIG bytes.now out.old out.new result }
+    ensures written { IsAsciiWritten E.BIG bytes.now out.old out.new result }
     ensures blocks { result % 16 ≡ 0 }
 {
     let mut at = 0;
@@ -108,8 +108,8 @@ fn write_narrow_blocks<E: Utf16Order>(bytes: &[u8], out: &mut [u8], from: usize)
     requires space { 2 * length bytes.now ≤ length out.old }
     requires within { from ≤ length bytes.now }
     requires blocks { from % 16 ≡ 0 }
-    ensures written { (before : List ℕ) → IsWritten E.BIG bytes.now before out.old from
-        → IsWritten E.BIG bytes.now before out.new result }
+    ensures written { (before : List ℕ) → IsAsciiWritten E.BIG bytes.now before out.old from
+        → IsAsciiWritten E.BIG bytes.now before out.new result }
     ensures within { result ≤ length bytes.now }
     ensures blocks { result % 16 ≡ 0 }
     ensures stop { result + 16 ≤ length bytes.now → ¬ (IsAscii (take (result + 16) bytes.now)) }
@@ -130,8 +130,8 @@ fn write_wide_block<E: Utf16Order>(bytes: &[u8], out: &mut [u8], at: usize) -> u
     requires space { 2 * length bytes.now ≤ length out.old }
     requires more { at + 64 ≤ length bytes.now }
     requires ascii { (i : ℕ) → i < 64 → slice_index bytes.now (at + i) < 0x80 }
-    ensures written { (before : List ℕ) → IsWritten E.BIG bytes.now before out.old at
-        → IsWritten E.BIG bytes.now before out.new result }
+    ensures written { (before : List ℕ) → IsAsciiWritten E.BIG bytes.now before out.old at
+        → IsAsciiWritten E.BIG bytes.now before out.new result }
     ensures at { result ≡ at + 64 }
 {
     // All are read before the first is written, which may overwrite what was not read yet as far as
@@ -152,8 +152,8 @@ fn write_narrow_block<E: Utf16Order>(bytes: &[u8], out: &mut [u8], at: usize) ->
     requires space { 2 * length bytes.now ≤ length out.old }
     requires more { at + 16 ≤ length bytes.now }
     requires ascii { (i : ℕ) → i < 16 → slice_index bytes.now (at + i) < 0x80 }
-    ensures written { (before : List ℕ) → IsWritten E.BIG bytes.now before out.old at
-        → IsWritten E.BIG bytes.now before out.new result }
+    ensures written { (before : List ℕ) → IsAsciiWritten E.BIG bytes.now before out.old at
+        → IsAsciiWritten E.BIG bytes.now before out.new result }
     ensures at { result ≡ at + 16 }
 {
     write_read_block::<E>(bytes, out, at, u8x16::from_slice(&bytes[at..]))
@@ -166,8 +166,8 @@ fn write_read_block<E: Utf16Order>(bytes: &[u8], out: &mut [u8], at: usize, bloc
     requires more { at + 16 ≤ length bytes.now }
     requires read { block ≡ take 16 (drop at bytes.now) }
     requires ascii { (i : ℕ) → i < 16 → slice_index bytes.now (at + i) < 0x80 }
-    ensures written { (before : List ℕ) → IsWritten E.BIG bytes.now before out.old at
-        → IsWritten E.BIG bytes.now before out.new result }
+    ensures written { (before : List ℕ) → IsAsciiWritten E.BIG bytes.now before out.old at
+        → IsAsciiWritten E.BIG bytes.now before out.new result }
     ensures at { result ≡ at + 16 }
 {
     write_ascii_block::<E>(out, 2 * at, block);

@@ -7,7 +7,7 @@ ghost use Rattle.std.specs.Prelude.{◌≡◌, ◌<◌, ℕ, false, slice_index}
 ghost use Rattle.utf16_units.specs.Lanes.{HasLanes};
 ghost use Rattle.utf16_to_utf8.specs.Lanes.{absence, ending, is_surrogate, low, narrow, outer, surrogate_bits, third, two_bytes, wide};
 
-use crate::lanes::{down, each, larger, left, masked, raised, sum, where_below, where_surrogate};
+use crate::lanes::{down, each, larger, left, masked, sum, up, where_below, where_surrogate};
 use std::simd::prelude::*;
 
 #[inline(always)]
@@ -15,7 +15,7 @@ fn two_bytes<const N: usize>(marks: Simd<u16, N>, bits: Simd<u16, N>) -> Simd<u1
     ensures { HasLanes N result
         (λ i. two_bytes (slice_index marks.entry i) (slice_index bits.entry i)) }
 {
-    sum(sum(down(bits, 6), marks), raised(masked(bits, 0x3F), 8))
+    sum(sum(down(bits, 6), marks), up(masked(bits, 0x3F), 8))
 }
 
 // The payload bits of the two bytes of surrogates, with the tag bits of the first byte above them.
@@ -26,7 +26,7 @@ fn surrogate_bits<const N: usize>(preceding: Simd<u16, N>, units: Simd<u16, N>) 
         (λ i. surrogate_bits (slice_index preceding.entry i) (slice_index units.entry i)) }
 {
     let leading = left(down(sum(units, each(0x2400)), 2), each(0x2F0));
-    let trailing = sum(raised(masked(preceding, 3), 10), sum(units, each(0x4400)));
+    let trailing = sum(up(masked(preceding, 3), 10), sum(units, each(0x4400)));
     larger(leading, trailing)
 }
 
@@ -70,7 +70,7 @@ pub(crate) fn thirds<const N: usize>(units: Simd<u16, N>) -> Simd<u16, N>
 pub(crate) fn outers<const N: usize>(units: Simd<u16, N>) -> Simd<u16, N>
     ensures { HasLanes N result (λ i. outer (slice_index units.entry i)) }
 {
-    sum(raised(units, 8), sum(down(units, 12), each(0xE0)))
+    sum(up(units, 8), sum(down(units, 12), each(0xE0)))
 }
 
 // The last two bytes of units that add two or three. Their payload bits have the tag bits of the

@@ -48,7 +48,7 @@ pub(crate) fn down<const N: usize>(v: Simd<u16, N>, bits: u16) -> Simd<u16, N>
 }
 
 #[inline(always)]
-pub(crate) fn raised<const N: usize>(v: Simd<u16, N>, bits: u16) -> Simd<u16, N>
+pub(crate) fn up<const N: usize>(v: Simd<u16, N>, bits: u16) -> Simd<u16, N>
     requires { bits < 16 }
     ensures { HasLanes N result (λ i. up (slice_index v.entry i) bits) }
 {
