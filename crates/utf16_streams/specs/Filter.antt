@@ -1,6 +1,6 @@
 -- What a filter did to the bytes that remain in its reader and to those that its writer holds, if
 -- these are known.
-use Rattle.std.specs.Prelude.{◌≢◌, ℕ, ◌+◌, ◌-◌, ◌≤◌, ◌^◌, Bool, List, ◌++◌, Option, Some, None, Result, Ok, Err, encode_utf8_all, length, take}
+use Rattle.std.specs.Prelude.{◌≢◌, ℕ, ◌+◌, ◌-◌, ◌≤◌, ◌^◌, Bool, List, ◌++◌, Option, Some, None, Result, Ok, Err, codes, encode_utf8_all, length, take}
 use Rattle.std.specs.Io.{StartsWith}
 use Rattle.std.specs.Io.KnownBytes.{Appends, Consumes, IsAtEnd}
 use Rattle.utf16_units.specs.Split.{whole_lossy_chars, lossy_chars}
@@ -90,6 +90,13 @@ FiltersAs big = FiltersIn (Some big)
 abbrev pub FiltersAuto : Option (List ℕ) → Option (List ℕ)
     → Option (List ℕ) → Option (List ℕ) → Result (Unit {0}) FilterFault → Type 0
 FiltersAuto = FiltersIn None
+
+-- what `Display` writes
+abbrev pub fault_text : FilterFault → List ℕ
+fault_text Read = codes "read failed"
+fault_text Write = codes "write failed"
+fault_text Memory = codes "out of memory"
+fault_text Long = codes "input too long"
 
 -- the number of I/O errors of the reader if a filter returns this result
 abbrev pub read_faults : Result (Unit {0}) FilterFault → ℕ

@@ -12,10 +12,10 @@ use std::alloc::Allocator;
 use std::io::{Read, Write};
 use utf16_units::Utf16Order;
 
-/// Decodes a reader in UTF-8 and writes the text to a writer in UTF-16 in byte order `E`, with
-/// U+FFFD for each maximal subpart of an ill-formed sequence and one for an incomplete end. It
-/// reads chunks of up to 4,096 bytes until a read returns 0, and flushes once at the end. A BOM of
-/// the input, the bytes `EF BB BF`, is a character like any other.
+/// Encodes a reader of UTF-8 to a writer in UTF-16 in byte order `E`, with U+FFFD for each maximal
+/// subpart of an ill-formed sequence and one for an incomplete end. It reads chunks of up to 4,096
+/// bytes until a read returns 0, and flushes once at the end. A BOM of the input, the bytes
+/// `EF BB BF`, is a character like any other.
 ///
 /// # Errors
 ///
@@ -45,10 +45,10 @@ pub fn encode_stream<E: Utf16Order, R: Read, W: Write, A: Allocator>(
     filter_by(alloc, Encoder::<E>::new(false), reader, writer)
 }
 
-/// Decodes a reader in UTF-8 and writes the text to a writer in UTF-16 in byte order `E`, as
-/// `encode_stream` does, with one BOM (byte order mark) first. A BOM at the beginning of the input,
-/// the bytes `EF BB BF`, becomes that BOM. If the input begins with none, the output has a BOM
-/// before the text, even if the text is empty.
+/// Encodes a reader of UTF-8 to a writer in UTF-16 in byte order `E`, as `encode_stream` does, with
+/// one BOM (byte order mark) first. A BOM at the beginning of the input, the bytes `EF BB BF`,
+/// becomes that BOM. If the input begins with none, the output has a BOM before the text, even if
+/// the text is empty.
 ///
 /// # Errors
 ///

@@ -70,7 +70,7 @@ impl<E: Utf16Order> Transcoder for Encoder<E> {
     fn laws(&self) {}
 }
 
-// Decodes the next chunk, writes the text that is now certain to the start of a buffer, and returns
+// Encodes the next chunk: writes the UTF-16 that is now certain to the start of a buffer, and returns
 // its length in bytes.
 fn feed<E: Utf16Order>(stream: &mut Stream, piece: &[u8], to: &mut [u8]) -> usize
     requires undecided { split_tail (stream_pending stream.old)

@@ -1,8 +1,8 @@
 //! Filters from a reader to a writer.
 
-ghost use Rattle.std.specs.Prelude.{◌≡◌, ◌+◌, ◌-◌, ◌*◌, ◌<◌, ◌≤◌, ◌^◌, [], IfOk, OnErr, OnOk, length};
+ghost use Rattle.std.specs.Prelude.{◌≡◌, ◌+◌, ◌-◌, ◌*◌, ◌<◌, ◌≤◌, ◌^◌, [], Some, IfOk, OnErr, OnOk, length};
 ghost use Rattle.std.specs.Io.KnownBytes.{Appends};
-ghost use Rattle.utf16_streams.specs.Filter.{AppendsPrefix, FiltersAs, FiltersAuto, FiltersBy, read_faults, write_faults};
+ghost use Rattle.utf16_streams.specs.Filter.{AppendsPrefix, FiltersAs, FiltersAuto, FiltersBy, fault_text, read_faults, write_faults};
 ghost use Rattle.utf16_streams.specs.Watched.{Counts, CountsFaults, watched_inner};
 
 use crate::any_lossy::AnyLossy;
@@ -10,6 +10,8 @@ use crate::lossy::Lossy;
 use crate::transcoder::Transcoder;
 use crate::watched::{DeviceFault, Watched};
 use std::alloc::{AllocError, Allocator};
+use std::error::Error;
+use std::fmt;
 use std::io::{Read, Write};
 use utf16_transcode::{CHUNK_LEN, FEED_SLACK};
 use utf16_units::Utf16Order;
@@ -36,6 +38,24 @@ pub enum FilterFault {
     /// 2^64 - 1 reads returned bytes. Their text is written, but no U+FFFD for an incomplete end.
     Long,
 }
+
+impl fmt::Display for FilterFault {
+    ghost output = { λ fault. Some (fault_text fault) };
+
+    // Width, fill and precision are ignored.
+    ghost styled_output = { λ fault _. Some (fault_text fault) };
+
+    fn fmt<W: fmt::Write>(&self, f: &mut fmt::Formatter<W>) -> fmt::Result {
+        f.write_str(match self {
+            FilterFault::Read => "read failed",
+            FilterFault::Write => "write failed",
+            FilterFault::Memory => "out of memory",
+            FilterFault::Long => "input too long",
+        })
+    }
+}
+
+impl Error for FilterFault {}
 
 /// Decodes a reader in byte order `E` and writes the text to a writer in UTF-8, with U+FFFD for
 /// each unpaired surrogate and one more for an incomplete end. It reads chunks of up to 4,096 bytes
@@ -137,7 +157,7 @@ pub fn filter_by<T: Transcoder, R: Read, W: Write, A: Allocator>(
 }
 
 // Returns the buffer for the output of a chunk of `count` bytes: `short` if that is long enough,
-// and otherwise `long`, which is allocated the first time.
+// and otherwise `long`, which is allocated the first time, for a chunk of any length.
 fn space_for<'a, A: Allocator>(
     count: usize,
     short: &'a mut [u8; SHORT_OUTPUT],
@@ -150,9 +170,15 @@ fn space_for<'a, A: Allocator>(
     if count < LONG_CHUNK {
         return Ok(short);
     }
+    if long.capacity() == 0 {
+        long.reserve_exact(2 * CHUNK_LEN + FEED_SLACK)?;
+    }
     // `feed_to` requires only two bytes for each byte of the chunk and eight more; it is faster
-    // with the slack that `FEED_SLACK` gives.
-    long.resize(2 * CHUNK_LEN + FEED_SLACK, 0)?;
+    // with the slack that `FEED_SLACK` gives. Bytes that no chunk needs are not cleared.
+    let len = 2 * count + FEED_SLACK;
+    if long.len() < len {
+        long.resize(len, 0)?;
+    }
     Ok(long)
 }
 

@@ -1,15 +1,30 @@
 //! Readers and writers whose I/O errors are counted.
 
-ghost use Rattle.std.specs.Prelude.{◌≡◌, ◌<◌, ◌≤◌, IfOk, OnErr, OnOk, length};
+ghost use Rattle.std.specs.Prelude.{◌≡◌, ◌<◌, ◌≤◌, Some, IfOk, OnErr, OnOk, codes, length};
 ghost use Rattle.std.specs.Io.KnownBytes.{Appends, Keeps, ReadConsumes, WriteAppends};
 ghost use Rattle.utf16_streams.specs.Filter.{AppendsPrefix};
 ghost use Rattle.utf16_streams.specs.Watched.{Counts, CountsFaults, watched_faults, watched_inner};
 
+use std::error::Error;
+use std::fmt;
 use std::io::{Read, Write};
 
 /// An I/O error: a read, a write or a flush that failed.
 #[derive(Clone, Copy, Debug, PartialEq, Eq)]
 pub struct DeviceFault;
+
+impl fmt::Display for DeviceFault {
+    ghost output = { λ _. Some (codes "I/O error of the inner reader or writer") };
+
+    // Width, fill and precision are ignored.
+    ghost styled_output = { λ _ _. Some (codes "I/O error of the inner reader or writer") };
+
+    fn fmt<W: fmt::Write>(&self, f: &mut fmt::Formatter<W>) -> fmt::Result {
+        f.write_str("I/O error of the inner reader or writer")
+    }
+}
+
+impl Error for DeviceFault {}
 
 /// A reader or a writer, and a count of its I/O errors, which stops at `u64::MAX`. Each call except
 /// `write_all` uses the reader or writer once.
