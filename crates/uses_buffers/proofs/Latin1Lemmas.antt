@@ -1,5 +1,5 @@
 -- Calls of the conversions from and to Latin-1, one after another.
-use Rattle.std.proofs.Common.{◌≡◌, ◌≢◌, ℕ, ◌+◌, ◌-◌, ◌*◌, ◌/◌, ◌<◌, ◌≤◌, Bool, true, false, cond, List, [], ◌++◌, None, Some, length, take, drop, refl, sym, ap, ◌∙◌, subst, ⊎_elim, arith, length-drop, take_all}
+use Rattle.std.proofs.Common.{◌≡◌, ℕ, ◌+◌, ◌-◌, ◌*◌, ◌/◌, ◌<◌, ◌≤◌, Bool, true, false, cond, List, [], ◌++◌, None, Some, length, take, drop, sym, ap, ◌∙◌, subst, ⊎_elim, arith, length-drop}
 use Rattle.std.specs.Prelude.{min, nat_le}
 use Rattle.std.proofs.lemmas.Bool.{cases_Bool}
 use Rattle.std.proofs.lemmas.Bool.Decides.{nat_tests}
@@ -12,9 +12,9 @@ use Rattle.utf16_fixed.specs.StopsLatin1.{BeginsWithA, StopsLatin1}
 use Rattle.utf16_fixed.specs.declared.latin1_progress.Latin1Stop.{Latin1Stop}
 use Rattle.utf16_fixed.specs.declared.latin1_progress.Latin1Stop.TheVariants.{Done, IllFormed, Incomplete, NoSpace, NotLatin1}
 use Rattle.utf16_fixed.proofs.TextLemmas.{utf32_empty}
-use Rattle.uses_buffers.specs.FormCalls.{IsCall}
+use Rattle.uses_buffers.specs.FormCalls.{IsCall, Joined}
 use Rattle.uses_buffers.specs.Forms.{StopsFromLatin1, from_latin1, to_latin1}
-use Rattle.uses_buffers.proofs.LoopLemmas.{Joined, both_done, both_given, both_within}
+use Rattle.uses_buffers.proofs.LoopLemmas.{both_done, both_given, both_within}
 use Rattle.uses_buffers.proofs.Utf32Lemmas.{FoundThere, ill_formed_later}
 
 -- ---- to Latin-1
@@ -41,19 +41,8 @@ to_latin1_joined big there input out more at read left room stop first second = 
   why NoSpace here = (here.0, later _ here.1)
   why NotLatin1 here = later _ here
 
-pub to_latin1_short : (big : Bool) (input : List ℕ) (n left : ℕ) → StopsLatin1 big input n left NoSpace → left < 1
-to_latin1_short big input n left here = omega (arith, here.0)
-
 pub to_latin1_nothing : (big : Bool) (input out : List ℕ) → Encodes big out (take 0 input) → out ≡ []
 to_latin1_nothing big input out given = Encodes-unique big out [] [] given (utf32_empty big)
-
--- why a call stopped, if not for lack of space, does not depend on the space
-pub to_latin1_left : (big : Bool) (input : List ℕ) (n left : ℕ) (stop : Latin1Stop) → stop ≢ NoSpace → StopsLatin1 big input n left stop → StopsLatin1 big input n 0 stop
-to_latin1_left big input n left Done other here = here
-to_latin1_left big input n left (IllFormed len) other here = here
-to_latin1_left big input n left Incomplete other here = here
-to_latin1_left big input n left NoSpace other here = absurd (other refl)
-to_latin1_left big input n left NotLatin1 other here = here
 
 -- ---- from Latin-1
 
@@ -68,9 +57,6 @@ from_latin1_joined big input out more at read left room why first second = recor
   later (stop.IllFormed len) here = here
   later stop.Incomplete here = here
   later stop.NoSpace here = (omega (arith, here.0, length-drop at input), here.1)
-
-pub from_latin1_short : (input : List ℕ) (n left : ℕ) → StopsFromLatin1 input n left stop.NoSpace → left < 2
-from_latin1_short input n left here = here.1
 
 pub from_latin1_nothing : (big : Bool) (input out : List ℕ) → Encodes big (take 0 input) out → out ≡ []
 from_latin1_nothing big input out given = sym given.spelled ∙ encode-nil big
@@ -100,12 +86,3 @@ from_latin1_call big latin1 old to read written why long is two because text = (
     stops = subst (λ room. StopsFromLatin1 latin1 read (room - written) why) long (from_latin1_stops latin1 (length old) read written why is two because);
   },
 )
-
-pub from_latin1_end : (big : Bool) (input out : List ℕ) (n left : ℕ) (why : Stop) → why ≢ stop.NoSpace → IsCall (from_latin1 big) input out n left why → Encodes big input out
-from_latin1_end big input out n left why other call =
-    subst (λ b. Encodes big b out) (take_all n input (omega (arith, all why other call.stops))) call.writes where
-      all : (why : Stop) → why ≢ stop.NoSpace → StopsFromLatin1 input n left why → n ≡ length input
-      all stop.Done other here = here
-      all (stop.IllFormed len) other here = absurd here
-      all stop.Incomplete other here = absurd here
-      all stop.NoSpace other here = absurd (other refl)

@@ -6,9 +6,8 @@ use Rattle.std.specs.List.{flat_map}
 use Rattle.utf16_units.specs.Encoding.{IsUtf16, char_bytes, encode}
 use Rattle.utf16_units.specs.IllFormed.{IsIllFormedAt}
 use Rattle.utf16_units.specs.Split.{lossy_text}
-use Rattle.utf16_units.proofs.CharLemmas.{char_size_cases, length-char_bytes}
 use Rattle.utf16_units.proofs.EncodingLemmas.{Encodes-unique, IsUtf16-from_Encodes, encode-nil}
-use Rattle.utf16_transcode.specs.Stops.{IsIllFormedUtf16, Stops, StopsLossyWhole}
+use Rattle.utf16_transcode.specs.Stops.{IsIllFormedUtf16, StopsLossyWhole}
 use Rattle.utf16_transcode.specs.declared.progress.Stop.{Stop}
 use Rattle.utf16_transcode.specs.declared.progress.Stop.TheVariants.{Incomplete, Done, IllFormed, NoSpace}
 use Rattle.utf16_transcode.proofs.ToUtf8Lemmas.{faults_there}
@@ -19,9 +18,9 @@ use Rattle.utf16_fixed.proofs.LossyLemmas.{units_of_text}
 use Rattle.utf16_fixed.proofs.ShowsLemmas.{shown_joins}
 use Rattle.utf16_fixed.proofs.TextLemmas.{utf16_joins, utf32_empty, utf32_joins}
 use Rattle.utf16_fixed.proofs.ValidLemmas.{IsUtf32-next}
-use Rattle.uses_buffers.specs.FormCalls.{IsCall}
+use Rattle.uses_buffers.specs.FormCalls.{IsCall, Joined}
 use Rattle.uses_buffers.specs.Forms.{from_utf32, from_utf32_lossy, to_utf32, to_utf32_lossy}
-use Rattle.uses_buffers.proofs.LoopLemmas.{Joined, both_done, both_given, both_shown, both_within, none_shown}
+use Rattle.uses_buffers.proofs.LoopLemmas.{both_done, both_given, both_shown, both_within, none_shown}
 
 -- ---- ill-formed sequences
 
@@ -48,14 +47,6 @@ utf32_later units at read (Some len) valid here = (
   },
 )
 
--- why a call stopped, if not for lack of space, does not depend on the space
-stops_left : (from into : ℕ → List ℕ) (IsIllFormedOf : List ℕ → ℕ → Option ℕ → Type 0) (input : List ℕ) (n left : ℕ) (stop : Stop) → stop ≢ NoSpace
-    → Stops from into IsIllFormedOf input n left stop → Stops from into IsIllFormedOf input n 0 stop
-stops_left from into IsIllFormedOf input n left Done other here = here
-stops_left from into IsIllFormedOf input n left (IllFormed len) other here = here
-stops_left from into IsIllFormedOf input n left Incomplete other here = here
-stops_left from into IsIllFormedOf input n left NoSpace other here = absurd (other refl)
-
 -- ---- to UTF-32
 
 pub to_utf32_joined : (big : Bool) → FoundThere big → Joined (to_utf32 big)
@@ -75,14 +66,8 @@ to_utf32_joined big there input out more at read left room stop first second = r
   why Incomplete here = ill_formed_later big there input at read None first.within text here
   why NoSpace here = record { char = here.char; more = here.more; scalar = here.scalar; begins = sym (drop-drop read at input) ∙ here.begins; too_long = here.too_long }
 
-pub to_utf32_short : (big : Bool) (input : List ℕ) (n left : ℕ) → StopsToUtf32 big input n left NoSpace → left < 1
-to_utf32_short big input n left here = here.too_long
-
 pub to_utf32_nothing : (big : Bool) (input out : List ℕ) → TranscodesToUtf32 big (take 0 input) out → out ≡ []
 to_utf32_nothing big input out given = Encodes-unique big out [] [] given (utf32_empty big)
-
-pub to_utf32_left : (big : Bool) (input : List ℕ) (n left : ℕ) (stop : Stop) → stop ≢ NoSpace → StopsToUtf32 big input n left stop → StopsToUtf32 big input n 0 stop
-to_utf32_left big input n left stop = stops_left (char_bytes big) utf32_units (IsIllFormedUtf16 big) input n left stop
 
 -- ---- to UTF-32, lossy
 
@@ -92,9 +77,6 @@ to_utf32_lossy_joined big input out more at read left room stop first second = r
   writes = both_shown (lossy_text big) utf32_units input out more at read first.writes second.writes;
   stops = subst (λ r. StopsLossyWhole (lossy_text big) utf32_units r room stop) (drop-drop read at input) second.stops;
 }
-
-pub to_utf32_lossy_short : (big : Bool) (input : List ℕ) (n left : ℕ) → StopsLossyWhole (lossy_text big) utf32_units (drop n input) left NoSpace → left < 1
-to_utf32_lossy_short big input n left here = here.too_long
 
 pub to_utf32_lossy_nothing : (big : Bool) (input out : List ℕ) → flat_map utf32_units (lossy_text big input) ≡ out ++ flat_map utf32_units (lossy_text big (drop 0 input)) → out ≡ []
 to_utf32_lossy_nothing big input out same = none_shown (lossy_text big) utf32_units input out same
@@ -127,14 +109,8 @@ from_utf32_joined big input out more at read left room stop first second = recor
   why Incomplete here = utf32_later input at read None first.writes.scalars here
   why NoSpace here = record { char = here.char; more = here.more; scalar = here.scalar; begins = sym (drop-drop read at input) ∙ here.begins; too_long = here.too_long }
 
-pub from_utf32_short : (big : Bool) (input : List ℕ) (n left : ℕ) → StopsFromUtf32 big input n left NoSpace → left < 4
-from_utf32_short big input n left here = omega (arith, here.too_long, length-char_bytes big here.char, char_size_cases here.char)
-
 pub from_utf32_nothing : (big : Bool) (input out : List ℕ) → TranscodesFromUtf32 big (take 0 input) out → out ≡ []
 from_utf32_nothing big input out given = sym given.spelled ∙ encode-nil big
-
-pub from_utf32_left : (big : Bool) (input : List ℕ) (n left : ℕ) (stop : Stop) → stop ≢ NoSpace → StopsFromUtf32 big input n left stop → StopsFromUtf32 big input n 0 stop
-from_utf32_left big input n left stop = stops_left utf32_units (char_bytes big) IsIllFormedUtf32 input n left stop
 
 -- ---- from UTF-32, lossy
 
@@ -144,9 +120,6 @@ from_utf32_lossy_joined big input out more at read left room stop first second =
   writes = both_given (ShowsInUtf16 big) (shown_joins big) input out more at read first.writes second.writes;
   stops = subst (λ r. StopsLossyWhole lossy_utf32 (char_bytes big) r room stop) (drop-drop read at input) second.stops;
 }
-
-pub from_utf32_lossy_short : (big : Bool) (input : List ℕ) (n left : ℕ) → StopsLossyWhole lossy_utf32 (char_bytes big) (drop n input) left NoSpace → left < 4
-from_utf32_lossy_short big input n left here = omega (arith, here.too_long, length-char_bytes big here.char, char_size_cases here.char)
 
 pub from_utf32_lossy_nothing : (big : Bool) (input out : List ℕ) → ShowsInUtf16 big (take 0 input) out → out ≡ []
 from_utf32_lossy_nothing big input out same = same ∙ encode-nil big

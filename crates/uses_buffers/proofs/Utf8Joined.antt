@@ -1,6 +1,6 @@
 -- The text of the parts of bytes, one after another.
-use Rattle.std.proofs.Common.{◌≡◌, ℕ, ◌+◌, ◌-◌, ◌<◌, ◌≤◌, List, ◌∷◌, ◌++◌, length, take, drop, slice_index, refl, sym, ap, ◌∙◌, subst, arith, append-nil, append_assoc}
-use Rattle.std.proofs.lemmas.List.{drop-take, drop_all, drop_more, take_rest}
+use Rattle.std.proofs.Common.{◌≡◌, ℕ, ◌+◌, ◌<◌, ◌≤◌, List, ◌∷◌, ◌++◌, length, drop, slice_index, refl, sym, ap, ◌∙◌, subst, arith, append-nil, append_assoc}
+use Rattle.std.proofs.lemmas.List.{drop_all, drop_more, take_rest}
 use Rattle.std.specs.List.{flat_map, slice_range}
 use Rattle.utf16_units.specs.Cuts.{parts, parts_from}
 use Rattle.utf8_bytes.specs.Boundary.{AreCuts, AreCutsFrom}

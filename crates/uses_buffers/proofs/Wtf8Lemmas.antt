@@ -3,7 +3,6 @@ use Rattle.std.proofs.Common.{◌≡◌, ◌≢◌, ◌⊎◌, inl, inr, ℕ, �
 use Rattle.std.proofs.lemmas.List.{drop-drop}
 use Rattle.std.specs.List.{flat_map}
 use Rattle.utf16_units.specs.Encoding.{char_bytes}
-use Rattle.utf16_units.proofs.CharLemmas.{char_size_cases, length-char_bytes}
 use Rattle.utf16_transcode.specs.declared.progress.Stop.{Stop}
 use Rattle.utf16_transcode.specs.declared.progress.Stop.TheVariants.{Incomplete, Done, IllFormed, NoSpace}
 use Rattle.utf16_transcode.proofs.ToUtf8Parts.{utf8_short}
@@ -12,9 +11,9 @@ use Rattle.utf16_wtf8.specs.ToWtf8.{StopsToWtf8, points_of}
 use Rattle.utf16_wtf8.specs.Wtf8.{code_points, generalized_utf8}
 use Rattle.utf16_wtf8.proofs.CodeLemmas.{spelled-nil}
 use Rattle.utf16_wtf8.proofs.PointLemmas.{points-nil, units-none}
-use Rattle.uses_buffers.specs.FormCalls.{IsCall}
+use Rattle.uses_buffers.specs.FormCalls.{IsCall, Joined}
 use Rattle.uses_buffers.specs.Forms.{from_wtf8, from_wtf8_partial, to_wtf8}
-use Rattle.uses_buffers.proofs.LoopLemmas.{Joined, both_done, both_shown, both_within, none_shown}
+use Rattle.uses_buffers.proofs.LoopLemmas.{both_done, both_shown, both_within, none_shown}
 use Rattle.uses_buffers.proofs.SeamLemmas.{Apart, Begins, apart_after, begins_some, begins_valid, both_units, ends_or_stays, goes_on, is_wtf8, leading_later, next_later, wtf8_later}
 
 -- ---- to WTF-8
@@ -45,16 +44,7 @@ to_wtf8_end big input out n left stop other call =
     let none = ap code_points (units-none big (drop n input) (few_left big (drop n input) left stop other call.stops)) ∙ points-nil in
     sym (call.writes ∙ ap (λ points. out ++ flat_map generalized_utf8 points) none ∙ append-nil out)
 
-pub to_wtf8_left : (big : Bool) (rest : List ℕ) (left : ℕ) (stop : Stop) → stop ≢ NoSpace → StopsToWtf8 big rest left stop → StopsToWtf8 big rest 0 stop
-to_wtf8_left big rest left Done other here = here
-to_wtf8_left big rest left (IllFormed len) other here = here
-to_wtf8_left big rest left Incomplete other here = here
-to_wtf8_left big rest left NoSpace other here = absurd (other refl)
-
 -- ---- from WTF-8
-
-pub from_wtf8_short : (big : Bool) (input : List ℕ) (n left : ℕ) → StopsFromWtf8 big input n left NoSpace → left < 4
-from_wtf8_short big input n left here = omega (arith, here.too_long, length-char_bytes big here.point, char_size_cases here.point)
 
 pub from_wtf8_nothing : (big : Bool) (input out : List ℕ) → TranscodesFromWtf8 big (take 0 input) out → out ≡ []
 from_wtf8_nothing big input out given = given.units ∙ ap (flat_map (char_bytes big)) (spelled-nil given.points given.spells.spelled)
@@ -76,12 +66,6 @@ from_wtf8_after big input out more at read room stop within given clear second =
 pub from_wtf8_joined : (big : Bool) → Joined (from_wtf8 big)
 from_wtf8_joined big input out more at read left room stop first second =
     from_wtf8_after big input out more at read room stop first.within first.writes (apart_after big input at left (is_wtf8 first.writes) first.stops) second
-
-pub from_wtf8_left : (big : Bool) (input : List ℕ) (n left : ℕ) (stop : Stop) → stop ≢ NoSpace → StopsFromWtf8 big input n left stop → StopsFromWtf8 big input n 0 stop
-from_wtf8_left big input n left Done other here = here
-from_wtf8_left big input n left (IllFormed len) other here = here
-from_wtf8_left big input n left Incomplete other here = here
-from_wtf8_left big input n left NoSpace other here = absurd (other refl)
 
 -- ---- a chunk of WTF-8
 
@@ -115,13 +99,3 @@ pub from_wtf8_partial_joined : (big : Bool) → Joined (from_wtf8_partial big)
 from_wtf8_partial_joined big input out more at read left room stop first second =
     let front = is_wtf8 first.writes in
     from_wtf8_partial_after big input out more at read room stop first.within first.writes (apart_after big input at left front first.stops) (inl (goes_on big input at left front first.stops)) second
-
-pub from_wtf8_partial_short : (big : Bool) (input : List ℕ) (n left : ℕ) → StopsFromWtf8Partial big input n left NoSpace → left < 4
-from_wtf8_partial_short big input n left here = omega (arith, here.too_long, length-char_bytes big here.point, char_size_cases here.point)
-
-pub from_wtf8_partial_left : (big : Bool) (input : List ℕ) (n left : ℕ) (stop : Stop) → stop ≢ NoSpace → StopsFromWtf8Partial big input n left stop
-    → StopsFromWtf8Partial big input n 0 stop
-from_wtf8_partial_left big input n left Done other here = here
-from_wtf8_partial_left big input n left (IllFormed len) other here = here
-from_wtf8_partial_left big input n left Incomplete other here = here
-from_wtf8_partial_left big input n left NoSpace other here = absurd (other refl)

@@ -17,45 +17,40 @@ use Rattle.utf16_wtf8.specs.Wtf8.{generalized_utf8}
 use Rattle.uses_buffers.specs.FormCalls.{Conversion, IsCall}
 
 -- `to_utf32`
-abbrev pub to_utf32 : Bool → Conversion
+abbrev pub to_utf32 : Bool → Conversion ℕ ℕ Stop
 to_utf32 big = record {
-  Reason = Stop;
   no_space = NoSpace;
   Writes = λ raw out n. TranscodesToUtf32 big (take n raw) out;
   Stops = StopsToUtf32 big;
 }
 
 -- `from_utf32`
-abbrev pub from_utf32 : Bool → Conversion
+abbrev pub from_utf32 : Bool → Conversion ℕ ℕ Stop
 from_utf32 big = record {
-  Reason = Stop;
   no_space = NoSpace;
   Writes = λ utf32 out n. TranscodesFromUtf32 big (take n utf32) out;
   Stops = StopsFromUtf32 big;
 }
 
 -- `to_utf32_lossy`: the text of what is not read follows the output
-abbrev pub to_utf32_lossy : Bool → Conversion
+abbrev pub to_utf32_lossy : Bool → Conversion ℕ ℕ Stop
 to_utf32_lossy big = record {
-  Reason = Stop;
   no_space = NoSpace;
   Writes = λ raw out n. flat_map utf32_units (lossy_text big raw) ≡ out ++ flat_map utf32_units (lossy_text big (drop n raw));
   Stops = λ raw n left stop. StopsLossyWhole (lossy_text big) utf32_units (drop n raw) left stop;
 }
 
 -- `from_utf32_lossy`
-abbrev pub from_utf32_lossy : Bool → Conversion
+abbrev pub from_utf32_lossy : Bool → Conversion ℕ ℕ Stop
 from_utf32_lossy big = record {
-  Reason = Stop;
   no_space = NoSpace;
   Writes = λ utf32 out n. ShowsInUtf16 big (take n utf32) out;
   Stops = λ utf32 n left stop. StopsLossyWhole lossy_utf32 (char_bytes big) (drop n utf32) left stop;
 }
 
 -- `to_latin1`
-abbrev pub to_latin1 : Bool → Conversion
+abbrev pub to_latin1 : Bool → Conversion ℕ ℕ Latin1Stop
 to_latin1 big = record {
-  Reason = Latin1Stop;
   no_space = latin1.NoSpace;
   Writes = λ raw out n. Encodes big out (take n raw);
   Stops = StopsLatin1 big;
@@ -69,36 +64,32 @@ StopsFromLatin1 latin1 n left Incomplete = ⊥
 StopsFromLatin1 latin1 n left NoSpace = (n < length latin1) × (left < 2)
 
 -- `from_latin1`
-abbrev pub from_latin1 : Bool → Conversion
+abbrev pub from_latin1 : Bool → Conversion ℕ ℕ Stop
 from_latin1 big = record {
-  Reason = Stop;
   no_space = NoSpace;
   Writes = λ latin1 out n. Encodes big (take n latin1) out;
   Stops = StopsFromLatin1;
 }
 
 -- `to_wtf8`: the WTF-8 of what is not read follows the output
-abbrev pub to_wtf8 : Bool → Conversion
+abbrev pub to_wtf8 : Bool → Conversion ℕ ℕ Stop
 to_wtf8 big = record {
-  Reason = Stop;
   no_space = NoSpace;
   Writes = λ raw out n. flat_map generalized_utf8 (points_of big raw) ≡ out ++ flat_map generalized_utf8 (points_of big (drop n raw));
   Stops = λ raw n left stop. StopsToWtf8 big (drop n raw) left stop;
 }
 
 -- `from_wtf8`
-abbrev pub from_wtf8 : Bool → Conversion
+abbrev pub from_wtf8 : Bool → Conversion ℕ ℕ Stop
 from_wtf8 big = record {
-  Reason = Stop;
   no_space = NoSpace;
   Writes = λ wtf8 out n. TranscodesFromWtf8 big (take n wtf8) out;
   Stops = StopsFromWtf8 big;
 }
 
 -- `from_wtf8_partial`
-abbrev pub from_wtf8_partial : Bool → Conversion
+abbrev pub from_wtf8_partial : Bool → Conversion ℕ ℕ Stop
 from_wtf8_partial big = record {
-  Reason = Stop;
   no_space = NoSpace;
   Writes = λ wtf8 out n. TranscodesFromWtf8 big (take n wtf8) out;
   Stops = StopsFromWtf8Partial big;
@@ -106,7 +97,7 @@ from_wtf8_partial big = record {
 
 -- a call of `from_wtf8_partial` stopped at the end of a chunk, and a call is given what it left and
 -- then more bytes: together they did what one call does that is given the chunk and these bytes
-abbrev pub Cuts : Bool → Conversion → Type 0
-Cuts big next = (chunk bytes out more : List ℕ) (at read left room : ℕ) (stop : Stop) (last : next.Reason)
+abbrev pub Cuts : Bool → Conversion ℕ ℕ Stop → Type 0
+Cuts big next = (chunk bytes out more : List ℕ) (at read left room : ℕ) (stop last : Stop)
     → IsCall (from_wtf8_partial big) chunk out at left stop → (stop ≡ Done) ⊎ (stop ≡ Incomplete)
     → IsCall next (drop at chunk ++ bytes) more read room last → IsCall next (chunk ++ bytes) (out ++ more) (at + read) room last

@@ -5,12 +5,40 @@ ghost use Rattle.std.specs.Vec.{vec_items};
 ghost use Rattle.utf16_units.specs.Encoding.{Encodes};
 ghost use Rattle.utf16_fixed.specs.StopsLatin1.{StopsLatin1};
 ghost use Rattle.utf16_fixed.specs.declared.latin1_progress.Latin1Stop.TheVariants.{NoSpace};
+ghost use Rattle.uses_buffers.specs.Forms as forms;
 
+use crate::buffer_call::{BufferCall, call_through};
 use crate::small_buffer::StrictDirection;
 use std::alloc::{AllocError, Allocator};
+use std::marker::PhantomData;
 use utf16_fixed::{Latin1Stop, from_latin1, to_latin1};
 use utf16_transcode::{Stop, ToUtf8};
 use utf16_units::Utf16Order;
+
+/// Calls of `to_latin1`.
+pub struct ToLatin1<E: Utf16Order>(PhantomData<E>);
+
+impl<E: Utf16Order> BufferCall for ToLatin1<E> {
+    type From = u8;
+
+    type To = u8;
+
+    type Stop = Latin1Stop;
+
+    ghost conversion = { forms.to_latin1 E.BIG };
+
+    ghost least = { 1 };
+
+    fn call(input: &[u8], to: &mut [u8]) -> (usize, usize, Latin1Stop) {
+        let progress = to_latin1::<E>(input, to);
+        (progress.read, progress.written, progress.stop)
+    }
+
+    #[tactic(auto, using(crate::proofs::Latin1Lemmas::to_latin1_nothing))]
+    fn laws() {
+        ToUtf8::<E>::strict_laws();
+    }
+}
 
 /// Converts UTF-16 to Latin-1, up to the first ill-formed sequence or the first character above
 /// U+00FF, like one call of `to_latin1` with enough space. Returns the Latin-1, the number of bytes
@@ -35,17 +63,29 @@ pub fn to_latin1_through<E: Utf16Order, A: Allocator>(
     ensures stop { IfOk result (λ done. StopsLatin1 E.BIG utf16.now done.1 0 done.2) }
     ensures whole { IfOk result (λ done. done.2 ≢ NoSpace) }
 {
-    ToUtf8::<E>::strict_laws();
-    let mut all = Vec::new(alloc);
-    let mut at = 0;
-    loop {
-        let progress = to_latin1::<E>(&utf16[at..], buffer);
-        all.extend_from_slice(&buffer[..progress.written])?;
-        at += progress.read;
-        let Latin1Stop::NoSpace = progress.stop else {
-            return Ok((all, at, progress.stop));
-        };
+    call_through::<ToLatin1<E>, A>(alloc, utf16, buffer)
+}
+
+/// Calls of `from_latin1`.
+pub struct FromLatin1<E: Utf16Order>(PhantomData<E>);
+
+impl<E: Utf16Order> BufferCall for FromLatin1<E> {
+    type From = u8;
+
+    type To = u8;
+
+    type Stop = Stop;
+
+    ghost conversion = { forms.from_latin1 E.BIG };
+
+    ghost least = { 2 };
+
+    fn call(input: &[u8], to: &mut [u8]) -> (usize, usize, Stop) {
+        let progress = from_latin1::<E>(input, to);
+        (progress.read, progress.written, progress.stop)
     }
+
+    fn laws() {}
 }
 
 /// Converts Latin-1 to UTF-16.
@@ -65,14 +105,5 @@ pub fn from_latin1_through<E: Utf16Order, A: Allocator>(
     requires { 2 ≤ length buffer.old }
     ensures { IfOk result (λ all. Encodes E.BIG latin1.now (vec_items all)) }
 {
-    let mut all = Vec::new(alloc);
-    let mut at = 0;
-    loop {
-        let progress = from_latin1::<E>(&latin1[at..], buffer);
-        all.extend_from_slice(&buffer[..progress.written])?;
-        at += progress.read;
-        let Stop::NoSpace = progress.stop else {
-            return Ok(all);
-        };
-    }
+    Ok(call_through::<FromLatin1<E>, A>(alloc, latin1, buffer)?.0)
 }

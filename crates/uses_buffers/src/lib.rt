@@ -5,6 +5,7 @@
 #![tactic(auto)]
 
 pub mod bom;
+pub mod buffer_call;
 pub mod call_laws;
 pub mod chars;
 pub mod cuts;

@@ -8,12 +8,40 @@ ghost use Rattle.utf16_units.specs.Split.{lossy_text};
 ghost use Rattle.utf16_transcode.specs.declared.progress.Stop.TheVariants.{NoSpace};
 ghost use Rattle.utf16_fixed.specs.Stops32.{StopsFromUtf32, StopsToUtf32};
 ghost use Rattle.utf16_fixed.specs.Utf32.{TranscodesFromUtf32, TranscodesToUtf32, lossy_utf32};
+ghost use Rattle.uses_buffers.specs.Forms as forms;
 
+use crate::buffer_call::{BufferCall, call_through};
 use crate::small_buffer::StrictDirection;
 use std::alloc::{AllocError, Allocator};
+use std::marker::PhantomData;
 use utf16_fixed::{from_utf32, from_utf32_lossy, to_utf32, to_utf32_lossy};
 use utf16_transcode::{Stop, ToUtf8};
 use utf16_units::Utf16Order;
+
+/// Calls of `to_utf32`.
+pub struct ToUtf32<E: Utf16Order>(PhantomData<E>);
+
+impl<E: Utf16Order> BufferCall for ToUtf32<E> {
+    type From = u8;
+
+    type To = u32;
+
+    type Stop = Stop;
+
+    ghost conversion = { forms.to_utf32 E.BIG };
+
+    ghost least = { 1 };
+
+    fn call(input: &[u8], to: &mut [u32]) -> (usize, usize, Stop) {
+        let progress = to_utf32::<E>(input, to);
+        (progress.read, progress.written, progress.stop)
+    }
+
+    #[tactic(auto, using(crate::proofs::Utf32Lemmas::to_utf32_nothing))]
+    fn laws() {
+        ToUtf8::<E>::strict_laws();
+    }
+}
 
 /// Converts UTF-16 to UTF-32, up to the first ill-formed sequence, like one call of `to_utf32` with
 /// enough space. Returns the code units, the number of bytes read, and why it stopped.
@@ -37,17 +65,30 @@ pub fn to_utf32_through<E: Utf16Order, A: Allocator>(
     ensures stop { IfOk result (λ done. StopsToUtf32 E.BIG utf16.now done.1 0 done.2) }
     ensures whole { IfOk result (λ done. done.2 ≢ NoSpace) }
 {
-    ToUtf8::<E>::strict_laws();
-    let mut all = Vec::new(alloc);
-    let mut at = 0;
-    loop {
-        let progress = to_utf32::<E>(&utf16[at..], buffer);
-        all.extend_from_slice(&buffer[..progress.written])?;
-        at += progress.read;
-        let Stop::NoSpace = progress.stop else {
-            return Ok((all, at, progress.stop));
-        };
+    call_through::<ToUtf32<E>, A>(alloc, utf16, buffer)
+}
+
+/// Calls of `to_utf32_lossy`.
+pub struct ToUtf32Lossy<E: Utf16Order>(PhantomData<E>);
+
+impl<E: Utf16Order> BufferCall for ToUtf32Lossy<E> {
+    type From = u8;
+
+    type To = u32;
+
+    type Stop = Stop;
+
+    ghost conversion = { forms.to_utf32_lossy E.BIG };
+
+    ghost least = { 1 };
+
+    fn call(input: &[u8], to: &mut [u32]) -> (usize, usize, Stop) {
+        let progress = to_utf32_lossy::<E>(input, to);
+        (progress.read, progress.written, progress.stop)
     }
+
+    #[tactic(auto, using(crate::proofs::Utf32Lemmas::to_utf32_lossy_joined, crate::proofs::Utf32Lemmas::to_utf32_lossy_nothing))]
+    fn laws() {}
 }
 
 /// Converts UTF-16 to UTF-32, with U+FFFD for each ill-formed sequence.
@@ -59,6 +100,7 @@ pub fn to_utf32_through<E: Utf16Order, A: Allocator>(
 /// # Errors
 ///
 /// If allocation fails.
+#[tactic(auto, using(crate::proofs::Utf32Lemmas::to_utf32_lossy_end))]
 pub fn to_utf32_lossy_through<E: Utf16Order, A: Allocator>(
     alloc: A,
     utf16: &[u8],
@@ -67,16 +109,29 @@ pub fn to_utf32_lossy_through<E: Utf16Order, A: Allocator>(
     requires { 0 < length buffer.old }
     ensures { IfOk result (λ all. vec_items all ≡ lossy_text E.BIG utf16.now) }
 {
-    let mut all = Vec::new(alloc);
-    let mut at = 0;
-    loop {
-        let progress = to_utf32_lossy::<E>(&utf16[at..], buffer);
-        all.extend_from_slice(&buffer[..progress.written])?;
-        at += progress.read;
-        let Stop::NoSpace = progress.stop else {
-            return Ok(all);
-        };
+    Ok(call_through::<ToUtf32Lossy<E>, A>(alloc, utf16, buffer)?.0)
+}
+
+/// Calls of `from_utf32`.
+pub struct FromUtf32<E: Utf16Order>(PhantomData<E>);
+
+impl<E: Utf16Order> BufferCall for FromUtf32<E> {
+    type From = u32;
+
+    type To = u8;
+
+    type Stop = Stop;
+
+    ghost conversion = { forms.from_utf32 E.BIG };
+
+    ghost least = { 4 };
+
+    fn call(input: &[u32], to: &mut [u8]) -> (usize, usize, Stop) {
+        let progress = from_utf32::<E>(input, to);
+        (progress.read, progress.written, progress.stop)
     }
+
+    fn laws() {}
 }
 
 /// Converts UTF-32 to UTF-16, up to the first code unit that is not a scalar value, like one call
@@ -102,16 +157,29 @@ pub fn from_utf32_through<E: Utf16Order, A: Allocator>(
     ensures stop { IfOk result (λ done. StopsFromUtf32 E.BIG utf32.now done.1 0 done.2) }
     ensures whole { IfOk result (λ done. done.2 ≢ NoSpace) }
 {
-    let mut all = Vec::new(alloc);
-    let mut at = 0;
-    loop {
-        let progress = from_utf32::<E>(&utf32[at..], buffer);
-        all.extend_from_slice(&buffer[..progress.written])?;
-        at += progress.read;
-        let Stop::NoSpace = progress.stop else {
-            return Ok((all, at, progress.stop));
-        };
+    call_through::<FromUtf32<E>, A>(alloc, utf32, buffer)
+}
+
+/// Calls of `from_utf32_lossy`.
+pub struct FromUtf32Lossy<E: Utf16Order>(PhantomData<E>);
+
+impl<E: Utf16Order> BufferCall for FromUtf32Lossy<E> {
+    type From = u32;
+
+    type To = u8;
+
+    type Stop = Stop;
+
+    ghost conversion = { forms.from_utf32_lossy E.BIG };
+
+    ghost least = { 4 };
+
+    fn call(input: &[u32], to: &mut [u8]) -> (usize, usize, Stop) {
+        let progress = from_utf32_lossy::<E>(input, to);
+        (progress.read, progress.written, progress.stop)
     }
+
+    fn laws() {}
 }
 
 /// Converts UTF-32 to UTF-16, with U+FFFD for each code unit that is not a scalar value.
@@ -131,14 +199,5 @@ pub fn from_utf32_lossy_through<E: Utf16Order, A: Allocator>(
     requires { 4 ≤ length buffer.old }
     ensures { IfOk result (λ all. vec_items all ≡ encode E.BIG (lossy_utf32 utf32.now)) }
 {
-    let mut all = Vec::new(alloc);
-    let mut at = 0;
-    loop {
-        let progress = from_utf32_lossy::<E>(&utf32[at..], buffer);
-        all.extend_from_slice(&buffer[..progress.written])?;
-        at += progress.read;
-        let Stop::NoSpace = progress.stop else {
-            return Ok(all);
-        };
-    }
+    Ok(call_through::<FromUtf32Lossy<E>, A>(alloc, utf32, buffer)?.0)
 }

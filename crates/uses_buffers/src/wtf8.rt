@@ -8,12 +8,38 @@ ghost use Rattle.utf16_transcode.specs.declared.progress.Stop.TheVariants.{NoSpa
 ghost use Rattle.utf16_wtf8.specs.FromWtf8.{StopsFromWtf8, StopsFromWtf8Partial, TranscodesFromWtf8};
 ghost use Rattle.utf16_wtf8.specs.ToWtf8.{StopsToWtf8, item_point, points_of};
 ghost use Rattle.utf16_wtf8.specs.Wtf8.{generalized_utf8};
+ghost use Rattle.uses_buffers.specs.Forms as forms;
 
+use crate::buffer_call::{BufferCall, call_through};
 use crate::small_buffer::partial_through;
 use std::alloc::{AllocError, Allocator};
+use std::marker::PhantomData;
 use utf16_transcode::Stop;
 use utf16_units::Utf16Order;
 use utf16_wtf8::{ToWtf8, from_wtf8, from_wtf8_partial, to_wtf8};
+
+/// Calls of `to_wtf8`.
+pub struct AllToWtf8<E: Utf16Order>(PhantomData<E>);
+
+impl<E: Utf16Order> BufferCall for AllToWtf8<E> {
+    type From = u8;
+
+    type To = u8;
+
+    type Stop = Stop;
+
+    ghost conversion = { forms.to_wtf8 E.BIG };
+
+    ghost least = { 4 };
+
+    fn call(input: &[u8], to: &mut [u8]) -> (usize, usize, Stop) {
+        let progress = to_wtf8::<E>(input, to);
+        (progress.read, progress.written, progress.stop)
+    }
+
+    #[tactic(auto, using(crate::proofs::Wtf8Lemmas::to_wtf8_joined, crate::proofs::Wtf8Lemmas::to_wtf8_nothing))]
+    fn laws() {}
+}
 
 /// Converts all code units of UTF-16 to WTF-8, like one call of `to_wtf8` with enough space.
 /// Returns the WTF-8, the number of bytes read, and `Incomplete` if an odd byte follows them.
@@ -25,6 +51,7 @@ use utf16_wtf8::{ToWtf8, from_wtf8, from_wtf8_partial, to_wtf8};
 /// # Errors
 ///
 /// If allocation fails.
+#[tactic(auto, using(crate::proofs::Wtf8Lemmas::to_wtf8_end))]
 pub fn to_wtf8_through<E: Utf16Order, A: Allocator>(
     alloc: A,
     utf16: &[u8],
@@ -37,16 +64,7 @@ pub fn to_wtf8_through<E: Utf16Order, A: Allocator>(
     ensures stop { IfOk result (λ done. StopsToWtf8 E.BIG (drop done.1 utf16.now) 0 done.2) }
     ensures whole { IfOk result (λ done. done.2 ≢ NoSpace) }
 {
-    let mut all = Vec::new(alloc);
-    let mut at = 0;
-    loop {
-        let progress = to_wtf8::<E>(&utf16[at..], buffer);
-        all.extend_from_slice(&buffer[..progress.written])?;
-        at += progress.read;
-        let Stop::NoSpace = progress.stop else {
-            return Ok((all, at, progress.stop));
-        };
-    }
+    call_through::<AllToWtf8<E>, A>(alloc, utf16, buffer)
 }
 
 /// Converts what is certain of UTF-16 to WTF-8, and returns the WTF-8 and the number of bytes read.
@@ -74,6 +92,28 @@ pub fn to_wtf8_partial_through<E: Utf16Order, A: Allocator>(
     partial_through::<ToWtf8<E>, A>(alloc, utf16, buffer)
 }
 
+/// Calls of `from_wtf8`.
+pub struct FromWtf8<E: Utf16Order>(PhantomData<E>);
+
+impl<E: Utf16Order> BufferCall for FromWtf8<E> {
+    type From = u8;
+
+    type To = u8;
+
+    type Stop = Stop;
+
+    ghost conversion = { forms.from_wtf8 E.BIG };
+
+    ghost least = { 4 };
+
+    fn call(input: &[u8], to: &mut [u8]) -> (usize, usize, Stop) {
+        let progress = from_wtf8::<E>(input, to);
+        (progress.read, progress.written, progress.stop)
+    }
+
+    fn laws() {}
+}
+
 /// Converts WTF-8 to UTF-16, up to the first ill-formed sequence, like one call of `from_wtf8` with
 /// enough space. Returns the UTF-16, the number of bytes read, and why it stopped.
 ///
@@ -96,16 +136,29 @@ pub fn from_wtf8_through<E: Utf16Order, A: Allocator>(
     ensures stop { IfOk result (λ done. StopsFromWtf8 E.BIG wtf8.now done.1 0 done.2) }
     ensures whole { IfOk result (λ done. done.2 ≢ NoSpace) }
 {
-    let mut all = Vec::new(alloc);
-    let mut at = 0;
-    loop {
-        let progress = from_wtf8::<E>(&wtf8[at..], buffer);
-        all.extend_from_slice(&buffer[..progress.written])?;
-        at += progress.read;
-        let Stop::NoSpace = progress.stop else {
-            return Ok((all, at, progress.stop));
-        };
+    call_through::<FromWtf8<E>, A>(alloc, wtf8, buffer)
+}
+
+/// Calls of `from_wtf8_partial`.
+pub struct FromWtf8Partial<E: Utf16Order>(PhantomData<E>);
+
+impl<E: Utf16Order> BufferCall for FromWtf8Partial<E> {
+    type From = u8;
+
+    type To = u8;
+
+    type Stop = Stop;
+
+    ghost conversion = { forms.from_wtf8_partial E.BIG };
+
+    ghost least = { 4 };
+
+    fn call(input: &[u8], to: &mut [u8]) -> (usize, usize, Stop) {
+        let progress = from_wtf8_partial::<E>(input, to);
+        (progress.read, progress.written, progress.stop)
     }
+
+    fn laws() {}
 }
 
 /// Converts a chunk of a stream of WTF-8 to UTF-16, like one call of `from_wtf8_partial` with
@@ -130,14 +183,5 @@ pub fn from_wtf8_partial_through<E: Utf16Order, A: Allocator>(
     ensures stop { IfOk result (λ done. StopsFromWtf8Partial E.BIG wtf8.now done.1 0 done.2) }
     ensures whole { IfOk result (λ done. done.2 ≢ NoSpace) }
 {
-    let mut all = Vec::new(alloc);
-    let mut at = 0;
-    loop {
-        let progress = from_wtf8_partial::<E>(&wtf8[at..], buffer);
-        all.extend_from_slice(&buffer[..progress.written])?;
-        at += progress.read;
-        let Stop::NoSpace = progress.stop else {
-            return Ok((all, at, progress.stop));
-        };
-    }
+    call_through::<FromWtf8Partial<E>, A>(alloc, wtf8, buffer)
 }

@@ -1,7 +1,0 @@
-use Rattle.uses_buffers.specs.Forms.{to_wtf8}
-use Rattle.uses_buffers.proofs.LoopLemmas.{composes}
-use Rattle.uses_buffers.proofs.Wtf8Lemmas.{to_wtf8_joined}
-use Rattle.uses_buffers.proofs.form_laws.to_wtf8_calls.Goals as goal
-
-pub returns : goal.returns
-returns g c = composes (to_wtf8 g.E.Utf16Order.BIG) (to_wtf8_joined g.E.Utf16Order.BIG)
