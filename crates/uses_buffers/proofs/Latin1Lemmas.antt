@@ -1,8 +1,5 @@
 -- Calls of the conversions from and to Latin-1, one after another.
-use Rattle.std.proofs.Common.{◌≡◌, ℕ, ◌+◌, ◌-◌, ◌*◌, ◌/◌, ◌<◌, ◌≤◌, Bool, true, false, cond, List, [], ◌++◌, None, Some, length, take, drop, sym, ap, ◌∙◌, subst, ⊎_elim, arith, length-drop}
-use Rattle.std.specs.Prelude.{min, nat_le}
-use Rattle.std.proofs.lemmas.Bool.{cases_Bool}
-use Rattle.std.proofs.lemmas.Bool.Decides.{nat_tests}
+use Rattle.std.proofs.Common.{◌≡◌, ℕ, ◌+◌, Bool, List, [], ◌++◌, None, Some, take, drop, sym, ◌∙◌, subst, arith, length-drop}
 use Rattle.std.proofs.lemmas.List.{drop-drop}
 use Rattle.utf16_units.specs.Encoding.{Encodes, IsUtf16}
 use Rattle.utf16_units.proofs.EncodingLemmas.{Encodes-append, Encodes-unique, IsUtf16-from_Encodes, encode-nil}
@@ -12,7 +9,7 @@ use Rattle.utf16_fixed.specs.StopsLatin1.{BeginsWithA, StopsLatin1}
 use Rattle.utf16_fixed.specs.declared.latin1_progress.Latin1Stop.{Latin1Stop}
 use Rattle.utf16_fixed.specs.declared.latin1_progress.Latin1Stop.TheVariants.{Done, IllFormed, Incomplete, NoSpace, NotLatin1}
 use Rattle.utf16_fixed.proofs.TextLemmas.{utf32_empty}
-use Rattle.uses_buffers.specs.FormCalls.{IsCall, Joined}
+use Rattle.uses_buffers.specs.FormCalls.{Joined}
 use Rattle.uses_buffers.specs.Forms.{StopsFromLatin1, from_latin1, to_latin1}
 use Rattle.uses_buffers.proofs.LoopLemmas.{both_done, both_given, both_within}
 use Rattle.uses_buffers.proofs.Utf32Lemmas.{FoundThere, ill_formed_later}
@@ -60,29 +57,3 @@ from_latin1_joined big input out more at read left room why first second = recor
 
 pub from_latin1_nothing : (big : Bool) (input out : List ℕ) → Encodes big (take 0 input) out → out ≡ []
 from_latin1_nothing big input out given = sym given.spelled ∙ encode-nil big
-
--- why a call stopped
-from_latin1_stops : (latin1 : List ℕ) (room read written : ℕ) (why : Stop) → read ≡ min (length latin1) (room / 2) → written ≡ 2 * read
-    → why ≡ cond (nat_le (length latin1) (room / 2)) stop.Done stop.NoSpace → StopsFromLatin1 latin1 read (room - written) why
-from_latin1_stops latin1 room read written why is two because = ⊎_elim
-    (λ (fits : nat_le (length latin1) (room / 2) ≡ true).
-    let done : why ≡ stop.Done = because ∙ ap (λ t. cond t stop.Done stop.NoSpace) fits in
-    subst (StopsFromLatin1 latin1 read (room - written)) (sym done) (grind (arith, nat_tests)))
-    (λ (full : nat_le (length latin1) (room / 2) ≡ false).
-    let stopped : why ≡ stop.NoSpace = because ∙ ap (λ t. cond t stop.Done stop.NoSpace) full in
-    let long : room / 2 < length latin1 = grind (arith, nat_tests) in
-    subst (StopsFromLatin1 latin1 read (room - written)) (sym stopped) (omega (arith, is, long), omega (arith, is, two, long)))
-    (cases_Bool (nat_le (length latin1) (room / 2)))
-
--- a call, by the clauses of its contract
-pub from_latin1_call : (big : Bool) (latin1 old to : List ℕ) (read written : ℕ) (why : Stop) → length old ≡ length to → read ≡ min (length latin1) (length old / 2) → written ≡ 2 * read
-    → why ≡ cond (nat_le (length latin1) (length old / 2)) stop.Done stop.NoSpace → Encodes big (take read latin1) (take written to)
-    → (written ≤ length to) × IsCall (from_latin1 big) latin1 (take written to) read (length to - written) why
-from_latin1_call big latin1 old to read written why long is two because text = (
-  omega (arith, long, is, two),
-  record {
-    within = omega (arith, is);
-    writes = text;
-    stops = subst (λ room. StopsFromLatin1 latin1 read (room - written) why) long (from_latin1_stops latin1 (length old) read written why is two because);
-  },
-)

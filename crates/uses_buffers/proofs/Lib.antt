@@ -1,4 +1,5 @@
 pub mod LoopLemmas
+pub mod FormLemmas
 pub mod Utf32Lemmas
 pub mod Latin1Lemmas
 pub mod Wtf8Lemmas

@@ -1,26 +1,24 @@
 -- Calls of the conversions from and to UTF-32, one after another.
-use Rattle.std.proofs.Common.{◌≡◌, ◌≢◌, ℕ, ◌+◌, ◌<◌, ◌≤◌, Bool, List, [], ◌++◌, Option, None, Some, length, take, drop, refl, sym, ap, ◌∙◌, subst, arith, append-nil, length-drop, take_all}
+use Rattle.std.proofs.Common.{◌≡◌, ℕ, ◌+◌, ◌<◌, ◌≤◌, Bool, List, [], Option, None, Some, length, take, drop, sym, ap, ◌∙◌, subst, arith, length-drop, take_all}
 use Rattle.std.proofs.lemmas.List.{drop-drop, get_or-drop}
 use Rattle.std.specs.Char.{IsScalar}
-use Rattle.std.specs.List.{flat_map}
 use Rattle.utf16_units.specs.Encoding.{IsUtf16, char_bytes, encode}
 use Rattle.utf16_units.specs.IllFormed.{IsIllFormedAt}
 use Rattle.utf16_units.specs.Split.{lossy_text}
 use Rattle.utf16_units.proofs.EncodingLemmas.{Encodes-unique, IsUtf16-from_Encodes, encode-nil}
 use Rattle.utf16_transcode.specs.Stops.{IsIllFormedUtf16, StopsLossyWhole}
 use Rattle.utf16_transcode.specs.declared.progress.Stop.{Stop}
-use Rattle.utf16_transcode.specs.declared.progress.Stop.TheVariants.{Incomplete, Done, IllFormed, NoSpace}
 use Rattle.utf16_transcode.proofs.ToUtf8Lemmas.{faults_there}
 use Rattle.utf16_transcode.proofs.ToUtf8Parts.{nil_text}
-use Rattle.utf16_fixed.specs.Stops32.{IsIllFormedUtf32, StopsFromUtf32, StopsToUtf32}
+use Rattle.utf16_fixed.specs.Stops32.{IsIllFormedUtf32}
 use Rattle.utf16_fixed.specs.Utf32.{IsUtf32, ShowsInUtf16, TranscodesFromUtf32, TranscodesToUtf32, lossy_utf32, utf32_units}
 use Rattle.utf16_fixed.proofs.LossyLemmas.{units_of_text}
 use Rattle.utf16_fixed.proofs.ShowsLemmas.{shown_joins}
 use Rattle.utf16_fixed.proofs.TextLemmas.{utf16_joins, utf32_empty, utf32_joins}
-use Rattle.utf16_fixed.proofs.ValidLemmas.{IsUtf32-next}
-use Rattle.uses_buffers.specs.FormCalls.{IsCall, Joined}
+use Rattle.uses_buffers.specs.FormCalls.{Completes, Joined}
 use Rattle.uses_buffers.specs.Forms.{from_utf32, from_utf32_lossy, to_utf32, to_utf32_lossy}
-use Rattle.uses_buffers.proofs.LoopLemmas.{both_done, both_given, both_shown, both_within, none_shown}
+use Rattle.uses_buffers.proofs.FormLemmas.{lossy_end, nothing_left, strict_joined}
+use Rattle.uses_buffers.proofs.LoopLemmas.{both_given, both_within}
 
 -- ---- ill-formed sequences
 
@@ -36,13 +34,13 @@ ill_formed_later big there input at read len within text found =
     faults_there big input (at + read) len (omega (arith, here.0, length-drop at input)) text (subst (λ b. IsIllFormedAt big b len) (drop-drop read at input) here.1)
 
 -- the same for UTF-32
-utf32_later : (units : List ℕ) (at read : ℕ) (len : Option ℕ) → IsUtf32 (take at units) → IsIllFormedUtf32 (drop at units) read len → IsIllFormedUtf32 units (at + read) len
+utf32_later : (units : List ℕ) (at read : ℕ) (len : Option ℕ) → IsUtf32 (take (at + read) units) → IsIllFormedUtf32 (drop at units) read len → IsIllFormedUtf32 units (at + read) len
 utf32_later units at read None valid here = here
 utf32_later units at read (Some len) valid here = (
   here.0,
   record {
     within = omega (arith, here.1.within, length-drop at units);
-    valid = IsUtf32-next units at read valid here.1.valid;
+    valid = valid;
     ill_formed = λ scalar. here.1.ill_formed (subst IsScalar (sym (get_or-drop at units read 0)) scalar);
   },
 )
@@ -50,64 +48,24 @@ utf32_later units at read (Some len) valid here = (
 -- ---- to UTF-32
 
 pub to_utf32_joined : (big : Bool) → FoundThere big → Joined (to_utf32 big)
-to_utf32_joined big there input out more at read left room stop first second = record { within = within; writes = given; stops = why stop second.stops } where
-  within : at + read ≤ length input
-  within = both_within input at read first.within second.within
-
-  given : TranscodesToUtf32 big (take (at + read) input) (out ++ more)
-  given = both_given (TranscodesToUtf32 big) (utf32_joins big) input out more at read first.writes second.writes
-
-  text : IsUtf16 big (take (at + read) input)
-  text = IsUtf16-from_Encodes big (out ++ more) (take (at + read) input) given
-
-  why : (stop : Stop) → StopsToUtf32 big (drop at input) read room stop → StopsToUtf32 big input (at + read) room stop
-  why Done here = both_done input at read first.within here
-  why (IllFormed len) here = ill_formed_later big there input at read (Some len) first.within text here
-  why Incomplete here = ill_formed_later big there input at read None first.within text here
-  why NoSpace here = record { char = here.char; more = here.more; scalar = here.scalar; begins = sym (drop-drop read at input) ∙ here.begins; too_long = here.too_long }
+to_utf32_joined big there =
+    strict_joined (TranscodesToUtf32 big) (char_bytes big) utf32_units (IsIllFormedUtf16 big) (utf32_joins big)
+    (λ input out at read len within given. ill_formed_later big there input at read len within (IsUtf16-from_Encodes big out (take (at + read) input) given))
 
 pub to_utf32_nothing : (big : Bool) (input out : List ℕ) → TranscodesToUtf32 big (take 0 input) out → out ≡ []
 to_utf32_nothing big input out given = Encodes-unique big out [] [] given (utf32_empty big)
 
 -- ---- to UTF-32, lossy
 
-pub to_utf32_lossy_joined : (big : Bool) → Joined (to_utf32_lossy big)
-to_utf32_lossy_joined big input out more at read left room stop first second = record {
-  within = both_within input at read first.within second.within;
-  writes = both_shown (lossy_text big) utf32_units input out more at read first.writes second.writes;
-  stops = subst (λ r. StopsLossyWhole (lossy_text big) utf32_units r room stop) (drop-drop read at input) second.stops;
-}
-
-pub to_utf32_lossy_nothing : (big : Bool) (input out : List ℕ) → flat_map utf32_units (lossy_text big input) ≡ out ++ flat_map utf32_units (lossy_text big (drop 0 input)) → out ≡ []
-to_utf32_lossy_nothing big input out same = none_shown (lossy_text big) utf32_units input out same
-
--- nothing is left if a lossy call did not stop for lack of space
-nothing_left : (text : List ℕ → List ℕ) (into : ℕ → List ℕ) (rest : List ℕ) (left : ℕ) (stop : Stop) → stop ≢ NoSpace → StopsLossyWhole text into rest left stop → rest ≡ []
-nothing_left text into rest left Done other here = here
-nothing_left text into rest left (IllFormed len) other here = absurd here
-nothing_left text into rest left Incomplete other here = absurd here
-nothing_left text into rest left NoSpace other here = absurd (other refl)
-
-pub to_utf32_lossy_end : (big : Bool) (input out : List ℕ) (n left : ℕ) (stop : Stop) → stop ≢ NoSpace → IsCall (to_utf32_lossy big) input out n left stop → out ≡ lossy_text big input
-to_utf32_lossy_end big input out n left stop other call =
-    let none = nothing_left (lossy_text big) utf32_units (drop n input) left stop other call.stops in
-    sym
-    (sym (units_of_text (lossy_text big input)) ∙ call.writes ∙ ap (λ r. out ++ flat_map utf32_units (lossy_text big r)) none
-    ∙ ap (λ t. out ++ flat_map utf32_units t) (nil_text big) ∙ append-nil out)
+pub to_utf32_lossy_end : (big : Bool) (input out : List ℕ) (n : ℕ) (stop : Stop) → Completes (to_utf32_lossy big) input out n stop → out ≡ lossy_text big input
+to_utf32_lossy_end big input out n stop done = lossy_end (lossy_text big) utf32_units (nil_text big) input out n stop done ∙ units_of_text (lossy_text big input)
 
 -- ---- from UTF-32
 
 pub from_utf32_joined : (big : Bool) → Joined (from_utf32 big)
-from_utf32_joined big input out more at read left room stop first second = record {
-  within = both_within input at read first.within second.within;
-  writes = both_given (TranscodesFromUtf32 big) (utf16_joins big) input out more at read first.writes second.writes;
-  stops = why stop second.stops;
-} where
-  why : (stop : Stop) → StopsFromUtf32 big (drop at input) read room stop → StopsFromUtf32 big input (at + read) room stop
-  why Done here = both_done input at read first.within here
-  why (IllFormed len) here = utf32_later input at read (Some len) first.writes.scalars here
-  why Incomplete here = utf32_later input at read None first.writes.scalars here
-  why NoSpace here = record { char = here.char; more = here.more; scalar = here.scalar; begins = sym (drop-drop read at input) ∙ here.begins; too_long = here.too_long }
+from_utf32_joined big =
+    strict_joined (TranscodesFromUtf32 big) utf32_units (char_bytes big) IsIllFormedUtf32 (utf16_joins big)
+    (λ input out at read len within given. utf32_later input at read len given.scalars)
 
 pub from_utf32_nothing : (big : Bool) (input out : List ℕ) → TranscodesFromUtf32 big (take 0 input) out → out ≡ []
 from_utf32_nothing big input out given = sym given.spelled ∙ encode-nil big
@@ -124,8 +82,7 @@ from_utf32_lossy_joined big input out more at read left room stop first second =
 pub from_utf32_lossy_nothing : (big : Bool) (input out : List ℕ) → ShowsInUtf16 big (take 0 input) out → out ≡ []
 from_utf32_lossy_nothing big input out same = same ∙ encode-nil big
 
-pub from_utf32_lossy_end : (big : Bool) (input out : List ℕ) (n left : ℕ) (stop : Stop) → stop ≢ NoSpace → IsCall (from_utf32_lossy big) input out n left stop
-    → out ≡ encode big (lossy_utf32 input)
-from_utf32_lossy_end big input out n left stop other call =
-    let none = nothing_left lossy_utf32 (char_bytes big) (drop n input) left stop other call.stops in
-    call.writes ∙ ap (λ b. encode big (lossy_utf32 b)) (take_all n input (omega (arith, ap length none, length-drop n input)))
+pub from_utf32_lossy_end : (big : Bool) (input out : List ℕ) (n : ℕ) (stop : Stop) → Completes (from_utf32_lossy big) input out n stop → out ≡ encode big (lossy_utf32 input)
+from_utf32_lossy_end big input out n stop done =
+    let none = nothing_left lossy_utf32 (char_bytes big) (drop n input) done.left stop done.ends done.call.stops in
+    done.call.writes ∙ ap (λ b. encode big (lossy_utf32 b)) (take_all n input (omega (arith, ap length none, length-drop n input)))

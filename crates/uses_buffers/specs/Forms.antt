@@ -1,12 +1,15 @@
--- The conversions between UTF-16 and UTF-32, Latin-1 and WTF-8, each in the words of its contract.
-use Rattle.std.specs.Prelude.{◌≡◌, ◌⊎◌, ℕ, ◌+◌, ◌<◌, Bool, List, ◌++◌, length, take, drop}
+-- The conversions between UTF-16 and UTF-8, UTF-32, Latin-1 and WTF-8, each in the words of its
+-- contract.
+use Rattle.std.specs.Prelude.{◌≡◌, ◌⊎◌, ℕ, ◌+◌, ◌<◌, Bool, List, [], ◌++◌, Option, length, take, drop}
 use Rattle.std.specs.List.{flat_map}
 use Rattle.utf16_units.specs.Encoding.{Encodes, char_bytes}
 use Rattle.utf16_units.specs.Split.{lossy_text}
-use Rattle.utf16_transcode.specs.Stops.{StopsLossyWhole}
+use Rattle.utf16_transcode.specs.Decodes.{DecodesAs}
+use Rattle.utf16_transcode.specs.Decomposition.{Decomposition}
+use Rattle.utf16_transcode.specs.Stops.{IsIllFormedUtf16, Stops, StopsLossyAs, StopsLossyWhole}
 use Rattle.utf16_transcode.specs.declared.progress.Stop.{Stop}
 use Rattle.utf16_transcode.specs.declared.progress.Stop.TheVariants.{Incomplete, Done, IllFormed, NoSpace}
-use Rattle.utf16_fixed.specs.Stops32.{StopsFromUtf32, StopsToUtf32}
+use Rattle.utf16_fixed.specs.Stops32.{IsIllFormedUtf32}
 use Rattle.utf16_fixed.specs.Utf32.{ShowsInUtf16, TranscodesFromUtf32, TranscodesToUtf32, lossy_utf32, utf32_units}
 use Rattle.utf16_fixed.specs.StopsLatin1.{StopsLatin1}
 use Rattle.utf16_fixed.specs.declared.latin1_progress.Latin1Stop.{Latin1Stop}
@@ -16,29 +19,41 @@ use Rattle.utf16_wtf8.specs.ToWtf8.{StopsToWtf8, points_of}
 use Rattle.utf16_wtf8.specs.Wtf8.{generalized_utf8}
 use Rattle.uses_buffers.specs.FormCalls.{Conversion, IsCall}
 
+-- a conversion up to the first ill-formed sequence
+abbrev pub strict : (List ℕ → List ℕ → Type 0) → (ℕ → List ℕ) → (ℕ → List ℕ) → (List ℕ → ℕ → Option ℕ → Type 0) → Conversion ℕ ℕ Stop
+strict Gives from into IsIllFormedOf = record {
+  no_space = NoSpace;
+  Writes = λ input out n. Gives (take n input) out;
+  Stops = Stops from into IsIllFormedOf;
+}
+
+-- a conversion of any input: the text of what is not read follows the output
+abbrev pub lossy : (List ℕ → List ℕ) → (ℕ → List ℕ) → Conversion ℕ ℕ Stop
+lossy text into = record {
+  no_space = NoSpace;
+  Writes = λ input out n. flat_map into (text input) ≡ out ++ flat_map into (text (drop n input));
+  Stops = λ input n left stop. StopsLossyWhole text into (drop n input) left stop;
+}
+
+-- a conversion of what is certain of any input
+abbrev pub partial : Decomposition → (ℕ → List ℕ) → Conversion ℕ ℕ Stop
+partial parts into = record {
+  no_space = NoSpace;
+  Writes = λ input out n. DecodesAs parts into input (drop n input) [] out;
+  Stops = λ input n left stop. StopsLossyAs parts into (drop n input) left stop;
+}
+
 -- `to_utf32`
 abbrev pub to_utf32 : Bool → Conversion ℕ ℕ Stop
-to_utf32 big = record {
-  no_space = NoSpace;
-  Writes = λ raw out n. TranscodesToUtf32 big (take n raw) out;
-  Stops = StopsToUtf32 big;
-}
+to_utf32 big = strict (TranscodesToUtf32 big) (char_bytes big) utf32_units (IsIllFormedUtf16 big)
 
 -- `from_utf32`
 abbrev pub from_utf32 : Bool → Conversion ℕ ℕ Stop
-from_utf32 big = record {
-  no_space = NoSpace;
-  Writes = λ utf32 out n. TranscodesFromUtf32 big (take n utf32) out;
-  Stops = StopsFromUtf32 big;
-}
+from_utf32 big = strict (TranscodesFromUtf32 big) utf32_units (char_bytes big) IsIllFormedUtf32
 
--- `to_utf32_lossy`: the text of what is not read follows the output
+-- `to_utf32_lossy`
 abbrev pub to_utf32_lossy : Bool → Conversion ℕ ℕ Stop
-to_utf32_lossy big = record {
-  no_space = NoSpace;
-  Writes = λ raw out n. flat_map utf32_units (lossy_text big raw) ≡ out ++ flat_map utf32_units (lossy_text big (drop n raw));
-  Stops = λ raw n left stop. StopsLossyWhole (lossy_text big) utf32_units (drop n raw) left stop;
-}
+to_utf32_lossy big = lossy (lossy_text big) utf32_units
 
 -- `from_utf32_lossy`
 abbrev pub from_utf32_lossy : Bool → Conversion ℕ ℕ Stop

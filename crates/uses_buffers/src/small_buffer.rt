@@ -7,14 +7,42 @@ ghost use Rattle.std.specs.List.{flat_map};
 ghost use Rattle.std.specs.Vec.{vec_items};
 ghost use Rattle.utf16_transcode.specs.Decomposition.{decided};
 ghost use Rattle.utf16_transcode.specs.Stream.{stream_pending};
+ghost use Rattle.utf16_transcode.specs.Wrote.{Gives};
 ghost use Rattle.uses_buffers.specs.Calls.{ConvertsUpTo};
+ghost use Rattle.uses_buffers.specs.Forms.{lossy, partial, strict};
 
+use crate::buffer_call::{BufferCall, call_through};
 use std::alloc::{AllocError, Allocator};
+use std::marker::PhantomData;
 use utf16_transcode::{
     Direction, FromUtf8, LossyDirection, Stop, Stream, ToUtf8, transcode, transcode_lossy,
     transcode_partial,
 };
 use utf16_units::Utf16Order;
+
+/// Calls of `transcode_lossy`.
+pub struct Lossy<D: LossyDirection>(PhantomData<D>);
+
+impl<D: LossyDirection> BufferCall for Lossy<D> {
+    type From = u8;
+
+    type To = u8;
+
+    type Stop = Stop;
+
+    ghost conversion = { lossy D.parts.whole D.into };
+
+    ghost least = { 4 };
+
+    fn call(input: &[u8], to: &mut [u8]) -> (usize, usize, Stop) {
+        let progress = transcode_lossy::<D>(input, to);
+        (progress.read, progress.written, progress.stop)
+    }
+
+    fn laws() {
+        D::lossy_laws();
+    }
+}
 
 /// Returns the whole text of the input in the other encoding, with the replacement of each
 /// ill-formed sequence and of a tail at the end, through a buffer of four bytes or more.
@@ -35,16 +63,7 @@ pub fn lossy_through<D: LossyDirection, A: Allocator>(
     ensures { IfOk result (λ all. vec_items all ≡ flat_map D.into (D.parts.whole input.now)) }
 {
     D::lossy_laws();
-    let mut all = Vec::new(alloc);
-    let mut rest = input;
-    loop {
-        let progress = transcode_lossy::<D>(rest, buffer);
-        all.extend_from_slice(&buffer[..progress.written])?;
-        rest = &rest[progress.read..];
-        let Stop::NoSpace = progress.stop else {
-            return Ok(all);
-        };
-    }
+    Ok(call_through::<Lossy<D>, A>(alloc, input, buffer)?.0)
 }
 
 /// Returns the whole text of a stream in the other encoding, with the replacement of each
@@ -68,14 +87,34 @@ pub fn stream_through<D: LossyDirection, A: Allocator, B: Allocator>(
         ≡ flat_map D.into (D.parts.whole (flat_map vec_items chunks.now))) }
 {
     D::lossy_laws();
-    let mut all = Vec::new(alloc);
-    let mut stream = Stream::new();
-    for chunk in chunks {
-        feed_through::<D, A>(&mut stream, chunk, buffer, &mut all)?;
-    }
+    let (mut all, mut stream) = feed_chunks::<D, A, B>(alloc, chunks, buffer)?;
     let progress = stream.finish::<D>(buffer);
     all.extend_from_slice(&buffer[..progress.written])?;
     Ok(all)
+}
+
+/// Calls of `transcode_partial`.
+pub struct Partial<D: LossyDirection>(PhantomData<D>);
+
+impl<D: LossyDirection> BufferCall for Partial<D> {
+    type From = u8;
+
+    type To = u8;
+
+    type Stop = Stop;
+
+    ghost conversion = { partial D.parts D.into };
+
+    ghost least = { 4 };
+
+    fn call(input: &[u8], to: &mut [u8]) -> (usize, usize, Stop) {
+        let progress = transcode_partial::<D>(input, to);
+        (progress.read, progress.written, progress.stop)
+    }
+
+    fn laws() {
+        D::lossy_laws();
+    }
 }
 
 /// Returns what is certain of the input in the other encoding, with the replacement of each
@@ -101,16 +140,8 @@ pub fn partial_through<D: LossyDirection, A: Allocator>(
     ensures within { IfOk result (λ done. done.1 ≤ length input.now) }
 {
     D::lossy_laws();
-    let mut all = Vec::new(alloc);
-    let mut at = 0;
-    loop {
-        let progress = transcode_partial::<D>(&input[at..], buffer);
-        all.extend_from_slice(&buffer[..progress.written])?;
-        at += progress.read;
-        let Stop::NoSpace = progress.stop else {
-            return Ok((all, at));
-        };
-    }
+    let (all, read, _) = call_through::<Partial<D>, A>(alloc, input, buffer)?;
+    Ok((all, read))
 }
 
 /// A direction that finds an error again after the text before it is taken away.
@@ -130,6 +161,31 @@ impl<E: Utf16Order> StrictDirection for FromUtf8<E> {
     fn strict_laws() {}
 }
 
+/// Calls of `transcode`.
+pub struct Strict<D: StrictDirection>(PhantomData<D>);
+
+impl<D: StrictDirection> BufferCall for Strict<D> {
+    type From = u8;
+
+    type To = u8;
+
+    type Stop = Stop;
+
+    ghost conversion = { strict (Gives D.IsValid D.other) D.from D.into D.IsIllFormed };
+
+    ghost least = { 4 };
+
+    fn call(input: &[u8], to: &mut [u8]) -> (usize, usize, Stop) {
+        let progress = transcode::<D>(input, to);
+        (progress.read, progress.written, progress.stop)
+    }
+
+    fn laws() {
+        D::laws();
+        D::strict_laws();
+    }
+}
+
 /// Returns the text of the input in the other encoding, up to the first ill-formed sequence,
 /// through a buffer of four bytes or more; the number of bytes read; and what follows them.
 ///
@@ -140,6 +196,7 @@ impl<E: Utf16Order> StrictDirection for FromUtf8<E> {
 /// # Errors
 ///
 /// If allocation fails.
+#[tactic(auto, using(crate::proofs::FormLemmas::strict_end))]
 pub fn strict_through<D: StrictDirection, A: Allocator>(
     alloc: A,
     input: &[u8],
@@ -149,18 +206,28 @@ pub fn strict_through<D: StrictDirection, A: Allocator>(
     ensures { IfOk result (λ done. ConvertsUpTo D.IsValid D.other D.IsIllFormed input.now
         (vec_items done.0) done.1 done.2) }
 {
-    D::laws();
-    D::strict_laws();
+    call_through::<Strict<D>, A>(alloc, input, buffer)
+}
+
+// Returns the text of what is certain of a stream in chunks, and the stream after them.
+pub(crate) fn feed_chunks<D: LossyDirection, A: Allocator, B: Allocator>(
+    alloc: A,
+    chunks: &[Vec<u8, B>],
+    buffer: &mut [u8],
+) -> Result<(Vec<u8, A>, Stream), AllocError>
+    requires { 4 ≤ length buffer.old }
+    ensures text { IfOk result (λ fed. vec_items fed.0
+        ≡ flat_map D.into (decided D.parts (flat_map vec_items chunks.now))) }
+    ensures pending { IfOk result (λ fed.
+        stream_pending fed.1 ≡ D.parts.tail (flat_map vec_items chunks.now)) }
+{
+    D::lossy_laws();
     let mut all = Vec::new(alloc);
-    let mut at = 0;
-    loop {
-        let progress = transcode::<D>(&input[at..], buffer);
-        all.extend_from_slice(&buffer[..progress.written])?;
-        at += progress.read;
-        let Stop::NoSpace = progress.stop else {
-            return Ok((all, at, progress.stop));
-        };
+    let mut stream = Stream::new();
+    for chunk in chunks {
+        feed_through::<D, A>(&mut stream, chunk, buffer, &mut all)?;
     }
+    Ok((all, stream))
 }
 
 // Appends the text of the next chunk of a stream.

@@ -87,7 +87,7 @@ impl<E: Utf16Order> BufferCall for ToUtf32Lossy<E> {
         (progress.read, progress.written, progress.stop)
     }
 
-    #[tactic(auto, using(crate::proofs::Utf32Lemmas::to_utf32_lossy_joined, crate::proofs::Utf32Lemmas::to_utf32_lossy_nothing))]
+    #[tactic(auto, using(crate::proofs::FormLemmas::lossy_joined))]
     fn laws() {}
 }
 

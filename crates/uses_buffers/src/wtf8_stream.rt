@@ -1,17 +1,17 @@
 //! A stream of UTF-16 that is converted to WTF-8 through a small buffer, in the loop that a program
 //! in C has.
 
-ghost use Rattle.std.specs.Prelude.{◌≡◌, ◌↔◌, ◌%◌, ◌≤◌, ◌++◌, ℕ, List, IfOk, IsTrue, OnOk, length};
+ghost use Rattle.std.specs.Prelude.{◌≡◌, ◌↔◌, ◌%◌, ◌≤◌, IfOk, IsTrue, length};
 ghost use Rattle.std.specs.List.{flat_map};
 ghost use Rattle.std.specs.Vec.{vec_items};
 ghost use Rattle.utf16_units.specs.Split.{split_tail};
-ghost use Rattle.utf16_transcode.specs.Stream.{stream_pending};
 ghost use Rattle.utf16_transcode.specs.declared.progress.Stop.TheVariants.{Incomplete};
 ghost use Rattle.utf16_wtf8.specs.ToWtf8.{points_of};
 ghost use Rattle.utf16_wtf8.specs.Wtf8.{generalized_utf8};
 
+use crate::small_buffer::feed_chunks;
 use std::alloc::{AllocError, Allocator};
-use utf16_transcode::{Stop, Stream};
+use utf16_transcode::Stop;
 use utf16_units::Utf16Order;
 use utf16_wtf8::{ToWtf8, finish_wtf8, to_wtf8};
 
@@ -36,11 +36,7 @@ pub fn decoder_feed_wtf8_through<E: Utf16Order, A: Allocator, B: Allocator>(
     ensures odd { IfOk result (λ done. IsTrue done.1
         ↔ (length (split_tail E.BIG (flat_map vec_items chunks.now)) % 2 ≡ 1)) }
 {
-    let mut all = Vec::new(alloc);
-    let mut stream = Stream::new();
-    for chunk in chunks {
-        feed_wtf8_through::<E, A>(&mut stream, chunk, buffer, &mut all)?;
-    }
+    let (mut all, mut stream) = feed_chunks::<ToWtf8<E>, A, B>(alloc, chunks, buffer)?;
     let end = finish_wtf8::<E>(&mut stream, buffer);
     if let Stop::Incomplete = end.stop {
         let last = to_wtf8::<E>(stream.pending(), buffer);
@@ -49,31 +45,4 @@ pub fn decoder_feed_wtf8_through<E: Utf16Order, A: Allocator, B: Allocator>(
     }
     all.extend_from_slice(&buffer[..end.written])?;
     Ok((all, false))
-}
-
-// Appends the WTF-8 of what is certain with the next chunk of a stream.
-fn feed_wtf8_through<E: Utf16Order, A: Allocator>(
-    stream: &mut Stream,
-    chunk: &[u8],
-    buffer: &mut [u8],
-    all: &mut Vec<u8, A>,
-) -> Result<(), AllocError>
-    requires { 4 ≤ length buffer.old }
-    ensures points { OnOk result ((more : List ℕ)
-        → vec_items all.old ++ flat_map generalized_utf8
-        (points_of E.BIG ((stream_pending stream.old ++ chunk.now) ++ more))
-        ≡ vec_items all.new ++ flat_map generalized_utf8
-        (points_of E.BIG (stream_pending stream.new ++ more))) }
-    ensures pending { OnOk result (stream_pending stream.new
-        ≡ split_tail E.BIG (stream_pending stream.old ++ chunk.now)) }
-{
-    let mut rest = chunk;
-    loop {
-        let progress = stream.feed::<ToWtf8<E>>(rest, buffer);
-        all.extend_from_slice(&buffer[..progress.written])?;
-        rest = &rest[progress.read..];
-        let Stop::NoSpace = progress.stop else {
-            return Ok(());
-        };
-    }
 }

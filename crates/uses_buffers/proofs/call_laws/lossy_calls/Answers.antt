@@ -1,5 +1,13 @@
-use Rattle.uses_buffers.proofs.CallLemmas.{lossy_calls, whole_nothing}
+use Rattle.std.proofs.Common.{refl}
+use Rattle.uses_buffers.proofs.CallLemmas.{composed}
+use Rattle.uses_buffers.proofs.FormLemmas.{lossy_end, lossy_joined, whole_nothing}
+use Rattle.uses_buffers.specs.Calls.{IsLossyCall}
+use Rattle.uses_buffers.specs.Forms.{lossy}
 use Rattle.uses_buffers.proofs.call_laws.lossy_calls.Goals as goal
 
 pub returns : goal.returns
-returns g c = lossy_calls g.D.LossyDirection.parts.whole _ (whole_nothing g.D.LossyDirection.parts g.D.LossyDirection.into c.lossy_laws.ensures.chunks)
+returns g c input calls last run =
+    let parts = g.D.LossyDirection.parts in
+    let into = g.D.LossyDirection.into in
+    lossy_end parts.whole into (whole_nothing parts into c.lossy_laws.ensures.chunks) input _ _ last.stop
+    (composed (IsLossyCall parts.whole into) (lossy parts.whole into) refl (λ input call did. record { within = did.0.within; writes = did.0.shown; stops = did.1 }) (lossy_joined parts.whole into) input calls last run)

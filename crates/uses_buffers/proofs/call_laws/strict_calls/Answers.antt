@@ -1,7 +1,15 @@
-use Rattle.uses_buffers.proofs.CallLemmas.{strict_calls}
+use Rattle.std.proofs.Common.{refl}
+use Rattle.utf16_transcode.specs.Wrote.{Gives}
+use Rattle.uses_buffers.proofs.CallLemmas.{composed}
+use Rattle.uses_buffers.proofs.FormLemmas.{strict_end, strict_joined_there}
+use Rattle.uses_buffers.specs.Calls.{IsStrictCall}
+use Rattle.uses_buffers.specs.Forms.{strict}
 use Rattle.uses_buffers.proofs.call_laws.strict_calls.Goals as goal
 
 pub returns : goal.returns
-returns g c =
-    strict_calls g.D.Direction.from g.D.Direction.into g.D.Direction.IsValid g.D.Direction.other g.D.Direction.IsIllFormedAt g.D.Direction.IsIllFormed
-    c.laws.ensures.joins c.laws.ensures.ill_formed c.strict_laws.ensures c.laws.ensures.of_nothing
+returns g c input calls last run =
+    let d = g.D.Direction in
+    strict_end d.from d.into d.IsValid d.other d.IsIllFormed input _ _ last.stop
+    (composed (IsStrictCall d.from d.into d.IsValid d.other d.IsIllFormed) (strict (Gives d.IsValid d.other) d.from d.into d.IsIllFormed) refl
+    (λ input call did. record { within = did.0.within; writes = did.0.gives; stops = did.1 })
+    (strict_joined_there d.from d.into d.IsValid d.other d.IsIllFormedAt d.IsIllFormed c.laws.ensures.joins c.laws.ensures.ill_formed c.strict_laws.ensures) input calls last run)

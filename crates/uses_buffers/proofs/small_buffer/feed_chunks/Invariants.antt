@@ -3,7 +3,7 @@ use Rattle.std.specs.List.{flat_map}
 use Rattle.std.specs.Vec.{vec_items}
 use Rattle.utf16_transcode.specs.Decomposition.{decided}
 use Rattle.utf16_transcode.specs.Stream.{stream_pending}
-use Rattle.uses_buffers.proofs.small_buffer.stream_through.Given as goal
+use Rattle.uses_buffers.proofs.small_buffer.feed_chunks.Given as goal
 
 -- the text so far is what is certain of the chunks so far, and their tail is pending
 abbrev pub invariant-loop-chunk : goal.invariant-loop-chunk
