@@ -2,17 +2,35 @@
 //!
 //! The last block ends where the last code unit does, so some units before it are written again.
 
-ghost use Rattle.std.specs.Prelude.{◌≡◌, ◌+◌, ◌*◌, ◌≤◌, ◌++◌, length, take};
+ghost use Rattle.std.specs.Prelude.{◌≡◌, ◌+◌, ◌*◌, ◌≤◌, ◌++◌, ⊤, length, take};
 ghost use Rattle.std.specs.List.{flat_map};
 ghost use Rattle.utf16_units.specs.Unit.{unit_bytes};
 ghost use Rattle.utf16_fixed.specs.Progress.{IsNarrowed};
 ghost use Rattle.utf16_fixed.specs.Utf32.{TranscodesFromUtf32};
 
+use crate::blocks::{Block, Run, write_run};
 use crate::lanes::{are_basic, basic_len, low_units};
+use crate::stores::{put_half, put_sixteen};
+use std::marker::PhantomData;
 use std::simd::prelude::*;
 use utf16_transcode::put;
 use utf16_units::Utf16Order;
-use utf16_units::blocks::{bytes16, units8};
+use utf16_units::blocks::units8;
+
+// Characters of one UTF-16 code unit each, from UTF-32.
+struct Basic<E: Utf16Order>(PhantomData<E>);
+
+impl<E: Utf16Order> Run for Basic<E> {
+    type From = u32;
+
+    type To = u8;
+
+    ghost read = { 1 };
+
+    ghost written = { 2 };
+
+    ghost IsWritten = { λ utf32 before to n. IsNarrowed E.BIG utf32 to n };
+}
 
 // Writes the characters of one UTF-16 code unit each at the start of UTF-32 to the start of a
 // buffer, as far as they fit, and returns how many.
@@ -23,129 +41,51 @@ pub(crate) fn write_basic<E: Utf16Order>(utf32: &[u32], to: &mut [u8]) -> usize
     ensures text { TranscodesFromUtf32 E.BIG (take result utf32.now) (take (2 * result) to.new) }
 {
     let most = utf32.len().min(to.len() / 2);
-    let at = write_wide_blocks::<E>(utf32, to, most);
-    let at = write_blocks::<E>(utf32, to, at, most);
-    write_last_units::<E>(utf32, to, at, most)
+    write_run::<Basic<E>>(utf32, to, most)
 }
 
-// Writes blocks of thirty-two characters.
-#[inline(always)]
-fn write_wide_blocks<E: Utf16Order>(utf32: &[u32], to: &mut [u8], most: usize) -> usize
-    requires within { most ≤ length utf32.now }
-    requires fits { 2 * most ≤ length to.old }
-    ensures narrowed { IsNarrowed E.BIG utf32.now to.new result }
-    ensures few { result ≤ most }
-{
-    let mut at = 0;
-    while most - at >= 32 {
+// Thirty-two characters, or none.
+impl<E: Utf16Order> Block<32> for Basic<E> {
+    ghost Stops = { λ utf32 n. ⊤ };
+
+    #[inline(always)]
+    fn write(utf32: &[u32], to: &mut [u8], at: usize) -> usize {
         let first = low_units(u32x16::from_slice(&utf32[at..]));
         let second = low_units(u32x16::from_slice(&utf32[at + 16..]));
         if !are_basic(first, second) {
-            break;
+            return 0;
         }
         put_sixteen::<E>(to, 2 * at, first);
         put_sixteen::<E>(to, 2 * (at + 16), second);
-        at += 32;
+        32
     }
-    at
 }
 
-// Writes blocks of eight characters, after those that were written, up to another one in a block.
-#[inline(always)]
-fn write_blocks<E: Utf16Order>(utf32: &[u32], to: &mut [u8], from: usize, most: usize) -> usize
-    requires within { most ≤ length utf32.now }
-    requires fits { 2 * most ≤ length to.old }
-    requires few { from ≤ most }
-    requires narrowed { IsNarrowed E.BIG utf32.now to.old from }
-    ensures narrowed { IsNarrowed E.BIG utf32.now to.new result }
-    ensures few { result ≤ most }
-{
-    let mut at = from;
-    while most - at >= 8 {
-        let len = write_block::<E>(utf32, to, at);
-        at += len;
-        if len < 8 {
-            break;
-        }
+// The characters of eight that are before another one.
+impl<E: Utf16Order> Block<8> for Basic<E> {
+    ghost Stops = { λ utf32 n. ⊤ };
+
+    #[inline(always)]
+    fn write(utf32: &[u32], to: &mut [u8], at: usize) -> usize {
+        let units = u32x8::from_slice(&utf32[at..]);
+        let low = low_units(units);
+        put_half(to, 2 * at, bytes8::<E>(low));
+        basic_len(units, low)
     }
-    at
 }
 
-// Writes the characters that are left if they are fewer than eight, up to another one.
-#[inline(always)]
-fn write_last_units<E: Utf16Order>(utf32: &[u32], to: &mut [u8], from: usize, most: usize) -> usize
-    requires within { most ≤ length utf32.now }
-    requires fits { 2 * most ≤ length to.old }
-    requires few { from ≤ most }
-    requires narrowed { IsNarrowed E.BIG utf32.now to.old from }
-    ensures narrowed { IsNarrowed E.BIG utf32.now to.new result }
-{
-    if most - from >= 8 {
-        return from;
-    }
-    if most >= 8 {
-        let last = most - 8;
-        return last + write_block::<E>(utf32, to, last);
-    }
-    write_few_units::<E>(utf32, to, from, most)
-}
+impl<E: Utf16Order> Block<1> for Basic<E> {
+    ghost Stops = { λ utf32 n. ⊤ };
 
-// Writes characters one by one, after those that were written, up to another one.
-#[inline(always)]
-fn write_few_units<E: Utf16Order>(utf32: &[u32], to: &mut [u8], from: usize, most: usize) -> usize
-    requires within { most ≤ length utf32.now }
-    requires fits { 2 * most ≤ length to.old }
-    requires few { from ≤ most }
-    requires narrowed { IsNarrowed E.BIG utf32.now to.old from }
-    ensures narrowed { IsNarrowed E.BIG utf32.now to.new result }
-{
-    let mut at = from;
-    while at < most {
+    #[inline(always)]
+    fn write(utf32: &[u32], to: &mut [u8], at: usize) -> usize {
         let unit = utf32[at];
         if unit > 0xFFFF || unit / 0x800 == 0x1B {
-            break;
+            return 0;
         }
         put(&E::write_unit(unit as u16), to, 2 * at);
-        at += 1;
+        1
     }
-    at
-}
-
-// Writes the low units of the eight code units at `at`, and returns how many of these are
-// characters of one UTF-16 code unit, up to another one. Only these count.
-#[inline(always)]
-fn write_block<E: Utf16Order>(utf32: &[u32], to: &mut [u8], at: usize) -> usize
-    requires within { at + 8 ≤ length utf32.now }
-    requires fits { 2 * at + 16 ≤ length to.old }
-    ensures few { result ≤ 8 }
-    ensures narrowed { IsNarrowed E.BIG utf32.now to.old at
-        → IsNarrowed E.BIG utf32.now to.new (at + result) }
-{
-    let units = u32x8::from_slice(&utf32[at..]);
-    let low = low_units(units);
-    put_half(to, 2 * at, bytes8::<E>(low));
-    basic_len(units, low)
-}
-
-// Writes sixteen units at `at`.
-#[inline(always)]
-fn put_sixteen<E: Utf16Order>(to: &mut [u8], at: usize, units: u16x16)
-    requires { at + 32 ≤ length to.old }
-    ensures { take (at + 32) to.new ≡ take at to.old ++ flat_map (unit_bytes E.BIG) units }
-{
-    let bytes = bytes16::<E>(units);
-    // Two stores, of which the first stays first, as for UTF-32.
-    put_half(to, at, bytes.extract::<0, 16>());
-    put_half(to, at + 16, bytes.extract::<16, 16>());
-}
-
-// Writes sixteen bytes at `at`.
-#[inline(always)]
-fn put_half(to: &mut [u8], at: usize, bytes: u8x16)
-    requires { at + 16 ≤ length to.old }
-    ensures { take (at + 16) to.new ≡ take at to.old ++ bytes }
-{
-    bytes.copy_to_slice(&mut to[at..]);
 }
 
 // The sixteen bytes of eight units. Read in an order, the bytes of little endian give units whose

@@ -9,6 +9,7 @@
 
 mod basic;
 mod below;
+mod blocks;
 mod chars;
 mod decode;
 mod decode_lossy;
@@ -21,6 +22,7 @@ mod pairs;
 mod plain;
 mod repertoire;
 mod scan;
+mod stores;
 mod validate;
 mod widen;
 

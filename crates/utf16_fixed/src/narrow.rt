@@ -3,7 +3,7 @@
 //! A block is written only if all its code units are such. So the bytes after the written ones are
 //! unchanged, and code units are tested one by one only at the end and before another character.
 
-ghost use Rattle.std.specs.Prelude.{◌≡◌, ◌≢◌, ◌+◌, ◌-◌, ◌*◌, ◌/◌, ◌<◌, ◌≤◌, All, List, ℕ, length, slice_index, take, drop};
+ghost use Rattle.std.specs.Prelude.{◌≡◌, ◌≢◌, ◌+◌, ◌-◌, ◌*◌, ◌/◌, ◌<◌, ◌≤◌, ⊤, All, length, slice_index, take, drop};
 ghost use Rattle.utf16_units.specs.Encoding.{Encodes, IsUtf16, text_of};
 ghost use Rattle.utf16_units.specs.Unit.{unit_of};
 ghost use Rattle.utf16_fixed.specs.Repertoire.{HasAll};
@@ -13,7 +13,9 @@ ghost use Rattle.utf16_fixed.specs.declared.repertoire.Repertoire.TheVariants.{L
 ghost use Rattle.utf16_fixed.specs.declared.latin1_progress.Latin1Stop.TheVariants.{Done, NoSpace};
 
 use crate::below::are_below;
+use crate::blocks::{Block, Run, write_blocks};
 use crate::latin1_progress::{Latin1Progress, Latin1Stop};
+use std::marker::PhantomData;
 use std::simd::prelude::*;
 use utf16_units::blocks::{units8, units32};
 use utf16_units::{Utf16Order, first_char_len};
@@ -79,76 +81,67 @@ fn write_units<E: Utf16Order>(raw: &[u8], to: &mut [u8]) -> usize
         (slice_index raw.now (2 * result + 1)) }
 {
     let most = (raw.len() / 2).min(to.len());
-    let at = write_wide_blocks::<E>(raw, to, most);
-    let at = write_narrow_blocks::<E>(raw, to, at, most);
-    write_single_units::<E>(raw, to, at, most)
+    let at = write_blocks::<Narrow<E>, 32>(raw, to, 0, most);
+    let at = write_blocks::<Narrow<E>, 8>(raw, to, at, most);
+    write_blocks::<Narrow<E>, 1>(raw, to, at, most)
 }
 
-// Writes blocks of thirty-two code units.
-#[inline(always)]
-fn write_wide_blocks<E: Utf16Order>(raw: &[u8], to: &mut [u8], most: usize) -> usize
-    requires within { 2 * most ≤ length raw.now }
-    requires fits { most ≤ length to.old }
-    ensures narrowed { IsNarrowed E.BIG raw.now to.old to.new result }
-    ensures few { result ≤ most }
-{
-    let mut at = 0;
-    while most - at >= 32 {
+// Code units up to 0xFF, to Latin-1.
+struct Narrow<E: Utf16Order>(PhantomData<E>);
+
+impl<E: Utf16Order> Run for Narrow<E> {
+    type From = u8;
+
+    type To = u8;
+
+    ghost read = { 2 };
+
+    ghost written = { 1 };
+
+    ghost IsWritten = { IsNarrowed E.BIG };
+}
+
+impl<E: Utf16Order> Block<32> for Narrow<E> {
+    ghost Stops = { λ raw n. ⊤ };
+
+    #[inline(always)]
+    fn write(raw: &[u8], to: &mut [u8], at: usize) -> usize {
         let units = units32::<E>(u8x64::from_slice(&raw[2 * at..]));
         if !are_below(units, 0x100) {
-            break;
+            return 0;
         }
         low_bytes(units).copy_to_slice(&mut to[at..]);
-        at += 32;
+        32
     }
-    at
 }
 
-// Writes blocks of eight code units, after those that were written.
-#[inline(always)]
-fn write_narrow_blocks<E: Utf16Order>(raw: &[u8], to: &mut [u8], from: usize, most: usize) -> usize
-    requires within { 2 * most ≤ length raw.now }
-    requires fits { most ≤ length to.old }
-    requires few { from ≤ most }
-    ensures narrowed { (before : List ℕ) → IsNarrowed E.BIG raw.now before to.old from
-        → IsNarrowed E.BIG raw.now before to.new result }
-    ensures few { result ≤ most }
-{
-    let mut at = from;
-    while most - at >= 8 {
+impl<E: Utf16Order> Block<8> for Narrow<E> {
+    ghost Stops = { λ raw n. ⊤ };
+
+    #[inline(always)]
+    fn write(raw: &[u8], to: &mut [u8], at: usize) -> usize {
         let units = units8::<E>(u8x16::from_slice(&raw[2 * at..]));
         if !are_below(units, 0x100) {
-            break;
+            return 0;
         }
         low_bytes(units).copy_to_slice(&mut to[at..]);
-        at += 8;
+        8
     }
-    at
 }
 
-// Writes code units one by one, after those that were written.
-#[inline(always)]
-fn write_single_units<E: Utf16Order>(raw: &[u8], to: &mut [u8], from: usize, most: usize) -> usize
-    requires within { 2 * most ≤ length raw.now }
-    requires fits { most ≤ length to.old }
-    requires few { from ≤ most }
-    ensures narrowed { (before : List ℕ) → IsNarrowed E.BIG raw.now before to.old from
-        → IsNarrowed E.BIG raw.now before to.new result }
-    ensures few { result ≤ most }
-    ensures stop { result < most
-        → 0x100 ≤ unit_of E.BIG (slice_index raw.now (2 * result))
-        (slice_index raw.now (2 * result + 1)) }
-{
-    let mut at = from;
-    while at < most {
+impl<E: Utf16Order> Block<1> for Narrow<E> {
+    ghost Stops = { λ raw n.
+        0x100 ≤ unit_of E.BIG (slice_index raw (2 * n)) (slice_index raw (2 * n + 1)) };
+
+    #[inline(always)]
+    fn write(raw: &[u8], to: &mut [u8], at: usize) -> usize {
         let unit = E::read_unit([raw[2 * at], raw[2 * at + 1]]);
         if unit >= 0x100 {
-            break;
+            return 0;
         }
         to[at] = unit as u8;
-        at += 1;
+        1
     }
-    at
 }
 
 // The code units as bytes.

@@ -2,15 +2,32 @@
 //!
 //! The last block ends where the last unit does, so some units before it are written again.
 
-ghost use Rattle.std.specs.Prelude.{◌≡◌, ◌+◌, ◌*◌, ◌≤◌, ◌++◌, length, take};
+ghost use Rattle.std.specs.Prelude.{◌≡◌, ◌+◌, ◌*◌, ◌≤◌, ◌++◌, ⊤, length, take};
 ghost use Rattle.utf16_fixed.specs.Progress.{IsWidened};
 ghost use Rattle.utf16_fixed.specs.Utf32.{TranscodesToUtf32};
 
+use crate::blocks::{Block, Run, write_run};
 use crate::lanes::has_no_low_surrogate;
+use std::marker::PhantomData;
 use std::simd::prelude::*;
 use utf16_units::Utf16Order;
 use utf16_units::blocks::{units8, units32};
 use utf16_units::surrogates::plain_len;
+
+// Code units that are not surrogates, to UTF-32.
+struct Plain<E: Utf16Order>(PhantomData<E>);
+
+impl<E: Utf16Order> Run for Plain<E> {
+    type From = u8;
+
+    type To = u32;
+
+    ghost read = { 2 };
+
+    ghost written = { 1 };
+
+    ghost IsWritten = { λ raw before to n. IsWidened E.BIG raw to n };
+}
 
 // Writes the code units before the first surrogate to the start of a buffer, as far as they fit,
 // and returns how many.
@@ -21,105 +38,48 @@ pub(crate) fn write_plain<E: Utf16Order>(raw: &[u8], to: &mut [u32]) -> usize
     ensures text { TranscodesToUtf32 E.BIG (take (2 * result) raw.now) (take result to.new) }
 {
     let most = (raw.len() / 2).min(to.len());
-    let at = write_wide_blocks::<E>(raw, to, most);
-    let at = write_blocks::<E>(raw, to, at, most);
-    write_last_units::<E>(raw, to, at, most)
+    write_run::<Plain<E>>(raw, to, most)
 }
 
-// Writes blocks of thirty-two units.
-#[inline(always)]
-fn write_wide_blocks<E: Utf16Order>(raw: &[u8], to: &mut [u32], most: usize) -> usize
-    requires within { 2 * most ≤ length raw.now }
-    requires fits { most ≤ length to.old }
-    ensures widened { IsWidened E.BIG raw.now to.new result }
-    ensures few { result ≤ most }
-{
-    let mut at = 0;
-    while most - at >= 32 {
+// Thirty-two units, or none.
+impl<E: Utf16Order> Block<32> for Plain<E> {
+    ghost Stops = { λ raw n. ⊤ };
+
+    #[inline(always)]
+    fn write(raw: &[u8], to: &mut [u32], at: usize) -> usize {
         let units = units32::<E>(u8x64::from_slice(&raw[2 * at..]));
         if !has_no_low_surrogate(units) {
-            break;
+            return 0;
         }
         put_wide(to, at, units);
-        at += 32;
+        32
     }
-    at
 }
 
-// Writes blocks of eight units, after those that were written, up to a surrogate in one.
-#[inline(always)]
-fn write_blocks<E: Utf16Order>(raw: &[u8], to: &mut [u32], from: usize, most: usize) -> usize
-    requires within { 2 * most ≤ length raw.now }
-    requires fits { most ≤ length to.old }
-    requires few { from ≤ most }
-    requires widened { IsWidened E.BIG raw.now to.old from }
-    ensures widened { IsWidened E.BIG raw.now to.new result }
-    ensures few { result ≤ most }
-{
-    let mut at = from;
-    while most - at >= 8 {
-        let len = write_block::<E>(raw, to, at);
-        at += len;
-        if len < 8 {
-            break;
-        }
+// The units of eight that are before the first surrogate.
+impl<E: Utf16Order> Block<8> for Plain<E> {
+    ghost Stops = { λ raw n. ⊤ };
+
+    #[inline(always)]
+    fn write(raw: &[u8], to: &mut [u32], at: usize) -> usize {
+        let units = units8::<E>(u8x16::from_slice(&raw[2 * at..]));
+        put_eight(to, at, units);
+        plain_len(units)
     }
-    at
 }
 
-// Writes the units that are left if they are fewer than eight, up to a surrogate.
-#[inline(always)]
-fn write_last_units<E: Utf16Order>(raw: &[u8], to: &mut [u32], from: usize, most: usize) -> usize
-    requires within { 2 * most ≤ length raw.now }
-    requires fits { most ≤ length to.old }
-    requires few { from ≤ most }
-    requires widened { IsWidened E.BIG raw.now to.old from }
-    ensures widened { IsWidened E.BIG raw.now to.new result }
-{
-    if most - from >= 8 {
-        return from;
-    }
-    if most >= 8 {
-        let last = most - 8;
-        return last + write_block::<E>(raw, to, last);
-    }
-    write_few_units::<E>(raw, to, from, most)
-}
+impl<E: Utf16Order> Block<1> for Plain<E> {
+    ghost Stops = { λ raw n. ⊤ };
 
-// Writes units one by one, after those that were written, up to a surrogate.
-#[inline(always)]
-fn write_few_units<E: Utf16Order>(raw: &[u8], to: &mut [u32], from: usize, most: usize) -> usize
-    requires within { 2 * most ≤ length raw.now }
-    requires fits { most ≤ length to.old }
-    requires few { from ≤ most }
-    requires widened { IsWidened E.BIG raw.now to.old from }
-    ensures widened { IsWidened E.BIG raw.now to.new result }
-{
-    let mut at = from;
-    while at < most {
+    #[inline(always)]
+    fn write(raw: &[u8], to: &mut [u32], at: usize) -> usize {
         let unit = E::read_unit([raw[2 * at], raw[2 * at + 1]]);
         if unit / 0x800 == 0x1B {
-            break;
+            return 0;
         }
         to[at] = unit as u32;
-        at += 1;
+        1
     }
-    at
-}
-
-// Writes the eight units at `at`, and returns how many of them are before the first surrogate. Only
-// these count.
-#[inline(always)]
-fn write_block<E: Utf16Order>(raw: &[u8], to: &mut [u32], at: usize) -> usize
-    requires within { 2 * at + 16 ≤ length raw.now }
-    requires fits { at + 8 ≤ length to.old }
-    ensures few { result ≤ 8 }
-    ensures widened { (to_before : IsWidened E.BIG raw.now to.old at)
-        → IsWidened E.BIG raw.now to.new (at + result) }
-{
-    let units = units8::<E>(u8x16::from_slice(&raw[2 * at..]));
-    put_eight(to, at, units);
-    plain_len(units)
 }
 
 // Writes thirty-two units at `at`.

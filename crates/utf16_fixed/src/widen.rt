@@ -1,14 +1,16 @@
 //! From Latin-1 to UTF-16: each byte becomes the code unit with its number.
 
-ghost use Rattle.std.specs.Prelude.{◌≡◌, ◌+◌, ◌*◌, ◌/◌, ◌<◌, ◌≤◌, ◌++◌, List, ℕ, if◌then◌else◌, length, min, nat_le, take, drop};
+ghost use Rattle.std.specs.Prelude.{◌≡◌, ◌+◌, ◌*◌, ◌/◌, ◌≤◌, ◌++◌, if◌then◌else◌, length, min, nat_le, take, drop};
 ghost use Rattle.utf16_units.specs.Encoding.{Encodes, encode};
 ghost use Rattle.utf16_transcode.specs.declared.progress.Stop.TheVariants.{Done, NoSpace};
 ghost use Rattle.utf16_fixed.specs.Written.{IsWidened};
 
+use crate::blocks::{Block, Run, write_blocks};
+use crate::stores::put_sixteen;
+use std::marker::PhantomData;
 use std::simd::prelude::*;
-use utf16_transcode::{Progress, Stop};
+use utf16_transcode::{Progress, Stop, put};
 use utf16_units::Utf16Order;
-use utf16_units::blocks::bytes16;
 
 /// Writes Latin-1 in UTF-16 to the start of a buffer, as far as it fits. Any bytes are Latin-1. So
 /// the call stops with `Done`, or with `NoSpace` if fewer than two bytes of the buffer are left.
@@ -28,8 +30,7 @@ pub fn from_latin1<E: Utf16Order>(latin1: &[u8], to: &mut [u8]) -> Progress
         else NoSpace }
 {
     let most = latin1.len().min(to.len() / 2);
-    let at = write_blocks::<E>(latin1, to, most);
-    write_last_bytes::<E>(latin1, to, at, most);
+    write_bytes::<E>(latin1, to, most);
     Progress {
         read: most,
         written: 2 * most,
@@ -41,96 +42,64 @@ pub fn from_latin1<E: Utf16Order>(latin1: &[u8], to: &mut [u8]) -> Progress
     }
 }
 
-// Writes blocks of sixteen bytes.
-#[inline(always)]
-fn write_blocks<E: Utf16Order>(latin1: &[u8], to: &mut [u8], most: usize) -> usize
-    requires within { most ≤ length latin1.now }
-    requires fits { 2 * most ≤ length to.old }
-    ensures widened { IsWidened E.BIG latin1.now to.old to.new result }
-    ensures few { result ≤ most }
-    ensures last { most ≤ result + 16 }
-{
-    let mut at = 0;
-    while most - at >= 16 {
-        write_block::<E>(u8x16::from_slice(&latin1[at..]), to, 2 * at);
-        at += 16;
-    }
-    at
+// Any bytes, to UTF-16.
+struct Widen<E: Utf16Order>(PhantomData<E>);
+
+impl<E: Utf16Order> Run for Widen<E> {
+    type From = u8;
+
+    type To = u8;
+
+    ghost read = { 1 };
+
+    ghost written = { 2 };
+
+    ghost IsWritten = { IsWidened E.BIG };
 }
 
-// Writes the bytes up to `most`, at most sixteen. If there are enough bytes, it writes a block that
-// ends there, and some bytes before them are written again.
+impl<E: Utf16Order> Block<16> for Widen<E> {
+    ghost Stops = { λ latin1 n. ⊥ };
+
+    #[inline(always)]
+    fn write(latin1: &[u8], to: &mut [u8], at: usize) -> usize {
+        write_sixteen::<E>(u8x16::from_slice(&latin1[at..]), to, 2 * at);
+        16
+    }
+}
+
+impl<E: Utf16Order> Block<1> for Widen<E> {
+    ghost Stops = { λ latin1 n. ⊥ };
+
+    #[inline(always)]
+    fn write(latin1: &[u8], to: &mut [u8], at: usize) -> usize {
+        put(&E::write_unit(latin1[at] as u16), to, 2 * at);
+        1
+    }
+}
+
+// Writes the first `most` bytes in blocks. The last block ends where the last byte does, so some
+// bytes before it are written again. Fewer than sixteen bytes are written one by one.
 #[inline(always)]
-fn write_last_bytes<E: Utf16Order>(latin1: &[u8], to: &mut [u8], from: usize, most: usize)
+fn write_bytes<E: Utf16Order>(latin1: &[u8], to: &mut [u8], most: usize)
     requires within { most ≤ length latin1.now }
     requires fits { 2 * most ≤ length to.old }
-    requires few { from ≤ most }
-    requires last { most ≤ from + 16 }
-    ensures { (before : List ℕ) → IsWidened E.BIG latin1.now before to.old from
-        → IsWidened E.BIG latin1.now before to.new most }
+    ensures { IsWidened E.BIG latin1.now to.old to.new most }
 {
+    let at = write_blocks::<Widen<E>, 16>(latin1, to, 0, most);
     if most >= 16 {
         let last = most - 16;
-        write_block::<E>(u8x16::from_slice(&latin1[last..]), to, 2 * last);
+        write_sixteen::<E>(u8x16::from_slice(&latin1[last..]), to, 2 * last);
     } else {
-        write_single_bytes::<E>(latin1, to, from, most);
+        write_blocks::<Widen<E>, 1>(latin1, to, at, most);
     }
-}
-
-// Writes the bytes up to `most` one by one, after those that were written.
-#[inline(always)]
-fn write_single_bytes<E: Utf16Order>(latin1: &[u8], to: &mut [u8], from: usize, most: usize)
-    requires within { most ≤ length latin1.now }
-    requires fits { 2 * most ≤ length to.old }
-    requires few { from ≤ most }
-    ensures { (before : List ℕ) → IsWidened E.BIG latin1.now before to.old from
-        → IsWidened E.BIG latin1.now before to.new most }
-{
-    for at in from..most {
-        put_unit(to, 2 * at, E::write_unit(latin1[at] as u16));
-    }
-}
-
-// Writes the two bytes of a code unit at `at`.
-#[inline(always)]
-fn put_unit(to: &mut [u8], at: usize, unit: [u8; 2])
-    requires { at + 2 ≤ length to.old }
-    ensures bytes { take (at + 2) to.new ≡ take at to.old ++ unit }
-    ensures rest { drop (at + 2) to.new ≡ drop (at + 2) to.old }
-{
-    to[at] = unit[0];
-    to[at + 1] = unit[1];
 }
 
 // Writes sixteen bytes in UTF-16 at `at`.
 #[inline(always)]
-fn write_block<E: Utf16Order>(block: u8x16, to: &mut [u8], at: usize)
+fn write_sixteen<E: Utf16Order>(block: u8x16, to: &mut [u8], at: usize)
     requires { at + 32 ≤ length to.old }
     ensures bytes { take (at + 32) to.new ≡ take at to.old ++ encode E.BIG block }
     ensures rest { drop (at + 32) to.new ≡ drop (at + 32) to.old }
 {
-    let (first, second) = halves(bytes16::<E>(block.cast::<u16>()));
-    // Two stores: on x86-64-v3 they become one. On x86-64-v2 one store becomes two, the later half
-    // first, and then a block takes 1.6 times as long.
-    put_half(to, at, first);
-    put_half(to, at + 16, second);
-}
-
-// The first and the last sixteen bytes.
-#[inline(always)]
-fn halves(bytes: u8x32) -> (u8x16, u8x16)
-    ensures len { (length result.0 ≡ 16) × (length result.1 ≡ 16) }
-    ensures halves { result.0 ++ result.1 ≡ bytes }
-{
-    (bytes.extract::<0, 16>(), bytes.extract::<16, 16>())
-}
-
-// Writes sixteen bytes at `at`.
-#[inline(always)]
-fn put_half(to: &mut [u8], at: usize, half: u8x16)
-    requires { at + 16 ≤ length to.old }
-    ensures bytes { take (at + 16) to.new ≡ take at to.old ++ half }
-    ensures rest { drop (at + 16) to.new ≡ drop (at + 16) to.old }
-{
-    half.copy_to_slice(&mut to[at..]);
+    put_sixteen::<E>(to, at, block.cast::<u16>());
 }

@@ -1,6 +1,12 @@
-use Rattle.utf16_fixed.proofs.PlainLemmas.{widened-text}
+use Rattle.utf16_fixed.proofs.PlainLemmas.{IsWidened-fewer, IsWidened-none, widened-text}
 use Rattle.utf16_fixed.proofs.plain.write_plain.Goals as goal
 
 pub returns-clause-text : goal.returns-clause-text
 returns-clause-text g c =
-    widened-text g.E.Utf16Order.BIG c.args.raw.now c.write_last_units.new.to c.write_last_units.result c.write_last_units.ensures.widened c.type_inv.raw
+    let big = g.E.Utf16Order.BIG in
+    let raw = c.args.raw.now in
+    let to = c.args.to.now in
+    widened-text big raw c.write_run.new.to c.write_run.result (c.write_run.ensures.written to (IsWidened-none big raw to)) c.type_inv.raw
+
+pub write_run-requires-clause-fewer : goal.write_run-requires-clause-fewer
+write_run-requires-clause-fewer g c before out m n few done = IsWidened-fewer g.E.Utf16Order.BIG c.args.raw.now out n done m few
