@@ -8,7 +8,7 @@ ghost use Rattle.utf16_units.specs.Unit.{unit_bytes};
 ghost use Rattle.utf16_fixed.specs.Progress.{IsNarrowed};
 ghost use Rattle.utf16_fixed.specs.Utf32.{TranscodesFromUtf32};
 
-use crate::blocks::{Block, Run, write_run};
+use crate::blocks::{Block, Fixed, write_in_blocks};
 use crate::lanes::{are_basic, basic_len, low_units};
 use crate::stores::{put_half, put_sixteen};
 use std::marker::PhantomData;
@@ -20,7 +20,7 @@ use utf16_units::blocks::units8;
 // Characters of one UTF-16 code unit each, from UTF-32.
 struct Basic<E: Utf16Order>(PhantomData<E>);
 
-impl<E: Utf16Order> Run for Basic<E> {
+impl<E: Utf16Order> Fixed for Basic<E> {
     type From = u32;
 
     type To = u8;
@@ -41,7 +41,7 @@ pub(crate) fn write_basic<E: Utf16Order>(utf32: &[u32], to: &mut [u8]) -> usize
     ensures text { TranscodesFromUtf32 E.BIG (take result utf32.now) (take (2 * result) to.new) }
 {
     let most = utf32.len().min(to.len() / 2);
-    write_run::<Basic<E>>(utf32, to, most)
+    write_in_blocks::<Basic<E>>(utf32, to, most)
 }
 
 // Thirty-two characters, or none.

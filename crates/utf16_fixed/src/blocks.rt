@@ -3,7 +3,7 @@
 ghost use Rattle.std.specs.Prelude.{◌+◌, ◌*◌, ◌<◌, ◌≤◌, List, ℕ, length};
 
 // A conversion of characters that all take the same number of units.
-pub(crate) trait Run {
+pub(crate) trait Fixed {
     type From;
 
     type To;
@@ -18,7 +18,7 @@ pub(crate) trait Run {
 }
 
 // A conversion that writes blocks of `N` characters.
-pub(crate) trait Block<const N: usize>: Run {
+pub(crate) trait Block<const N: usize>: Fixed {
     // What is known of the character after those that count, if they are fewer than `N`.
     ghost Stops: { List Self.From → ℕ → Type 0 };
 
@@ -36,7 +36,7 @@ pub(crate) trait Block<const N: usize>: Run {
 // Writes blocks after the characters before `start`, up to a block that does not count whole, and
 // returns how many characters are written.
 #[inline(always)]
-pub(crate) fn write_blocks<R: Block<N>, const N: usize>(
+pub(crate) fn repeat_block<R: Block<N>, const N: usize>(
     from: &[R::From],
     to: &mut [R::To],
     start: usize,
@@ -66,7 +66,7 @@ pub(crate) fn write_blocks<R: Block<N>, const N: usize>(
 // and returns how many are written. The last block ends where the last character does, so some
 // characters before it are written again.
 #[inline(always)]
-pub(crate) fn write_run<R: Block<1> + Block<8> + Block<32>>(
+pub(crate) fn write_in_blocks<R: Block<1> + Block<8> + Block<32>>(
     from: &[R::From],
     to: &mut [R::To],
     most: usize,
@@ -79,8 +79,8 @@ pub(crate) fn write_run<R: Block<1> + Block<8> + Block<32>>(
         → R.IsWritten from.now before to.new result }
     ensures few { result ≤ most }
 {
-    let at = write_blocks::<R, 32>(from, to, 0, most);
-    let at = write_blocks::<R, 8>(from, to, at, most);
+    let at = repeat_block::<R, 32>(from, to, 0, most);
+    let at = repeat_block::<R, 8>(from, to, at, most);
     if most - at >= 8 {
         return at;
     }
@@ -88,5 +88,5 @@ pub(crate) fn write_run<R: Block<1> + Block<8> + Block<32>>(
         let last = most - 8;
         return last + <R as Block<8>>::write(from, to, last);
     }
-    write_blocks::<R, 1>(from, to, at, most)
+    repeat_block::<R, 1>(from, to, at, most)
 }

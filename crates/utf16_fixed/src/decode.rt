@@ -14,8 +14,9 @@ ghost use Rattle.utf16_fixed.specs.Utf32.{TranscodesToUtf32, utf32_units};
 
 use crate::pairs::write_pairs;
 use crate::plain;
-use utf16_transcode::{Direction, Progress, Stop, ToUtf8};
-use utf16_units::{Moved, Utf16Order};
+use utf16_transcode::{Progress, Stop};
+use utf16_units::ends::first_char;
+use utf16_units::{Moved, Utf16Order, first_char_len};
 
 /// Writes UTF-16 in UTF-32, as code points in the machine's byte order, to the start of a buffer,
 /// up to the first ill-formed sequence or as far as it fits. Any bytes are allowed. `read` and the
@@ -139,11 +140,12 @@ fn write_next_char<E: Utf16Order>(rest: &[u8], to: &mut [u32], at: usize) -> Res
         rest.now (length to.new - at)) }
     ensures unchanged { IfErr result (λ _. to.new ≡ to.old) }
 {
-    let (c, len) = match ToUtf8::<E>::first_char(rest) {
-        Ok(first) => first,
+    let len = match first_char_len::<E>(rest) {
+        Ok(len) => len,
         Err(Some(len)) => return Err(Stop::IllFormed(len)),
         Err(None) => return Err(Stop::Incomplete),
     };
+    let (c, len) = first_char::<E>(&rest[..len]);
     if at == to.len() {
         return Err(Stop::NoSpace);
     }

@@ -14,9 +14,6 @@ use utf16_transcode::{Progress, Stop};
 use utf16_units::text::count_chars;
 use utf16_units::{Utf16Order, validate_raw_utf16};
 
-// U+FFFD, the replacement character.
-const REPLACEMENT: u32 = 0xFFFD;
-
 /// Writes the whole text of UTF-16 in UTF-32 to the start of a buffer, as far as it fits, with
 /// U+FFFD for each unpaired surrogate and one for an incomplete character at the end. The code
 /// points are in the machine's byte order. Any bytes are allowed. `read` counts bytes, `written`
@@ -48,7 +45,7 @@ pub fn to_utf32_lossy<E: Utf16Order>(raw: &[u8], to: &mut [u32]) -> Progress
             stop: Stop::NoSpace,
         };
     }
-    to[front.written] = REPLACEMENT;
+    to[front.written] = char::REPLACEMENT_CHARACTER as u32;
     Progress {
         read: raw.len(),
         written: front.written + 1,
@@ -83,7 +80,7 @@ fn write_decided<E: Utf16Order>(raw: &[u8], to: &mut [u32]) -> Progress
                 stop: Stop::NoSpace,
             };
         }
-        to[written] = REPLACEMENT;
+        to[written] = char::REPLACEMENT_CHARACTER as u32;
         read += len as usize;
         written += 1;
     }

@@ -14,9 +14,6 @@ use std::simd::prelude::*;
 use utf16_transcode::{Progress, Stop, put};
 use utf16_units::Utf16Order;
 
-// U+FFFD, the replacement character.
-const REPLACEMENT: u16 = 0xFFFD;
-
 /// Writes UTF-32, code points in the machine's byte order, in UTF-16 to the start of a buffer, as
 /// far as whole characters fit, with U+FFFD for each code unit that is not a scalar value. Any code
 /// units are allowed. `read` counts code units of UTF-32, `written` counts bytes. Bytes of the
@@ -33,7 +30,7 @@ pub fn from_utf32_lossy<E: Utf16Order>(utf32: &[u32], to: &mut [u8]) -> Progress
         (length to.new - result.written) result.stop }
     ensures succeeds { 4 * length utf32.now ≤ length to.new → result.stop ≡ Done }
 {
-    let replacement = E::write_unit(REPLACEMENT);
+    let replacement = E::write_unit(char::REPLACEMENT_CHARACTER as u16);
     let mut read = 0;
     let mut written = 0;
     loop {

@@ -1,6 +1,6 @@
 //! Blocks of code units compared with limits, of UTF-32 and of its low units.
 
-ghost use Rattle.std.specs.Prelude.{◌≡◌, ◌≢◌, ◌/◌, ◌<◌, ◌≤◌, All, IsTrue, ℕ, map, take};
+ghost use Rattle.std.specs.Prelude.{◌≡◌, ◌≢◌, ◌↔◌, ◌/◌, ◌<◌, ◌≤◌, All, IsTrue, ℕ, map, take};
 ghost use Rattle.std.specs.Char.{IsScalar};
 ghost use Rattle.std.specs.Simd.Lanes.{mask_l};
 ghost use Rattle.utf16_units.specs.Lanes.{HasNoSurrogate};
@@ -101,12 +101,13 @@ fn greater(first: u16x16, second: u16x16) -> u16x16
     first.simd_max(second)
 }
 
-// Whether all units are below a limit.
+// Whether all code units are below a limit.
 #[inline(always)]
-fn are_below(units: u16x16, limit: u16) -> bool
-    ensures { IsTrue result → All (λ unit. unit < limit) units }
+pub(crate) fn are_below<const N: usize>(units: Simd<u16, N>, limit: u16) -> bool
+    requires { N ≤ 64 }
+    ensures { IsTrue result ↔ All (λ unit. unit < limit) units.entry }
 {
-    units.simd_ge(u16x16::splat(limit)).to_bitmask() == 0
+    units.simd_ge(Simd::splat(limit)).to_bitmask() == 0
 }
 
 // Whether no unit is below a limit.

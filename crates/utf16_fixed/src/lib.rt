@@ -8,7 +8,6 @@
 #![tactic(auto)]
 
 mod basic;
-mod below;
 mod blocks;
 mod chars;
 mod decode;

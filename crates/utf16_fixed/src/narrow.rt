@@ -12,8 +12,8 @@ ghost use Rattle.utf16_fixed.specs.Written.{IsNarrowed};
 ghost use Rattle.utf16_fixed.specs.declared.repertoire.Repertoire.TheVariants.{Latin1};
 ghost use Rattle.utf16_fixed.specs.declared.latin1_progress.Latin1Stop.TheVariants.{Done, NoSpace};
 
-use crate::below::are_below;
-use crate::blocks::{Block, Run, write_blocks};
+use crate::blocks::{Block, Fixed, repeat_block};
+use crate::lanes::are_below;
 use crate::latin1_progress::{Latin1Progress, Latin1Stop};
 use std::marker::PhantomData;
 use std::simd::prelude::*;
@@ -42,7 +42,7 @@ pub fn to_latin1<E: Utf16Order>(raw: &[u8], to: &mut [u8]) -> Latin1Progress
     ensures succeeds { IsUtf16 E.BIG raw.now → HasAll Latin1 (text_of E.BIG raw.now)
         → length raw.now / 2 ≤ length to.old → result.stop ≡ Done }
 {
-    let written = write_units::<E>(raw, to);
+    let written = write_latin1::<E>(raw, to);
     Latin1Progress {
         read: 2 * written,
         written,
@@ -74,22 +74,22 @@ fn stop_before<E: Utf16Order>(rest: &[u8]) -> Latin1Stop
 // Writes the code units up to 0xFF at the start of the bytes, as far as they fit, and returns how
 // many.
 #[inline(always)]
-fn write_units<E: Utf16Order>(raw: &[u8], to: &mut [u8]) -> usize
+fn write_latin1<E: Utf16Order>(raw: &[u8], to: &mut [u8]) -> usize
     ensures narrowed { IsNarrowed E.BIG raw.now to.old to.new result }
     ensures stop { 2 * result + 2 ≤ length raw.now → result < length to.new
         → 0x100 ≤ unit_of E.BIG (slice_index raw.now (2 * result))
         (slice_index raw.now (2 * result + 1)) }
 {
     let most = (raw.len() / 2).min(to.len());
-    let at = write_blocks::<Narrow<E>, 32>(raw, to, 0, most);
-    let at = write_blocks::<Narrow<E>, 8>(raw, to, at, most);
-    write_blocks::<Narrow<E>, 1>(raw, to, at, most)
+    let at = repeat_block::<Narrow<E>, 32>(raw, to, 0, most);
+    let at = repeat_block::<Narrow<E>, 8>(raw, to, at, most);
+    repeat_block::<Narrow<E>, 1>(raw, to, at, most)
 }
 
 // Code units up to 0xFF, to Latin-1.
 struct Narrow<E: Utf16Order>(PhantomData<E>);
 
-impl<E: Utf16Order> Run for Narrow<E> {
+impl<E: Utf16Order> Fixed for Narrow<E> {
     type From = u8;
 
     type To = u8;
@@ -110,7 +110,7 @@ impl<E: Utf16Order> Block<32> for Narrow<E> {
         if !are_below(units, 0x100) {
             return 0;
         }
-        low_bytes(units).copy_to_slice(&mut to[at..]);
+        latin1_bytes(units).copy_to_slice(&mut to[at..]);
         32
     }
 }
@@ -124,7 +124,7 @@ impl<E: Utf16Order> Block<8> for Narrow<E> {
         if !are_below(units, 0x100) {
             return 0;
         }
-        low_bytes(units).copy_to_slice(&mut to[at..]);
+        latin1_bytes(units).copy_to_slice(&mut to[at..]);
         8
     }
 }
@@ -146,7 +146,7 @@ impl<E: Utf16Order> Block<1> for Narrow<E> {
 
 // The code units as bytes.
 #[inline(always)]
-fn low_bytes<const N: usize>(units: Simd<u16, N>) -> Simd<u8, N>
+fn latin1_bytes<const N: usize>(units: Simd<u16, N>) -> Simd<u8, N>
     requires { All (λ unit. unit < 0x100) units }
     ensures { result ≡ units.entry }
 {

@@ -6,7 +6,7 @@ ghost use Rattle.std.specs.Prelude.{◌≡◌, ◌+◌, ◌*◌, ◌≤◌, ◌+
 ghost use Rattle.utf16_fixed.specs.Progress.{IsWidened};
 ghost use Rattle.utf16_fixed.specs.Utf32.{TranscodesToUtf32};
 
-use crate::blocks::{Block, Run, write_run};
+use crate::blocks::{Block, Fixed, write_in_blocks};
 use crate::lanes::has_no_low_surrogate;
 use std::marker::PhantomData;
 use std::simd::prelude::*;
@@ -17,7 +17,7 @@ use utf16_units::surrogates::plain_len;
 // Code units that are not surrogates, to UTF-32.
 struct Plain<E: Utf16Order>(PhantomData<E>);
 
-impl<E: Utf16Order> Run for Plain<E> {
+impl<E: Utf16Order> Fixed for Plain<E> {
     type From = u8;
 
     type To = u32;
@@ -38,7 +38,7 @@ pub(crate) fn write_plain<E: Utf16Order>(raw: &[u8], to: &mut [u32]) -> usize
     ensures text { TranscodesToUtf32 E.BIG (take (2 * result) raw.now) (take result to.new) }
 {
     let most = (raw.len() / 2).min(to.len());
-    write_run::<Plain<E>>(raw, to, most)
+    write_in_blocks::<Plain<E>>(raw, to, most)
 }
 
 // Thirty-two units, or none.

@@ -1,4 +1,4 @@
-//! The repertoires that a inspect of a text tells apart.
+//! The repertoires that `inspect` tells apart.
 
 /// A repertoire of characters. Each contains the ones before it.
 #[derive(Clone, Copy, Debug, PartialEq, Eq, PartialOrd, Ord)]

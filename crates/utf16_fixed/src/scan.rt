@@ -14,7 +14,7 @@ ghost use Rattle.utf16_units.specs.Lanes.{HasNoSurrogate, PairedTo};
 ghost use Rattle.utf16_fixed.specs.Repertoire.{IsLeast};
 ghost use Rattle.utf16_fixed.specs.Inspection.{EndsAt, IsScanOf};
 
-use crate::below::are_below;
+use crate::lanes::are_below;
 use crate::repertoire::Repertoire;
 use std::simd::prelude::*;
 use utf16_transcode::Stop;
@@ -207,14 +207,6 @@ impl ScannedUnits {
         }
     }
 
-    // Whether all code units are below a limit.
-    #[inline(always)]
-    fn are_below(&self, limit: u16) -> bool
-        ensures { IsTrue result ↔ All (λ unit. unit < limit) self.now.greatest }
-    {
-        are_below(self.greatest, limit)
-    }
-
     // The least repertoire that has the characters of a text, by its code units.
     fn repertoire(&self) -> Repertoire
         ensures { (big : Bool) (text : List ℕ) → IsUtf16 big text
@@ -224,10 +216,10 @@ impl ScannedUnits {
         if self.trailing > 0 {
             return Repertoire::Unicode;
         }
-        if !self.are_below(0x100) {
+        if !are_below(self.greatest, 0x100) {
             return Repertoire::Bmp;
         }
-        if !self.are_below(0x80) {
+        if !are_below(self.greatest, 0x80) {
             return Repertoire::Latin1;
         }
         Repertoire::Ascii

@@ -5,7 +5,7 @@ ghost use Rattle.utf16_units.specs.Encoding.{Encodes, encode};
 ghost use Rattle.utf16_transcode.specs.declared.progress.Stop.TheVariants.{Done, NoSpace};
 ghost use Rattle.utf16_fixed.specs.Written.{IsWidened};
 
-use crate::blocks::{Block, Run, write_blocks};
+use crate::blocks::{Block, Fixed, repeat_block};
 use crate::stores::put_sixteen;
 use std::marker::PhantomData;
 use std::simd::prelude::*;
@@ -45,7 +45,7 @@ pub fn from_latin1<E: Utf16Order>(latin1: &[u8], to: &mut [u8]) -> Progress
 // Any bytes, to UTF-16.
 struct Widen<E: Utf16Order>(PhantomData<E>);
 
-impl<E: Utf16Order> Run for Widen<E> {
+impl<E: Utf16Order> Fixed for Widen<E> {
     type From = u8;
 
     type To = u8;
@@ -85,12 +85,12 @@ fn write_bytes<E: Utf16Order>(latin1: &[u8], to: &mut [u8], most: usize)
     requires fits { 2 * most ≤ length to.old }
     ensures { IsWidened E.BIG latin1.now to.old to.new most }
 {
-    let at = write_blocks::<Widen<E>, 16>(latin1, to, 0, most);
+    let at = repeat_block::<Widen<E>, 16>(latin1, to, 0, most);
     if most >= 16 {
         let last = most - 16;
         write_sixteen::<E>(u8x16::from_slice(&latin1[last..]), to, 2 * last);
     } else {
-        write_blocks::<Widen<E>, 1>(latin1, to, at, most);
+        repeat_block::<Widen<E>, 1>(latin1, to, at, most);
     }
 }
 

@@ -1,19 +1,31 @@
-use Rattle.std.proofs.Common.{arith, rules}
+use Rattle.std.proofs.Common.{arith, rules, subst, sym}
 use Rattle.std.proofs.lemmas.List.{take_more_set}
-use Rattle.utf16_units.specs.Encoding.{char_bytes}
+use Rattle.utf16_units.specs.Encoding.{IsUtf16, char_bytes}
+use Rattle.utf16_units.proofs.EncodingLemmas.{IsUtf16-char}
+use Rattle.utf16_transcode.proofs.ToUtf8Lemmas.{begins}
 use Rattle.utf16_transcode.proofs.WroteLemmas.{first_does_not_fit, first_gives}
 use Rattle.utf16_fixed.specs.Utf32.{TranscodesToUtf32, utf32_units}
 use Rattle.utf16_fixed.proofs.TextLemmas.{utf32_char}
 use Rattle.utf16_fixed.proofs.decode.write_next_char.Goals as goal
 
+pub first_char-c-requires-clause-well_formed : goal.first_char-c-requires-clause-well_formed
+first_char-c-requires-clause-well_formed g c =
+    let big = g.E.Utf16Order.BIG in
+    let first = c.in-Ok.ensures.char in
+    subst (IsUtf16 big) (sym first.spelled) (IsUtf16-char big first.char first.scalar)
+
 pub returns-then-at-to-clause-stop : goal.returns-then-at-to-clause-stop
 returns-then-at-to-clause-stop g c =
-    first_does_not_fit (char_bytes g.E.Utf16Order.BIG) utf32_units _ _ _ c.in-Ok.ensures.char _ (omega (arith, c.if-at-to.true))
+    let big = g.E.Utf16Order.BIG in
+    let read = c.first_char-c.ensures in
+    let first = begins big c.args.rest.now c.in-Ok.len _ _ c.in-Ok.ensures.char read.size read.joined in
+    first_does_not_fit (char_bytes big) utf32_units _ _ _ first _ (omega (arith, c.if-at-to.true))
 
 pub returns-clause-wrote : goal.returns-clause-wrote
 returns-clause-wrote g c =
     let big = g.E.Utf16Order.BIG in
-    let first = c.in-Ok.ensures.char in
+    let read = c.first_char-c.ensures in
+    let first = begins big c.args.rest.now c.in-Ok.len _ _ c.in-Ok.ensures.char read.size read.joined in
     record {
       within = first.within;
       fits = search rules;

@@ -1,7 +1,5 @@
-use Rattle.std.proofs.Common.{arith}
-use Rattle.std.proofs.lemmas.Bool.{eqb-true}
-use Rattle.utf16_fixed.proofs.LaneLemmas.{below_by_bits}
+use Rattle.utf16_fixed.proofs.BelowLemmas.{below_by_bits}
 use Rattle.utf16_fixed.proofs.lanes.are_below.Goals as goal
 
 pub returns : goal.returns
-returns c none = below_by_bits 16 c.args.limit c.args.units c.fits-units.0 (omega arith) (eqb-true _ _ none)
+returns g c = below_by_bits g.row.N c.args.limit c.args.units c.fits-units.0 c.requires

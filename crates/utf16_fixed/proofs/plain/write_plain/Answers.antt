@@ -6,7 +6,7 @@ returns-clause-text g c =
     let big = g.E.Utf16Order.BIG in
     let raw = c.args.raw.now in
     let to = c.args.to.now in
-    widened-text big raw c.write_run.new.to c.write_run.result (c.write_run.ensures.written to (IsWidened-none big raw to)) c.type_inv.raw
+    widened-text big raw c.write_in_blocks.new.to c.write_in_blocks.result (c.write_in_blocks.ensures.written to (IsWidened-none big raw to)) c.type_inv.raw
 
-pub write_run-requires-clause-fewer : goal.write_run-requires-clause-fewer
-write_run-requires-clause-fewer g c before out m n few done = IsWidened-fewer g.E.Utf16Order.BIG c.args.raw.now out n done m few
+pub write_in_blocks-requires-clause-fewer : goal.write_in_blocks-requires-clause-fewer
+write_in_blocks-requires-clause-fewer g c before out m n few done = IsWidened-fewer g.E.Utf16Order.BIG c.args.raw.now out n done m few

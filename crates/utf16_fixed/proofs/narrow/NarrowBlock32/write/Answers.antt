@@ -4,5 +4,5 @@ use Rattle.utf16_fixed.proofs.narrow.NarrowBlock32.write.Goals as goal
 
 pub returns-clause-written : goal.returns-clause-written
 returns-clause-written g c before done =
-    IsNarrowed-block g.E.Utf16Order.BIG c.args.raw.now before c.args.to.now c.args.at done 32 c.low_bytes.result
-    (omega arith) (omega arith) (omega arith) (c.low_bytes.ensures ∙ c.units32-units.ensures.units)
+    IsNarrowed-block g.E.Utf16Order.BIG c.args.raw.now before c.args.to.now c.args.at done 32 c.latin1_bytes.result
+    (omega arith) (omega arith) (omega arith) (c.latin1_bytes.ensures ∙ c.units32-units.ensures.units)

@@ -1,10 +1,10 @@
 use Rattle.std.proofs.Common.{◌-◌, ◌≤◌, List}
-use Rattle.utf16_fixed.proofs.blocks.write_blocks.Given as goal
+use Rattle.utf16_fixed.proofs.blocks.repeat_block.Given as goal
 
 -- the characters before `at` are written, if those before `start` were
 abbrev pub invariant-loop-at : goal.invariant-loop-at
 invariant-loop-at g l = record {
-  written : (before : List g.row.R-To.Denot) → g.R.Run.IsWritten l.from before l.fn.to l.start → g.R.Run.IsWritten l.from before l.to l.at;
+  written : (before : List g.row.R-To.Denot) → g.R.Fixed.IsWritten l.from before l.fn.to l.start → g.R.Fixed.IsWritten l.from before l.to l.at;
   few : l.at ≤ l.most;
 }
 

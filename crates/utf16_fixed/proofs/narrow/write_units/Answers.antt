@@ -1,7 +1,0 @@
-use Rattle.utf16_fixed.proofs.NarrowLemmas.{IsNarrowed-none}
-use Rattle.utf16_fixed.proofs.narrow.write_units.Goals as goal
-
-pub returns-clause-narrowed : goal.returns-clause-narrowed
-returns-clause-narrowed g c =
-    let to = c.args.to.now in
-    c.write_blocks.ensures.written to (c.write_blocks-at-2.ensures.written to (c.write_blocks-at.ensures.written to (IsNarrowed-none g.E.Utf16Order.BIG c.args.raw.now to)))
