@@ -1,19 +1,15 @@
 -- The UTF-16 of a stream of UTF-8, and how it continues when more bytes come, with a BOM first and
 -- without one.
-use Rattle.std.proofs.Common.{◌≡◌, ◌≢◌, ◌⊎◌, inl, inr, ⊎_elim, ℕ, ◌+◌, ◌*◌, ◌≤◌, Bool, true, false, List, [], ◌∷◌, ◌++◌, Option, Result, length, take, if◌then◌else◌, refl, sym, ap, ap₂, ◌∙◌, subst, arith, append-nil, append_assoc, length-append}
+use Rattle.std.proofs.Common.{◌≡◌, ◌≢◌, ◌⊎◌, inl, inr, ⊎_elim, ℕ, ◌+◌, ◌*◌, ◌≤◌, Bool, true, false, List, [], ◌∷◌, ◌++◌, Option, Result, length, if◌then◌else◌, refl, sym, ap, ap₂, ◌∙◌, subst, arith, append-nil, append_assoc, length-append}
 use Rattle.std.proofs.lemmas.List.{length-map, nil_from_length}
-use Rattle.utf16_units.specs.Encoding.{char_bytes, char_size, encode, size}
+use Rattle.utf16_units.specs.Encoding.{char_size, encode, size}
 use Rattle.utf16_units.proofs.CharLemmas.{char_size_cases}
 use Rattle.utf16_units.proofs.EncodingLemmas.{encode-append, encode-nil, length-encode, size-cons, size-nil}
 use Rattle.utf8_bytes.specs.Split.{IsTail, decided_text, items_bytes, lossy_char, lossy_chars, lossy_text, split_items, split_tail, whole_lossy_chars}
 use Rattle.utf8_bytes.proofs.LawProofs.{cut_anywhere, shown_after, split_extends, whole_is_lossy}
 use Rattle.utf8_bytes.proofs.ShownLemmas.{length-IsTail, replacement_size}
 use Rattle.utf8_bytes.proofs.SplitLemmas.{Split-computed}
-use Rattle.utf16_transcode.specs.declared.progress.Stop.TheVariants.{Done}
-use Rattle.utf16_transcode.proofs.StreamSteps.{fed_text as fed_flat}
-use Rattle.utf16_transcode.specs.Utf8Stream.{FeedsUtf8, StopsFeedingUtf8, utf8_parts}
-use Rattle.utf16_transcode.proofs.DecodesUtf8.{flat_encode, undecided_items}
-use Rattle.utf16_transcode.proofs.FeedsUtf8.{utf8_chunks}
+use Rattle.utf16_transcode.proofs.DecodesUtf8.{undecided_items}
 use Rattle.utf16_streams.specs.Continues.{Continues}
 use Rattle.utf16_streams.specs.Filter.{FiltersBy}
 use Rattle.utf16_streams.specs.declared.filters.FilterFault.{FilterFault}
@@ -42,13 +38,6 @@ pub text_short : (pending piece : List ℕ) → split_tail pending ≡ pending �
 text_short pending piece same = (shown_after pending piece (waits pending same)).0
 
 module _ (big : Bool) where
-  -- if all of a chunk was taken, all of its certain text was written
-  pub fed_text : (pending piece left to : List ℕ) (read written room : ℕ) → FeedsUtf8 big pending piece left to read written
-      → StopsFeedingUtf8 big pending piece left read room Done → take written to ≡ decided_utf16 big (pending ++ piece)
-  fed_text pending piece left to read written room feeds done =
-      fed_flat utf8_parts (char_bytes big) utf8_chunks pending piece left to read written room feeds done
-      ∙ sym (flat_encode big (decided_text (pending ++ piece)))
-
   -- more bytes are appended
   module _ (front back : List ℕ) where
     decided-append : decided_utf16 big (front ++ back) ≡ decided_utf16 big front ++ decided_utf16 big (split_tail front ++ back)

@@ -1,12 +1,12 @@
 -- A run of edits that all fit, one edit at a time.
-use Rattle.std.proofs.Common.{◌≡◌, ◌≢◌, ℕ, ◌+◌, ◌≤◌, List, [], ◌∷◌, ◌++◌, All, append_assoc, length, refl, subst, sym, arith, ap}
+use Rattle.std.proofs.Common.{◌≡◌, ◌≢◌, ℕ, ◌≤◌, List, [], ◌∷◌, ◌++◌, All, append_assoc, length, refl, subst, sym, arith}
 use Rattle.std.proofs.lemmas.List.Elements.{All-append, All-cons, All-nil}
 use Rattle.utf16_units.specs.declared.byte_order.Utf16Order.{Ghosts}
 use Rattle.utf16_units.proofs.EncodingLemmas.{IsUtf16-from_is_utf16, length-text}
 use Rattle.utf16string.specs.declared.wstring.WString.{WString}
 use Rattle.utf16string.specs.Encoding.{size}
 use Rattle.utf16string.specs.WString.{wstring_bytes, wstring_capacity, wstring_text}
-use Rattle.utf16_tools.specs.Edited.{EachFits, Fits, edited, no_memory, said}
+use Rattle.utf16_tools.specs.Edited.{EachFits, Fits, no_memory, said}
 use Rattle.utf16_tools.specs.Step.{HasCapacityFor, Step}
 use Rattle.utf16_tools.specs.declared.edit.Edit.{Edit}
 use Rattle.utf16_tools.specs.declared.edit.Edit.TheVariants.{Clear, Insert, InsertText, Overwrite, Pop, Push, PushText, Remove, Retain, SplitOff, Truncate}

@@ -1,6 +1,5 @@
 -- The text of a chunk of UTF-8 as UTF-16, and of the parts of a chunk.
-use Rattle.std.proofs.Common.{◌≡◌, ◌+◌, ◌≤◌, ℕ, Bool, List, [], ◌∷◌, ◌++◌, All, length, take, drop, refl, sym, ap, ap₂, ◌∙◌, subst, arith, append_assoc, append-nil, take-append-drop}
-use Rattle.std.proofs.lemmas.List.{drop_all}
+use Rattle.std.proofs.Common.{◌≡◌, ◌+◌, ◌≤◌, ℕ, Bool, List, [], ◌∷◌, ◌++◌, All, flat_map, length, take, drop, refl, sym, ap, ap₂, ◌∙◌, subst, append_assoc, append-nil, take-append-drop}
 use Rattle.std.proofs.lemmas.List.Elements.{All-cons, All-nil}
 use Rattle.std.specs.Char.{IsScalar}
 use Rattle.utf16_units.specs.Encoding.{Encodes, char_bytes, size}
@@ -10,11 +9,7 @@ use Rattle.utf8_bytes.proofs.LawProofs.{cut_anywhere, split_extends}
 use Rattle.utf8_bytes.proofs.ResumesLemmas.{split_of_tail, tail_ends}
 use Rattle.utf8_bytes.proofs.ShownLemmas.{length-IsTail}
 use Rattle.utf8_bytes.proofs.SplitLemmas.{Split-computed}
-use Rattle.utf16_transcode.specs.declared.progress.Stop.TheVariants.{Done}
-use Rattle.utf16_transcode.proofs.StreamSteps.{fed_text}
-use Rattle.utf16_transcode.specs.Utf8Stream.{FeedsUtf8, StopsFeedingUtf8, utf8_parts}
 use Rattle.utf16_transcode.proofs.DecodesUtf8.{flat_encode}
-use Rattle.utf16_transcode.proofs.FeedsUtf8.{utf8_chunks}
 
 item_scalar : (item : Item) (rest : List ℕ) → IsItem item rest → IsScalar (lossy_char item)
 item_scalar (good c) rest is = is
@@ -43,15 +38,12 @@ few_undecided bytes none = few (split_items bytes) none (Split-computed bytes).s
   few [] none spelled = subst (λ b. length b ≤ 3) spelled (length-IsTail (split_tail bytes) (tail_ends bytes))
   few (item ∷ items) none spelled = absurd (cc)
 
--- if all of a chunk was taken, all of its text was written
-module _ (big : Bool) (pending piece left to : List ℕ) (read written room : ℕ) (feeds : FeedsUtf8 big pending piece left to read written)
-    (done : StopsFeedingUtf8 big pending piece left read room Done) where
-  pub fed_encodes : Encodes big (decided_text (pending ++ piece)) (take written to)
-  fed_encodes =
-      record {
-        scalars = items_scalar (split_items (pending ++ piece)) (split_tail (pending ++ piece)) (Split-computed (pending ++ piece)).made;
-        spelled = flat_encode big (decided_text (pending ++ piece)) ∙ sym (fed_text utf8_parts (char_bytes big) utf8_chunks pending piece left to read written room feeds done);
-      }
+-- what is written for the text of bytes is its UTF-16
+pub fed_encodes : (big : Bool) (bytes written : List ℕ) → written ≡ flat_map (char_bytes big) (decided_text bytes) → Encodes big (decided_text bytes) written
+fed_encodes big bytes written is = record {
+  scalars = items_scalar (split_items bytes) (split_tail bytes) (Split-computed bytes).made;
+  spelled = flat_encode big (decided_text bytes) ∙ sym is;
+}
 
 -- everything before `rest` is decoded, and its text is appended
 pub record Leaves (bytes rest old new : List ℕ) : Type 0 where

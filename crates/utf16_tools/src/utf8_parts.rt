@@ -9,7 +9,8 @@ ghost use Rattle.utf16string.specs.WStr.{wstr_bytes, wstr_text};
 ghost use Rattle.utf16string.specs.WString.{IsUnchanged, wstring_bytes, wstring_capacity, wstring_text};
 
 use std::alloc::{AllocError, Allocator};
-use utf16_transcode::{CHUNK_LEN, FEED_SLACK, SHORT_CHUNK, Stream, feed_utf8};
+use utf16_streams::feed_all;
+use utf16_transcode::{CHUNK_LEN, FEED_SLACK, FromUtf8, SHORT_CHUNK, Stream};
 use utf16string::{Utf16Order, WStr, WString};
 
 /// Decodes the next chunk of a stream, appends its text, and returns the stream with the bytes that
@@ -124,6 +125,6 @@ fn decode_part<'a, E: Utf16Order>(
         ≡ split_tail (stream_pending stream ++ part.now) }
 {
     let mut stream = stream;
-    let written = feed_utf8::<E>(&mut stream, part, buffer).written;
+    let written = feed_all::<FromUtf8<E>>(&mut stream, part, buffer);
     (stream, WStr::from_utf16_unchecked(&buffer[..written]))
 }
