@@ -1,7 +1,7 @@
 #!/usr/bin/env bash
 # Builds the pages docs/site, checks the manual pages with mandoc, follows each link of the pages,
-# and opens pages of each kind in headless Chromium. A line 'skipped: ..' names what is not checked
-# since a tool is not installed. The last line is 'N passed, M failed'.
+# and opens pages of each kind in headless Chromium. A tool that is missing is a failure. The last
+# line is 'N passed, M failed'.
 set -uo pipefail
 cd "$(dirname "$0")/.." || exit 1
 room=$(mktemp -d)
@@ -32,10 +32,8 @@ first_of() {
     done
 }
 
-docs/html/build.py
-status=$?
-# With 77 it was built without the parts that it named.
-if [ $status = 0 ] || [ $status = 77 ]; then
+# It fails as well if it leaves out a part, because a tool is missing.
+if docs/html/build.py; then
     passed=$((passed + 1))
 else
     failed=$((failed + 1))
@@ -52,7 +50,8 @@ if command -v mandoc > /dev/null; then
         fi
     done
 else
-    echo 'skipped: the check of the manual pages: there is no mandoc'
+    failed=$((failed + 1))
+    echo 'failed: the manual pages: there is no mandoc'
 fi
 
 counts .ci/site_links.py docs/site
@@ -62,7 +61,8 @@ export CHROMIUM
 if [ -n "$CHROMIUM" ]; then
     counts .ci/site_browser.py docs/site
 else
-    echo 'skipped: the pages in a browser: there is no chromium'
+    failed=$((failed + 1))
+    echo 'failed: the pages in a browser: there is no chromium'
 fi
 echo "$passed passed, $failed failed"
 [ $failed = 0 ]

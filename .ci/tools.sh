@@ -3,7 +3,7 @@
 # that is still missing is a failure, with a line that says what to install, unless it is optional.
 # The last line is 'N passed, M failed'.
 set -uo pipefail
-packages=(pkg-config librust-byteorder-dev libicu-dev)
+packages=(pkg-config librust-byteorder-dev libicu-dev cmark-gfm mandoc doxygen chromium)
 # A part that needs one of these is left out, or fails, if it is missing, and says so. They are
 # installed here, because the parts after this one run side by side.
 optional=(python3-distributed)

@@ -152,7 +152,8 @@ test_page() {
     if [ -n "$CHROMIUM" ]; then
         counts 'the page in Chromium' "$top/site/test.py"
     else
-        echo 'skipped: the page in a browser: there is no chromium'
+        failed=$((failed + 1))
+        echo 'failed: the page in a browser: there is no chromium'
     fi
 }
 

@@ -52,7 +52,16 @@ class Places:
             for item in items_of(crate):
                 # Of equal names the one of the lowest crate counts.
                 name = "::".join(filter(None, (item.owner, item.name)))
-                self.pages.setdefault(name, f"{crate.name}.html#{anchor(crate, item)}")
+                page = f"{crate.name}.html#{anchor(crate, item)}"
+                self.pages.setdefault(name, page)
+                for variant in variants_of(item) if item.is_type else ():
+                    self.pages.setdefault(f"{name}::{variant}", page)
+
+
+def variants_of(item):
+    """The names of an enum's variants."""
+    body = re.search(rf"^pub enum {item.name}\b[^{{;]*\{{\n(.*?)^\}}", read(item.path), re.M | re.S)
+    return re.findall(r"^    (\w+)[,({]", body[1], re.M) if body else []
 
 
 def anchor(crate, item):
