@@ -4,8 +4,8 @@ use Rattle.utf16_units.specs.Encoding.{IsUtf16}
 use Rattle.utf16_units.specs.IllFormed.{IsIllFormed, IsUtf16ValidUpTo}
 use Rattle.utf16_units.specs.Utf16Error.{error_len, valid_up_to}
 use Rattle.utf16_units.specs.declared.error.Utf16Error.{Utf16Error}
-use Rattle.utf16_fixed.specs.declared.latin1_progress.Latin1Stop.{Latin1Stop}
-use Rattle.utf16_fixed.specs.declared.latin1_progress.Latin1Stop.TheVariants as latin1
+use Rattle.utf16_fixed.specs.declared.latin1_stop.Latin1Stop.{Latin1Stop}
+use Rattle.utf16_fixed.specs.declared.latin1_stop.Latin1Stop.TheVariants as latin1
 use Rattle.utf16_fixed.specs.declared.repertoire.Repertoire.{Repertoire}
 use Rattle.utf16_fixed.specs.declared.repertoire.Repertoire.TheVariants.{Ascii, Bmp, Latin1, Unicode}
 use Rattle.utf16_transcode.specs.declared.progress.Stop.{Stop}

@@ -6,12 +6,12 @@ ghost use Rattle.utf16_transcode.specs.declared.progress.Stop.TheVariants.{Done,
 ghost use Rattle.utf16_fixed.specs.Repertoire.{IsLeast};
 ghost use Rattle.utf16_fixed.specs.StopsLatin1.{StopsLatin1};
 ghost use Rattle.utf16_fixed.specs.Inspection.{EndsAt};
-ghost use Rattle.utf16_fixed.specs.declared.latin1_progress.Latin1Stop.TheVariants as latin1;
+ghost use Rattle.utf16_fixed.specs.declared.latin1_stop.Latin1Stop.TheVariants as latin1;
 ghost use Rattle.dethrux.specs.Numbers.{AreLatin1Numbers, AreNumbers, is_big, latin1_stop_of, repertoire_of, stop_of};
 
 use crate::byte_order::in_order;
 use crate::results::{Progress, progress_of, status_of};
-use utf16_fixed::{Latin1Progress, Latin1Stop, Repertoire, from_latin1, inspect, to_latin1};
+use utf16_fixed::{Latin1Stop, Repertoire, from_latin1, inspect, to_latin1};
 
 const NOT_LATIN1: u32 = 4;
 
@@ -54,7 +54,7 @@ pub extern "C" fn dethrux_to_latin1(byte_order: u32, utf16: &[u8], to: &mut [u8]
 
 // What C gets as the result of a conversion to Latin-1.
 #[inline(always)]
-fn latin1_progress(progress: Latin1Progress) -> Progress
+fn latin1_progress(progress: utf16_fixed::Progress<Latin1Stop>) -> Progress
     ensures read { result.read ≡ progress.read }
     ensures written { result.written ≡ progress.written }
     ensures stop { latin1_stop_of result.status result.error_len ≡ progress.stop }

@@ -6,8 +6,8 @@ use Rattle.utf16_units.proofs.EncodingLemmas.{Encodes-append, Encodes-unique, Is
 use Rattle.utf16_transcode.specs.declared.progress.Stop.{Stop}
 use Rattle.utf16_transcode.specs.declared.progress.Stop.TheVariants as stop
 use Rattle.utf16_fixed.specs.StopsLatin1.{BeginsWithA, StopsLatin1}
-use Rattle.utf16_fixed.specs.declared.latin1_progress.Latin1Stop.{Latin1Stop}
-use Rattle.utf16_fixed.specs.declared.latin1_progress.Latin1Stop.TheVariants.{Done, IllFormed, Incomplete, NoSpace, NotLatin1}
+use Rattle.utf16_fixed.specs.declared.latin1_stop.Latin1Stop.{Latin1Stop}
+use Rattle.utf16_fixed.specs.declared.latin1_stop.Latin1Stop.TheVariants.{Done, IllFormed, Incomplete, NoSpace, NotLatin1}
 use Rattle.utf16_fixed.proofs.TextLemmas.{utf32_empty}
 use Rattle.uses_buffers.specs.FormCalls.{Joined}
 use Rattle.uses_buffers.specs.Forms.{StopsFromLatin1, from_latin1, to_latin1}

@@ -12,8 +12,8 @@ use Rattle.utf16_transcode.specs.declared.progress.Stop.TheVariants.{Incomplete,
 use Rattle.utf16_fixed.specs.Stops32.{IsIllFormedUtf32}
 use Rattle.utf16_fixed.specs.Utf32.{ShowsInUtf16, TranscodesFromUtf32, TranscodesToUtf32, lossy_utf32, utf32_units}
 use Rattle.utf16_fixed.specs.StopsLatin1.{StopsLatin1}
-use Rattle.utf16_fixed.specs.declared.latin1_progress.Latin1Stop.{Latin1Stop}
-use Rattle.utf16_fixed.specs.declared.latin1_progress.Latin1Stop.TheVariants as latin1
+use Rattle.utf16_fixed.specs.declared.latin1_stop.Latin1Stop.{Latin1Stop}
+use Rattle.utf16_fixed.specs.declared.latin1_stop.Latin1Stop.TheVariants as latin1
 use Rattle.utf16_wtf8.specs.FromWtf8.{StopsFromWtf8, StopsFromWtf8Partial, TranscodesFromWtf8}
 use Rattle.utf16_wtf8.specs.ToWtf8.{StopsToWtf8, points_of}
 use Rattle.utf16_wtf8.specs.Wtf8.{generalized_utf8}

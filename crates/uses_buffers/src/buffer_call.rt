@@ -4,12 +4,12 @@
 ghost use Rattle.std.specs.Prelude.{◌≡◌, ◌↔◌, ◌-◌, ◌<◌, ◌≤◌, ℕ, List, [], IfOk, IsTrue, length, take};
 ghost use Rattle.std.specs.Vec.{vec_items};
 ghost use Rattle.utf16_transcode.specs.declared.progress.Stop.TheVariants as stop;
-ghost use Rattle.utf16_fixed.specs.declared.latin1_progress.Latin1Stop.TheVariants as latin1_stop;
+ghost use Rattle.utf16_fixed.specs.declared.latin1_stop.Latin1Stop.TheVariants as latin1_stop;
 ghost use Rattle.uses_buffers.specs.FormCalls.{Completes, Composes, Conversion, IsCall, Joined};
 
 use std::alloc::{AllocError, Allocator};
 use utf16_fixed::Latin1Stop;
-use utf16_transcode::Stop;
+use utf16_transcode::{Progress, Stop};
 
 /// Why a call stopped.
 pub trait Reason: Copy {
@@ -56,10 +56,10 @@ pub trait BufferCall {
     ghost least: { ℕ };
 
     /// Calls the conversion. Returns how much it read and wrote, and why it stopped.
-    fn call(input: &[Self::From], to: &mut [Self::To]) -> (usize, usize, Self::Stop)
-        ensures fits { result.1 ≤ length to.new }
-        ensures call { IsCall conversion input.now (take result.1 to.new) result.0
-            (length to.new - result.1) result.2 };
+    fn call(input: &[Self::From], to: &mut [Self::To]) -> Progress<Self::Stop>
+        ensures fits { result.written ≤ length to.new }
+        ensures call { IsCall conversion input.now (take result.written to.new) result.read
+            (length to.new - result.written) result.stop };
 
     /// States what the proof of the loop needs, and does nothing. A call that stopped for lack of
     /// space has no space for some character, and has written nothing if it read nothing.
@@ -95,11 +95,11 @@ pub fn call_through<C: BufferCall, A: Allocator>(
     let mut all = Vec::new(alloc);
     let mut at = 0;
     loop {
-        let (read, written, stop) = C::call(&input[at..], buffer);
-        all.extend_from_slice(&buffer[..written])?;
-        at += read;
-        if !stop.is_no_space() {
-            return Ok((all, at, stop));
+        let progress = C::call(&input[at..], buffer);
+        all.extend_from_slice(&buffer[..progress.written])?;
+        at += progress.read;
+        if !progress.stop.is_no_space() {
+            return Ok((all, at, progress.stop));
         }
     }
 }

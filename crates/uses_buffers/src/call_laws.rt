@@ -8,8 +8,7 @@ ghost use Rattle.std.specs.List.{flat_map};
 ghost use Rattle.utf16_transcode.specs.Decomposition.{decided};
 ghost use Rattle.uses_buffers.specs.Calls.{Call, ConvertsUpTo, EndWith, Feed, FeedsAll, IsLossyCall, IsPartialCall, IsStrictCall, all_output, all_read, feed_output};
 
-use crate::small_buffer::StrictDirection;
-use utf16_transcode::LossyDirection;
+use utf16_transcode::{Direction, LossyDirection};
 
 /// Lossy calls, of which each but the last stopped for lack of space, write the whole text.
 pub fn lossy_calls<D: LossyDirection>()
@@ -31,14 +30,13 @@ pub fn partial_calls<D: LossyDirection>()
 
 /// Strict calls, of which each but the last stopped for lack of space, write the text up to the
 /// first ill-formed sequence, and the last one says what follows it.
-pub fn strict_calls<D: StrictDirection>()
+pub fn strict_calls<D: Direction>()
     ensures { (input : List ℕ) (calls : List Call) (last : Call)
         → EndWith (IsStrictCall D.from D.into D.IsValid D.other D.IsIllFormed) input calls last
         → ConvertsUpTo D.IsValid D.other D.IsIllFormed input (all_output calls last)
         (all_read calls last) last.stop }
 {
     D::laws();
-    D::strict_laws();
 }
 
 /// The calls of a stream that is cut into chunks anywhere write the whole text, together with the

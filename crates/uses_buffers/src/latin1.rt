@@ -4,15 +4,14 @@ ghost use Rattle.std.specs.Prelude.{◌≢◌, ◌<◌, ◌≤◌, IfOk, length,
 ghost use Rattle.std.specs.Vec.{vec_items};
 ghost use Rattle.utf16_units.specs.Encoding.{Encodes};
 ghost use Rattle.utf16_fixed.specs.StopsLatin1.{StopsLatin1};
-ghost use Rattle.utf16_fixed.specs.declared.latin1_progress.Latin1Stop.TheVariants.{NoSpace};
+ghost use Rattle.utf16_fixed.specs.declared.latin1_stop.Latin1Stop.TheVariants.{NoSpace};
 ghost use Rattle.uses_buffers.specs.Forms as forms;
 
 use crate::buffer_call::{BufferCall, call_through};
-use crate::small_buffer::StrictDirection;
 use std::alloc::{AllocError, Allocator};
 use std::marker::PhantomData;
 use utf16_fixed::{Latin1Stop, from_latin1, to_latin1};
-use utf16_transcode::{Stop, ToUtf8};
+use utf16_transcode::{Direction, Progress, Stop, ToUtf8};
 use utf16_units::Utf16Order;
 
 /// Calls of `to_latin1`.
@@ -29,14 +28,13 @@ impl<E: Utf16Order> BufferCall for ToLatin1<E> {
 
     ghost least = { 1 };
 
-    fn call(input: &[u8], to: &mut [u8]) -> (usize, usize, Latin1Stop) {
-        let progress = to_latin1::<E>(input, to);
-        (progress.read, progress.written, progress.stop)
+    fn call(input: &[u8], to: &mut [u8]) -> Progress<Latin1Stop> {
+        to_latin1::<E>(input, to)
     }
 
     #[tactic(auto, using(crate::proofs::Latin1Lemmas::to_latin1_nothing))]
     fn laws() {
-        ToUtf8::<E>::strict_laws();
+        ToUtf8::<E>::laws();
     }
 }
 
@@ -80,9 +78,8 @@ impl<E: Utf16Order> BufferCall for FromLatin1<E> {
 
     ghost least = { 2 };
 
-    fn call(input: &[u8], to: &mut [u8]) -> (usize, usize, Stop) {
-        let progress = from_latin1::<E>(input, to);
-        (progress.read, progress.written, progress.stop)
+    fn call(input: &[u8], to: &mut [u8]) -> Progress {
+        from_latin1::<E>(input, to)
     }
 
     fn laws() {}

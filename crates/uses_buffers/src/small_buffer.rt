@@ -2,7 +2,7 @@
 //! rest as long as the next character does not fit. Each call for C in `dethrux` is one of these
 //! calls in the byte order that it is passed.
 
-ghost use Rattle.std.specs.Prelude.{◌≡◌, ◌<◌, ◌≤◌, ◌++◌, ℕ, List, Option, IfOk, OnOk, length, drop};
+ghost use Rattle.std.specs.Prelude.{◌≡◌, ◌≤◌, ◌++◌, ℕ, List, Option, IfOk, OnOk, length, drop};
 ghost use Rattle.std.specs.List.{flat_map};
 ghost use Rattle.std.specs.Vec.{vec_items};
 ghost use Rattle.utf16_transcode.specs.Decomposition.{decided};
@@ -15,10 +15,9 @@ use crate::buffer_call::{BufferCall, call_through};
 use std::alloc::{AllocError, Allocator};
 use std::marker::PhantomData;
 use utf16_transcode::{
-    Direction, FromUtf8, LossyDirection, Stop, Stream, ToUtf8, transcode, transcode_lossy,
+    Direction, LossyDirection, Progress, Stop, Stream, transcode, transcode_lossy,
     transcode_partial,
 };
-use utf16_units::Utf16Order;
 
 /// Calls of `transcode_lossy`.
 pub struct Lossy<D: LossyDirection>(PhantomData<D>);
@@ -34,9 +33,8 @@ impl<D: LossyDirection> BufferCall for Lossy<D> {
 
     ghost least = { 4 };
 
-    fn call(input: &[u8], to: &mut [u8]) -> (usize, usize, Stop) {
-        let progress = transcode_lossy::<D>(input, to);
-        (progress.read, progress.written, progress.stop)
+    fn call(input: &[u8], to: &mut [u8]) -> Progress {
+        transcode_lossy::<D>(input, to)
     }
 
     fn laws() {
@@ -107,9 +105,8 @@ impl<D: LossyDirection> BufferCall for Partial<D> {
 
     ghost least = { 4 };
 
-    fn call(input: &[u8], to: &mut [u8]) -> (usize, usize, Stop) {
-        let progress = transcode_partial::<D>(input, to);
-        (progress.read, progress.written, progress.stop)
+    fn call(input: &[u8], to: &mut [u8]) -> Progress {
+        transcode_partial::<D>(input, to)
     }
 
     fn laws() {
@@ -144,27 +141,10 @@ pub fn partial_through<D: LossyDirection, A: Allocator>(
     Ok((all, read))
 }
 
-/// A direction that finds an error again after the text before it is taken away.
-pub trait StrictDirection: Direction {
-    /// States what the proof of `strict_through` needs, and does nothing: what follows the longest
-    /// valid prefix is an ill-formed sequence, or an incomplete character, where it begins.
-    fn strict_laws()
-        ensures { (input : List ℕ) (n : ℕ) (len : Option ℕ) → Self.IsIllFormed input n len
-            → (n < length input) × Self.IsIllFormedAt (drop n input) len };
-}
-
-impl<E: Utf16Order> StrictDirection for ToUtf8<E> {
-    fn strict_laws() {}
-}
-
-impl<E: Utf16Order> StrictDirection for FromUtf8<E> {
-    fn strict_laws() {}
-}
-
 /// Calls of `transcode`.
-pub struct Strict<D: StrictDirection>(PhantomData<D>);
+pub struct Strict<D: Direction>(PhantomData<D>);
 
-impl<D: StrictDirection> BufferCall for Strict<D> {
+impl<D: Direction> BufferCall for Strict<D> {
     type From = u8;
 
     type To = u8;
@@ -175,14 +155,12 @@ impl<D: StrictDirection> BufferCall for Strict<D> {
 
     ghost least = { 4 };
 
-    fn call(input: &[u8], to: &mut [u8]) -> (usize, usize, Stop) {
-        let progress = transcode::<D>(input, to);
-        (progress.read, progress.written, progress.stop)
+    fn call(input: &[u8], to: &mut [u8]) -> Progress {
+        transcode::<D>(input, to)
     }
 
     fn laws() {
         D::laws();
-        D::strict_laws();
     }
 }
 
@@ -197,7 +175,7 @@ impl<D: StrictDirection> BufferCall for Strict<D> {
 ///
 /// If allocation fails.
 #[tactic(auto, using(crate::proofs::FormLemmas::strict_end))]
-pub fn strict_through<D: StrictDirection, A: Allocator>(
+pub fn strict_through<D: Direction, A: Allocator>(
     alloc: A,
     input: &[u8],
     buffer: &mut [u8],

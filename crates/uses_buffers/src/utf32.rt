@@ -11,11 +11,10 @@ ghost use Rattle.utf16_fixed.specs.Utf32.{TranscodesFromUtf32, TranscodesToUtf32
 ghost use Rattle.uses_buffers.specs.Forms as forms;
 
 use crate::buffer_call::{BufferCall, call_through};
-use crate::small_buffer::StrictDirection;
 use std::alloc::{AllocError, Allocator};
 use std::marker::PhantomData;
 use utf16_fixed::{from_utf32, from_utf32_lossy, to_utf32, to_utf32_lossy};
-use utf16_transcode::{Stop, ToUtf8};
+use utf16_transcode::{Direction, Progress, Stop, ToUtf8};
 use utf16_units::Utf16Order;
 
 /// Calls of `to_utf32`.
@@ -32,14 +31,13 @@ impl<E: Utf16Order> BufferCall for ToUtf32<E> {
 
     ghost least = { 1 };
 
-    fn call(input: &[u8], to: &mut [u32]) -> (usize, usize, Stop) {
-        let progress = to_utf32::<E>(input, to);
-        (progress.read, progress.written, progress.stop)
+    fn call(input: &[u8], to: &mut [u32]) -> Progress {
+        to_utf32::<E>(input, to)
     }
 
     #[tactic(auto, using(crate::proofs::Utf32Lemmas::to_utf32_nothing))]
     fn laws() {
-        ToUtf8::<E>::strict_laws();
+        ToUtf8::<E>::laws();
     }
 }
 
@@ -82,9 +80,8 @@ impl<E: Utf16Order> BufferCall for ToUtf32Lossy<E> {
 
     ghost least = { 1 };
 
-    fn call(input: &[u8], to: &mut [u32]) -> (usize, usize, Stop) {
-        let progress = to_utf32_lossy::<E>(input, to);
-        (progress.read, progress.written, progress.stop)
+    fn call(input: &[u8], to: &mut [u32]) -> Progress {
+        to_utf32_lossy::<E>(input, to)
     }
 
     #[tactic(auto, using(crate::proofs::FormLemmas::lossy_joined))]
@@ -126,9 +123,8 @@ impl<E: Utf16Order> BufferCall for FromUtf32<E> {
 
     ghost least = { 4 };
 
-    fn call(input: &[u32], to: &mut [u8]) -> (usize, usize, Stop) {
-        let progress = from_utf32::<E>(input, to);
-        (progress.read, progress.written, progress.stop)
+    fn call(input: &[u32], to: &mut [u8]) -> Progress {
+        from_utf32::<E>(input, to)
     }
 
     fn laws() {}
@@ -174,9 +170,8 @@ impl<E: Utf16Order> BufferCall for FromUtf32Lossy<E> {
 
     ghost least = { 4 };
 
-    fn call(input: &[u32], to: &mut [u8]) -> (usize, usize, Stop) {
-        let progress = from_utf32_lossy::<E>(input, to);
-        (progress.read, progress.written, progress.stop)
+    fn call(input: &[u32], to: &mut [u8]) -> Progress {
+        from_utf32_lossy::<E>(input, to)
     }
 
     fn laws() {}

@@ -14,7 +14,7 @@ use crate::buffer_call::{BufferCall, call_through};
 use crate::small_buffer::partial_through;
 use std::alloc::{AllocError, Allocator};
 use std::marker::PhantomData;
-use utf16_transcode::Stop;
+use utf16_transcode::{Progress, Stop};
 use utf16_units::Utf16Order;
 use utf16_wtf8::{ToWtf8, from_wtf8, from_wtf8_partial, to_wtf8};
 
@@ -32,9 +32,8 @@ impl<E: Utf16Order> BufferCall for AllToWtf8<E> {
 
     ghost least = { 4 };
 
-    fn call(input: &[u8], to: &mut [u8]) -> (usize, usize, Stop) {
-        let progress = to_wtf8::<E>(input, to);
-        (progress.read, progress.written, progress.stop)
+    fn call(input: &[u8], to: &mut [u8]) -> Progress {
+        to_wtf8::<E>(input, to)
     }
 
     #[tactic(auto, using(crate::proofs::Wtf8Lemmas::to_wtf8_joined, crate::proofs::Wtf8Lemmas::to_wtf8_nothing))]
@@ -106,9 +105,8 @@ impl<E: Utf16Order> BufferCall for FromWtf8<E> {
 
     ghost least = { 4 };
 
-    fn call(input: &[u8], to: &mut [u8]) -> (usize, usize, Stop) {
-        let progress = from_wtf8::<E>(input, to);
-        (progress.read, progress.written, progress.stop)
+    fn call(input: &[u8], to: &mut [u8]) -> Progress {
+        from_wtf8::<E>(input, to)
     }
 
     fn laws() {}
@@ -153,9 +151,8 @@ impl<E: Utf16Order> BufferCall for FromWtf8Partial<E> {
 
     ghost least = { 4 };
 
-    fn call(input: &[u8], to: &mut [u8]) -> (usize, usize, Stop) {
-        let progress = from_wtf8_partial::<E>(input, to);
-        (progress.read, progress.written, progress.stop)
+    fn call(input: &[u8], to: &mut [u8]) -> Progress {
+        from_wtf8_partial::<E>(input, to)
     }
 
     fn laws() {}

@@ -9,8 +9,8 @@ use Rattle.utf16_units.proofs.CharLemmas.{char_size_two, length-char_bytes}
 use Rattle.utf16_units.proofs.FirstChar.{first_unit}
 use Rattle.utf16_units.proofs.IllFormedLemmas.{faults, rest_from}
 use Rattle.utf16_fixed.specs.StopsLatin1.{BeginsWithA, IsAboveLatin1, IsLatin1, StopsLatin1, StopsLatin1Here}
-use Rattle.utf16_fixed.specs.declared.latin1_progress.Latin1Stop.{Latin1Stop}
-use Rattle.utf16_fixed.specs.declared.latin1_progress.Latin1Stop.TheVariants.{Done, IllFormed, Incomplete, NoSpace, NotLatin1}
+use Rattle.utf16_fixed.specs.declared.latin1_stop.Latin1Stop.{Latin1Stop}
+use Rattle.utf16_fixed.specs.declared.latin1_stop.Latin1Stop.TheVariants.{Done, IllFormed, Incomplete, NoSpace, NotLatin1}
 use Rattle.utf16_fixed.proofs.CharLemmas.{latin1_unit}
 use Rattle.utf16_fixed.specs.Repertoire.{HasAll}
 use Rattle.utf16_fixed.specs.declared.repertoire.Repertoire.TheVariants.{Latin1}

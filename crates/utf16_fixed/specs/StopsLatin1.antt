@@ -6,8 +6,8 @@ use Rattle.std.specs.Char.{IsScalar}
 use Rattle.utf16_units.specs.Encoding.{char_bytes}
 use Rattle.utf16_units.specs.IllFormed.{IsIllFormedAt}
 use Rattle.utf16_transcode.specs.Stops.{IsIllFormedUtf16}
-use Rattle.utf16_fixed.specs.declared.latin1_progress.Latin1Stop.{Latin1Stop}
-use Rattle.utf16_fixed.specs.declared.latin1_progress.Latin1Stop.TheVariants.{Done, IllFormed, Incomplete, NoSpace, NotLatin1}
+use Rattle.utf16_fixed.specs.declared.latin1_stop.Latin1Stop.{Latin1Stop}
+use Rattle.utf16_fixed.specs.declared.latin1_stop.Latin1Stop.TheVariants.{Done, IllFormed, Incomplete, NoSpace, NotLatin1}
 
 -- Latin-1 has the character
 abbrev pub IsLatin1 : ℕ → Type 0

@@ -10,13 +10,14 @@ ghost use Rattle.utf16_fixed.specs.Repertoire.{HasAll};
 ghost use Rattle.utf16_fixed.specs.StopsLatin1.{StopsLatin1, StopsLatin1Here};
 ghost use Rattle.utf16_fixed.specs.Written.{IsNarrowed};
 ghost use Rattle.utf16_fixed.specs.declared.repertoire.Repertoire.TheVariants.{Latin1};
-ghost use Rattle.utf16_fixed.specs.declared.latin1_progress.Latin1Stop.TheVariants.{Done, NoSpace};
+ghost use Rattle.utf16_fixed.specs.declared.latin1_stop.Latin1Stop.TheVariants.{Done, NoSpace};
 
 use crate::blocks::{Block, Fixed, repeat_block};
 use crate::lanes::are_below;
-use crate::latin1_progress::{Latin1Progress, Latin1Stop};
+use crate::latin1_stop::Latin1Stop;
 use std::marker::PhantomData;
 use std::simd::prelude::*;
+use utf16_transcode::Progress;
 use utf16_units::blocks::{units8, units32};
 use utf16_units::{Utf16Order, first_char_len};
 
@@ -30,7 +31,7 @@ use utf16_units::{Utf16Order, first_char_len};
 /// # Complexity
 ///
 /// Linear time in the number of bytes read, in blocks.
-pub fn to_latin1<E: Utf16Order>(raw: &[u8], to: &mut [u8]) -> Latin1Progress
+pub fn to_latin1<E: Utf16Order>(raw: &[u8], to: &mut [u8]) -> Progress<Latin1Stop>
     ensures read { result.read ≡ 2 * result.written }
     ensures within { result.read ≤ length raw.now }
     ensures fits { result.written ≤ length to.new }
@@ -43,7 +44,7 @@ pub fn to_latin1<E: Utf16Order>(raw: &[u8], to: &mut [u8]) -> Latin1Progress
         → length raw.now / 2 ≤ length to.old → result.stop ≡ Done }
 {
     let written = write_latin1::<E>(raw, to);
-    Latin1Progress {
+    Progress {
         read: 2 * written,
         written,
         stop: stop_before::<E>(&raw[2 * written..]),

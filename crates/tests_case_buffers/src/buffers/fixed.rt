@@ -5,9 +5,8 @@ use crate::buffers::buffers::{add_progress, add_stop, add_written, buffer};
 use std::alloc::{AllocError, Global};
 use tests_support::{Answer, Trouble, Values};
 use utf16_fixed::{
-    Latin1Progress, Latin1Stop, Repertoire, from_latin1, from_utf32, from_utf32_lossy,
-    from_utf32_lossy_len, inspect, to_latin1, to_utf32, to_utf32_lossy, to_utf32_lossy_len,
-    validate_utf32,
+    Latin1Stop, Repertoire, from_latin1, from_utf32, from_utf32_lossy, from_utf32_lossy_len,
+    inspect, to_latin1, to_utf32, to_utf32_lossy, to_utf32_lossy_len, validate_utf32,
 };
 use utf16_transcode::{Progress, Stop};
 use utf16_units::Utf16Order;
@@ -119,7 +118,7 @@ fn to_narrow<E: Utf16Order>(
     answer: &mut Answer,
 ) -> Result<(), Trouble> {
     let mut to = buffer(alloc, values.number()?)?;
-    let Latin1Progress {
+    let Progress {
         read,
         written,
         stop,

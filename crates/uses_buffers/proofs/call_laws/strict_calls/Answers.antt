@@ -12,4 +12,4 @@ returns g c input calls last run =
     strict_end d.from d.into d.IsValid d.other d.IsIllFormed input _ _ last.stop
     (composed (IsStrictCall d.from d.into d.IsValid d.other d.IsIllFormed) (strict (Gives d.IsValid d.other) d.from d.into d.IsIllFormed) refl
     (λ input call did. record { within = did.0.within; writes = did.0.gives; stops = did.1 })
-    (strict_joined_there d.from d.into d.IsValid d.other d.IsIllFormedAt d.IsIllFormed c.laws.ensures.joins c.laws.ensures.ill_formed c.strict_laws.ensures) input calls last run)
+    (strict_joined_there d.from d.into d.IsValid d.other d.IsIllFormedAt d.IsIllFormed c.laws.ensures.joins c.laws.ensures.ill_formed c.laws.ensures.there) input calls last run)
