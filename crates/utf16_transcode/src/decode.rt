@@ -229,7 +229,8 @@ fn write_eights_from<E: Utf16Order>(raw: &[u8], to: &mut [u8], from: Moved) -> M
 }
 
 // Writes the first code unit at `at`, where it surely fits, and returns where it ends, or `None` if
-// it is a surrogate. The arms have one body, but in one arm ASCII would take the surrogates' test.
+// it is a surrogate. The arms have one body. If they are one, LLVM tests for surrogates first, and
+// ASCII takes that test too.
 #[inline(always)]
 fn write_plain_unit<E: Utf16Order>(rest: &[u8], to: &mut [u8], at: usize) -> Option<usize>
     requires some { 2 ≤ length rest.now }
