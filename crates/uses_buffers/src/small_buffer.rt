@@ -2,7 +2,7 @@
 //! rest as long as the next character does not fit. Each call for C in `dethrux` is one of these
 //! calls in the byte order that it is passed.
 
-ghost use Rattle.std.specs.Prelude.{◌≡◌, ◌≤◌, ◌++◌, ℕ, List, Option, IfOk, OnOk, length, drop};
+ghost use Rattle.std.specs.Prelude.{◌≡◌, ◌≤◌, ◌++◌, IfOk, OnOk, length, drop};
 ghost use Rattle.std.specs.List.{flat_map};
 ghost use Rattle.std.specs.Vec.{vec_items};
 ghost use Rattle.utf16_transcode.specs.Decomposition.{decided};

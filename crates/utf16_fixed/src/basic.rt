@@ -2,7 +2,7 @@
 //!
 //! The last block ends where the last code unit does, so some units before it are written again.
 
-ghost use Rattle.std.specs.Prelude.{◌≡◌, ◌+◌, ◌*◌, ◌≤◌, ◌++◌, ⊤, length, take};
+ghost use Rattle.std.specs.Prelude.{◌≡◌, ◌*◌, ◌≤◌, ⊤, length, take};
 ghost use Rattle.std.specs.List.{flat_map};
 ghost use Rattle.utf16_units.specs.Unit.{unit_bytes};
 ghost use Rattle.utf16_fixed.specs.Progress.{IsNarrowed};

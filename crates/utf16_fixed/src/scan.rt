@@ -6,7 +6,7 @@
 //! decoded. A text takes one pass, which also validates it. Ill-formed bytes are validated again,
 //! for the end of their valid prefix, and then this prefix is passed.
 
-ghost use Rattle.std.specs.Prelude.{◌≡◌, ◌↔◌, ◌+◌, ◌-◌, ◌/◌, ◌%◌, ◌^◌, ◌<◌, ◌≤◌, ◌++◌, [], false, All, Bool, IfSome, IsTrue, List, OnSome, ℕ, length, map, replicate, take};
+ghost use Rattle.std.specs.Prelude.{◌≡◌, ◌+◌, ◌-◌, ◌/◌, ◌%◌, ◌^◌, ◌<◌, ◌≤◌, ◌++◌, [], false, Bool, IfSome, List, OnSome, ℕ, length, map, replicate, take};
 ghost use Rattle.std.specs.Char.Utf16.{is_low_surrogate};
 ghost use Rattle.std.specs.Simd.Lanes.{mask_l};
 ghost use Rattle.utf16_units.specs.Encoding.{IsUtf16, text_of, units_of};
