@@ -2,11 +2,10 @@
 //! the case says, and counts.
 mod compared;
 mod cut;
-mod filled;
 mod grown;
 mod held;
 mod joined;
-mod made;
+pub mod made;
 mod parts;
 mod ranged;
 mod read;
@@ -18,12 +17,20 @@ pub use crate::strings::held::{Heap, left, part, string};
 use tests_support::Run;
 use utf16string::Utf16Order;
 
-/// Makes a call and adds what it gave. Returns whether a call of strings has this name; if none
-/// has, no value was taken. Each module passes a name that it does not know to the next one.
+/// Makes a call on a string, which is the first value. If the call changes the string, adds the
+/// string that it leaves. The name has no `WString::`.
 pub fn call<E: Utf16Order>(run: &mut Run, name: &str) -> bool {
-    match name.strip_prefix("WString::") {
-        Some(name) => made::call::<E>(run, name),
-        None if name == "Extend::extend" => made::on_string::<E>(run, name),
-        None => false,
+    let mut string = string::<E>(run);
+    run.begin();
+    if read::call(run, &string, name)
+        || replaced::call(run, &string, name)
+        || compared::call(run, &string, name)
+    {
+        return true;
     }
+    let is_known = grown::call(run, &mut string, name)
+        || cut::call(run, &mut string, name)
+        || taken::call(run, &mut string, name);
+    left(run, &string);
+    is_known
 }

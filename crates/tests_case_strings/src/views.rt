@@ -1,30 +1,34 @@
-//! The calls of `utf16_units` and of views, as cases name them.
-mod affixes;
-mod compared;
-mod made;
-mod measures;
-mod occurrences;
+//! The calls on views, as cases name them.
+pub mod compared;
+pub mod made;
 mod parts;
+mod patterns;
 mod predicates;
-mod search;
 mod shown;
-mod spaces;
-mod units;
+pub mod units;
 mod walks;
-mod written;
+mod whole;
+pub mod written;
 
+use crate::views::made::view;
 use tests_support::Run;
-use utf16string::Utf16Order;
+use utf16string::{Utf16Order, WStr};
 
-/// Makes a call and adds what it gave. Returns whether a call of units and views has this name; if
-/// not, no value was taken. Each module passes a name that it does not know to the next one.
+/// Makes a call on a view, whose bytes are the first value. The name has no `WStr::`.
 pub fn call<E: Utf16Order>(run: &mut Run, name: &str) -> bool {
-    match name.split_once("::") {
-        Some(("WStrMut", _)) => written::call::<E>(run, name),
-        Some(("WString", _)) => false,
-        Some((kind, _)) if kind.starts_with("WStr") || kind == "ParseError" => made::call::<E>(
-            run, name,
-        ),
-        _ => units::call::<E>(run, name),
+    let raw = run.bytes();
+    match view::<E>(run, &raw) {
+        Some(text) => on_view(run, text, name),
+        None => true,
     }
+}
+
+fn on_view<E: Utf16Order>(run: &mut Run, text: WStr<E>, name: &str) -> bool {
+    whole::call(&mut run.answer, text, name)
+        || parts::call(run, text, name)
+        || patterns::call(run, text, name)
+        || compared::call(run, text, name)
+        || predicates::call(run, text, name)
+        || walks::call(run, text, name)
+        || shown::call(run, text, name)
 }

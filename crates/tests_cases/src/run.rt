@@ -103,55 +103,13 @@ fn agrees<E: Utf16Order>(
 fn answer<E: Utf16Order>(alloc: Global, case: &Case, how: &How) -> Result<Answer, Trouble> {
     let heap = Refusing::new(alloc);
     let mut run = Run::new(alloc, &heap, how, case.values, E::BIG);
-    on_views::<E>(&mut run, case.call);
+    if !is_made::<E>(&mut run, case.call) {
+        run.refuse(Trouble::Call);
+    }
     run.end()
 }
 
-// Makes a call on views, or passes it on to strings. Each crate has a separate function: the proof
-// of one function that tries all crates takes a hundred times as long.
-fn on_views<E: Utf16Order>(run: &mut Run, name: &str) {
-    if !tests_case_strings::views::call::<E>(run, name) {
-        on_strings::<E>(run, name);
-    }
-}
-
-// Makes a call on strings, or passes it on to edits, streams and buffers.
-fn on_strings<E: Utf16Order>(run: &mut Run, name: &str) {
-    if !tests_case_strings::strings::call::<E>(run, name) {
-        by_edits::<E>(run, name);
-    }
-}
-
-// Makes a call of edits, or passes it on to streams and buffers.
-fn by_edits<E: Utf16Order>(run: &mut Run, name: &str) {
-    if !tests_case_strings::edits::call::<E>(run, name) {
-        on_streams::<E>(run, name);
-    }
-}
-
-// Makes a call of streams, or passes it on to buffers.
-fn on_streams<E: Utf16Order>(run: &mut Run, name: &str) {
-    match tests_case_buffers::streams::call::<E>(
-        run.alloc,
-        name,
-        run.how,
-        &mut run.values,
-        &mut run.answer,
-    ) {
-        Err(Trouble::Call) => on_buffers::<E>(run, name),
-        Err(trouble) => run.refuse(trouble),
-        Ok(()) => {}
-    }
-}
-
-// Makes a call over buffers.
-fn on_buffers<E: Utf16Order>(run: &mut Run, name: &str) {
-    if let Err(trouble) = tests_case_buffers::buffers::call::<E>(
-        run.alloc,
-        name,
-        &mut run.values,
-        &mut run.answer,
-    ) {
-        run.refuse(trouble);
-    }
+// Makes the call of this name, and returns whether there is one.
+fn is_made<E: Utf16Order>(run: &mut Run, name: &str) -> bool {
+    tests_case_strings::call::<E>(run, name) || tests_case_buffers::call::<E>(run, name)
 }

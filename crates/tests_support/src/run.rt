@@ -6,7 +6,7 @@ use crate::how::{How, Refuse};
 use crate::refusing::Refusing;
 use crate::span::Span;
 use crate::trouble::Trouble;
-use crate::values::Values;
+use crate::values::{Values, number_of};
 use std::alloc::Global;
 use std::fmt::{Debug, Display};
 
@@ -62,6 +62,11 @@ impl<'a> Run<'a> {
         self.refuse(Trouble::Condition);
     }
 
+    /// Keeps the trouble of what was done, if there was any.
+    pub fn note(&mut self, done: Result<(), Trouble>) {
+        self.or(done, ());
+    }
+
     // Returns what was taken, or else another value.
     fn or<T: Drop>(&mut self, taken: Result<T, Trouble>, other: T) -> T {
         match taken {
@@ -103,6 +108,23 @@ impl<'a> Run<'a> {
         self.or(taken, Vec::new(self.alloc))
     }
 
+    /// Takes bytes in chunks. If no value remains, there are none.
+    pub fn pieces(&mut self) -> Vec<Vec<u8>> {
+        if self.values.count() == 0 {
+            return Vec::new(self.alloc);
+        }
+        let taken = self.values.pieces(self.alloc, self.is_big);
+        self.or(taken, Vec::new(self.alloc))
+    }
+
+    /// Takes the length of a buffer: a number, or `size` for this one.
+    pub fn room(&mut self, size: usize) -> usize {
+        match self.word() {
+            "size" => size,
+            word => self.or(number_of(word), 0),
+        }
+    }
+
     /// Takes a range.
     pub fn span(&mut self) -> Span {
         let taken = Span::read(self.word());
@@ -112,7 +134,7 @@ impl<'a> Run<'a> {
     /// Adds what a format writes for a value.
     pub fn written<T: Display + Debug>(&mut self, value: &T, format: &str) {
         let written = add_written(self.alloc, value, format, &mut self.answer);
-        self.or(written, ());
+        self.note(written);
     }
 
     /// From now on allocations fail as the case says, and are counted.

@@ -1,86 +1,118 @@
-//! Calls on any bytes of UTF-16 as they are.
+//! Calls on only bytes, which measure, test or change them.
 
-use std::alloc::Global;
-use std::cmp::Ordering;
-use tests_support::{Answer, Trouble, Values};
-use utf16_bytes::{
-    compare, floor_char_boundary, floor_char_boundary_around, is_char_boundary, shard_offset,
-    swap_byte_order,
-};
-use utf16_transcode::make_well_formed;
-use utf16_units::{BE, LE, Utf16Order};
+use crate::buffers::output::add_stop;
+use tests_support::Run;
+use utf16_bytes::{count_chars, is_ascii, swap_byte_order};
+use utf16_fixed::{Repertoire, inspect, to_utf32_lossy_len};
+use utf16_transcode::{from_utf8_len, from_utf8_lossy_len, make_well_formed, to_utf8_lossy_len};
+use utf16_units::text::{has_ascii_units, trailing_units};
+use utf16_units::{Utf16Order, first_char_len};
+use utf16_wtf8::to_wtf8_len;
 
-/// Makes the call of this name.
-pub fn call<E: Utf16Order>(
-    alloc: Global,
-    name: &str,
-    values: &mut Values,
-    answer: &mut Answer,
-) -> Result<(), Trouble> {
-    let mut bytes = values.bytes(alloc, E::BIG)?;
-    if name == "bytes::compare" {
-        let other = values.bytes(alloc, E::BIG)?;
-        compared::<E>(&bytes, other, answer);
-        return Ok(());
-    }
-    on_bytes::<E>(name, bytes.as_mut_slice(), values, answer)
-}
-
-fn on_bytes<E: Utf16Order>(
-    name: &str,
-    bytes: &mut [u8],
-    values: &mut Values,
-    answer: &mut Answer,
-) -> Result<(), Trouble> {
+/// Makes a call on only bytes.
+pub fn call<E: Utf16Order>(run: &mut Run, name: &str) -> bool {
     match name {
-        "swap_byte_order" => {
-            swap_byte_order(bytes);
-            answer.bytes(bytes);
-        }
-        "make_well_formed" => {
-            answer.number(make_well_formed::<E>(bytes));
-            answer.bytes(bytes);
-        }
-        "bytes::is_char_boundary" => {
-            answer.truth(is_char_boundary::<E>(bytes, values.number()?));
-        }
-        "bytes::floor_char_boundary" => {
-            answer.number(floor_char_boundary::<E>(bytes, values.number()?));
-        }
-        _ => {
-            let at = values.number()? as u64;
-            answer.number(floor_char_boundary_around::<E>(bytes, at) as usize);
+        "swap_byte_order" => swapped(run),
+        "make_well_formed" => well_formed::<E>(run),
+        "first_char_len" => front::<E>(run),
+        "inspect" => kind::<E>(run),
+        _ => match MeasureCall::named(name) {
+            Some(call) => measured::<E>(run, call),
+            None => return false,
+        },
+    }
+    true
+}
+
+// A call that returns a number or a truth.
+#[derive(Clone, Copy)]
+enum MeasureCall {
+    CountChars,
+    FromUtf8Len,
+    FromUtf8LossyLen,
+    HasAsciiUnits,
+    IsAscii,
+    ToUtf8LossyLen,
+    ToUtf32LossyLen,
+    ToWtf8Len,
+    TrailingUnits,
+}
+
+impl MeasureCall {
+    // Returns the call of this name.
+    fn named(name: &str) -> Option<Self> {
+        match name {
+            "count_chars" => Some(MeasureCall::CountChars),
+            "from_utf8_len" => Some(MeasureCall::FromUtf8Len),
+            "from_utf8_lossy_len" => Some(MeasureCall::FromUtf8LossyLen),
+            "has_ascii_units" => Some(MeasureCall::HasAsciiUnits),
+            "is_ascii" => Some(MeasureCall::IsAscii),
+            "to_utf8_lossy_len" => Some(MeasureCall::ToUtf8LossyLen),
+            "to_utf32_lossy_len" => Some(MeasureCall::ToUtf32LossyLen),
+            "to_wtf8_len" => Some(MeasureCall::ToWtf8Len),
+            "trailing_units" => Some(MeasureCall::TrailingUnits),
+            _ => None,
         }
     }
-    Ok(())
 }
 
-/// Makes a call of `shard_offset`.
-pub fn shard(values: &mut Values, answer: &mut Answer) -> Result<(), Trouble> {
-    let len = values.number()? as u64;
-    let count = values.number()? as u64;
-    let index = values.number()? as u64;
-    answer.number(shard_offset(len, count, index) as usize);
-    Ok(())
+fn measured<E: Utf16Order>(run: &mut Run, call: MeasureCall) {
+    let bytes = run.bytes();
+    let answer = &mut run.answer;
+    match call {
+        MeasureCall::CountChars => answer.number(count_chars::<E>(&bytes)),
+        MeasureCall::FromUtf8Len => answer.number(from_utf8_len(&bytes)),
+        MeasureCall::FromUtf8LossyLen => answer.number(from_utf8_lossy_len(&bytes)),
+        MeasureCall::HasAsciiUnits => answer.truth(has_ascii_units::<E>(&bytes)),
+        MeasureCall::IsAscii => answer.truth(is_ascii::<E>(&bytes)),
+        MeasureCall::ToUtf8LossyLen => answer.number(to_utf8_lossy_len::<E>(&bytes)),
+        MeasureCall::ToUtf32LossyLen => answer.number(to_utf32_lossy_len::<E>(&bytes)),
+        MeasureCall::ToWtf8Len => answer.number(to_wtf8_len::<E>(&bytes)),
+        MeasureCall::TrailingUnits => answer.number(trailing_units::<E>(&bytes)),
+    }
 }
 
-// Adds how two texts compare, and `differs` if the result is another one with the second text in
-// the other byte order.
-fn compared<E: Utf16Order>(first: &[u8], second: Vec<u8>, answer: &mut Answer) {
-    let mut second = second;
-    let order = compare::<E, E>(first, &second);
-    answer.word(match order {
-        Ordering::Less => "less",
-        Ordering::Equal => "equal",
-        Ordering::Greater => "greater",
+fn swapped(run: &mut Run) {
+    let mut bytes = run.bytes();
+    swap_byte_order(bytes.as_mut_slice());
+    run.answer.bytes(&bytes);
+}
+
+fn well_formed<E: Utf16Order>(run: &mut Run) {
+    let mut bytes = run.bytes();
+    run.answer
+        .number(make_well_formed::<E>(bytes.as_mut_slice()));
+    run.answer.bytes(&bytes);
+}
+
+// Adds the length of the first character, or `ill_formed` and its length, or `incomplete`.
+fn front<E: Utf16Order>(run: &mut Run) {
+    let bytes = run.bytes();
+    if bytes.is_empty() {
+        return run.unmet();
+    }
+    match first_char_len::<E>(&bytes) {
+        Ok(len) => run.answer.number(len),
+        Err(Some(len)) => {
+            run.answer.word("ill_formed");
+            run.answer.number(len as usize);
+        }
+        Err(None) => run.answer.word("incomplete"),
+    }
+}
+
+// Adds the length of the longest valid prefix, the number of its characters, the least repertoire
+// that has them, and what follows.
+fn kind<E: Utf16Order>(run: &mut Run) {
+    let found = inspect::<E>(&run.bytes());
+    let answer = &mut run.answer;
+    answer.number(found.valid_up_to);
+    answer.number(found.chars);
+    answer.word(match found.repertoire {
+        Repertoire::Ascii => "ascii",
+        Repertoire::Latin1 => "latin1",
+        Repertoire::Bmp => "bmp",
+        Repertoire::Unicode => "unicode",
     });
-    swap_byte_order(second.as_mut_slice());
-    let swapped = if E::BIG {
-        compare::<E, LE>(first, &second)
-    } else {
-        compare::<E, BE>(first, &second)
-    };
-    if swapped != order {
-        answer.word("differs");
-    }
+    add_stop(answer, found.stop);
 }

@@ -1,17 +1,29 @@
 //! Conversions from one encoding to the other.
 
-use crate::buffers::buffers::{add_written, buffer, written};
-use std::alloc::Global;
-use tests_support::{Answer, Trouble, Values};
+use crate::buffers::output::{add_bytes, add_changed, add_start, add_written, buffer};
+use tests_support::{Run, Trouble};
 use utf16_transcode::{
     Progress, from_utf8, from_utf8_lossy, from_utf8_lossy_len, from_utf8_partial, to_utf8,
-    to_utf8_lossy, to_utf8_lossy_len, to_utf8_partial,
+    to_utf8_lossy, to_utf8_lossy_len, to_utf8_partial, write_well_formed,
 };
 use utf16_units::Utf16Order;
 
-/// The calls that read one encoding and write the other.
+/// Makes a call that converts to a buffer.
+pub fn call<E: Utf16Order>(run: &mut Run, name: &str) -> bool {
+    match name {
+        "every_room" => every_room::<E>(run),
+        "write_well_formed" => well_formed::<E>(run),
+        _ => match Conversion::named(name) {
+            Some(conversion) => convert::<E>(run, conversion),
+            None => return false,
+        },
+    }
+    true
+}
+
+// The calls that read one encoding and write the other.
 #[derive(Clone, Copy)]
-pub enum Conversion {
+enum Conversion {
     ToUtf8,
     Decode,
     DecodeWhole,
@@ -21,8 +33,8 @@ pub enum Conversion {
 }
 
 impl Conversion {
-    /// Returns the call of that name.
-    pub fn named(name: &str) -> Option<Self> {
+    // Returns the call of this name.
+    fn named(name: &str) -> Option<Self> {
         match name {
             "to_utf8" => Some(Conversion::ToUtf8),
             "to_utf8_partial" => Some(Conversion::Decode),
@@ -64,59 +76,60 @@ impl Conversion {
     }
 }
 
-/// Adds how far a call came with a buffer of this many bytes, or of the length that its length call
-/// returns, and what was written.
-pub fn convert<E: Utf16Order>(
-    alloc: Global,
-    conversion: Conversion,
-    values: &mut Values,
-    answer: &mut Answer,
-) -> Result<(), Trouble> {
-    let from = values.bytes(alloc, E::BIG)?;
-    let room = match values.word()? {
-        "size" => conversion.size::<E>(&from),
-        word => tests_support::number_of(word)?,
-    };
-    let mut to = buffer(alloc, room)?;
+// Adds how far a call came with a buffer of this many bytes, or of the length that its length call
+// returns, and what was written.
+fn convert<E: Utf16Order>(run: &mut Run, conversion: Conversion) {
+    let from = run.bytes();
+    let room = run.room(conversion.size::<E>(&from));
+    let mut to = buffer(run, room);
     let progress = conversion.make::<E>(&from, &mut to);
-    add_written(answer, &to, progress, conversion.writes_utf8())
+    add_written(run, &to, progress, conversion.writes_utf8());
 }
 
-/// Adds, for each length of a buffer up to the one that the length call returns, how many bytes the
-/// call writes to it, and `differs` if they are not a prefix of the bytes that it writes to the
-/// last one. Then adds those bytes.
-pub fn every_room<E: Utf16Order>(
-    alloc: Global,
-    values: &mut Values,
-    answer: &mut Answer,
-) -> Result<(), Trouble> {
-    let conversion = Conversion::named(values.word()?).ok_or(Trouble::Value)?;
-    let from = values.bytes(alloc, E::BIG)?;
+// Adds, for each length of a buffer up to the one that the length call returns, how many bytes the
+// call writes to it, and `differs` if they are not a prefix of the bytes that it writes to the last
+// one. Then adds those bytes.
+fn every_room<E: Utf16Order>(run: &mut Run) {
+    let Some(conversion) = Conversion::named(run.word()) else {
+        return run.refuse(Trouble::Value);
+    };
+    let from = run.bytes();
     let size = conversion.size::<E>(&from);
-    let mut all = buffer(alloc, size)?;
+    let mut all = buffer(run, size);
     let last = conversion.make::<E>(&from, &mut all);
     for room in 0..=size {
-        begins::<E>(alloc, conversion, &from, &all, room, answer)?;
+        begins::<E>(run, conversion, &from, &all, room);
     }
-    answer.text_or_bytes(written(&all, last)?, conversion.writes_utf8());
-    Ok(())
+    add_start(run, &all, last.written, conversion.writes_utf8());
 }
 
 // Adds how many bytes a call writes to a buffer of this many bytes, and `differs` if they are not a
 // prefix of `all`.
 fn begins<E: Utf16Order>(
-    alloc: Global,
+    run: &mut Run,
     conversion: Conversion,
     from: &[u8],
     all: &[u8],
     room: usize,
-    answer: &mut Answer,
-) -> Result<(), Trouble> {
-    let mut to = buffer(alloc, room)?;
-    let progress = conversion.make::<E>(from, &mut to);
-    answer.number(progress.written);
-    if !all.starts_with(written(&to, progress)?) {
-        answer.word("differs");
+) {
+    let mut to = buffer(run, room);
+    let written = conversion.make::<E>(from, &mut to).written;
+    run.answer.number(written);
+    match to.get(..written) {
+        Some(start) if all.starts_with(start) => {}
+        _ => run.answer.word("differs"),
     }
-    Ok(())
+}
+
+// Adds the number of bytes written to a buffer of this many bytes, and the bytes.
+fn well_formed<E: Utf16Order>(run: &mut Run) {
+    let raw = run.bytes();
+    let room = run.number();
+    let mut to = buffer(run, room);
+    if to.len() < raw.len() {
+        return run.unmet();
+    }
+    let len = write_well_formed::<E>(&raw, &mut to);
+    add_bytes(run, &to, len, false);
+    add_changed(run, &to, len);
 }

@@ -1,139 +1,121 @@
-//! Calls from and to UTF-32 and Latin-1, and what kind of text bytes are. UTF-32 is spelled by its
-//! bytes in big endian.
+//! Calls from and to UTF-32 and Latin-1. UTF-32 is spelled by its bytes in big endian.
 
-use crate::buffers::buffers::{add_progress, add_stop, add_written, buffer};
-use std::alloc::{AllocError, Global};
-use tests_support::{Answer, Trouble, Values};
+use crate::buffers::output::{add_progress, add_start, add_written, buffer};
+use tests_support::{Run, Trouble};
 use utf16_fixed::{
-    Latin1Stop, Repertoire, from_latin1, from_utf32, from_utf32_lossy, from_utf32_lossy_len,
-    inspect, to_latin1, to_utf32, to_utf32_lossy, to_utf32_lossy_len, validate_utf32,
+    Latin1Stop, from_latin1, from_utf32, from_utf32_lossy, from_utf32_lossy_len, to_latin1,
+    to_utf32, to_utf32_lossy, to_utf32_lossy_len, validate_utf32,
 };
 use utf16_transcode::{Progress, Stop};
 use utf16_units::Utf16Order;
 
-/// Makes the call of this name.
-pub fn call<E: Utf16Order>(
-    alloc: Global,
-    name: &str,
-    values: &mut Values,
-    answer: &mut Answer,
-) -> Result<(), Trouble> {
-    let bytes = values.bytes(alloc, E::BIG)?;
+/// Makes a call from or to UTF-32 or Latin-1.
+pub fn call<E: Utf16Order>(run: &mut Run, name: &str) -> bool {
     match name {
-        "to_utf32" | "to_utf32_lossy" => to_wide::<E>(alloc, name, &bytes, values, answer),
-        "to_utf32_lossy_len" => {
-            answer.number(to_utf32_lossy_len::<E>(&bytes));
-            Ok(())
-        }
-        "from_utf32" | "from_utf32_lossy" => from_wide::<E>(alloc, name, &bytes, values, answer),
-        "from_utf32_lossy_len" => {
-            answer.number(from_utf32_lossy_len(&numbers(alloc, &bytes)?));
-            Ok(())
-        }
-        "validate_utf32" => {
-            match validate_utf32(&numbers(alloc, &bytes)?) {
-                Ok(()) => answer.word("done"),
-                Err(at) => answer.number(at),
-            }
-            Ok(())
-        }
-        "to_latin1" => to_narrow::<E>(alloc, &bytes, values, answer),
-        "from_latin1" => {
-            let mut to = buffer(alloc, values.number()?)?;
-            let progress = from_latin1::<E>(&bytes, &mut to);
-            add_written(answer, &to, progress, false)
-        }
-        _ => {
-            kind::<E>(&bytes, answer);
-            Ok(())
-        }
+        "to_utf32" => to_wide::<E>(run, false),
+        "to_utf32_lossy" => to_wide::<E>(run, true),
+        "from_utf32" => from_wide::<E>(run, false),
+        "from_utf32_lossy" => from_wide::<E>(run, true),
+        "from_utf32_lossy_len" => wide_len(run),
+        "validate_utf32" => validate(run),
+        "to_latin1" => to_narrow::<E>(run),
+        "from_latin1" => from_narrow::<E>(run),
+        _ => return false,
     }
+    true
 }
 
-// The code units of UTF-32 that these bytes spell; fewer than four bytes at the end spell none.
-fn numbers(alloc: Global, bytes: &[u8]) -> Result<Vec<u32>, AllocError> {
-    let mut numbers = Vec::new(alloc);
-    for chunk in bytes.chunks_exact(4) {
-        numbers.push(u32::from_be_bytes([chunk[0], chunk[1], chunk[2], chunk[3]]))?;
+// Takes code units of UTF-32; fewer than four bytes at the end spell none.
+fn numbers(run: &mut Run) -> Vec<u32> {
+    let mut numbers = Vec::new(run.alloc);
+    for chunk in run.bytes().chunks_exact(4) {
+        if numbers
+            .push(u32::from_be_bytes([chunk[0], chunk[1], chunk[2], chunk[3]]))
+            .is_err()
+        {
+            run.refuse(Trouble::Memory);
+        }
     }
-    Ok(numbers)
+    numbers
 }
 
 // Adds how far a call to UTF-32 came with a buffer of this many code units, or of the number that
 // the length call returns, and what it wrote.
-fn to_wide<E: Utf16Order>(
-    alloc: Global,
-    name: &str,
-    bytes: &[u8],
-    values: &mut Values,
-    answer: &mut Answer,
-) -> Result<(), Trouble> {
-    let room = match values.word()? {
-        "size" => to_utf32_lossy_len::<E>(bytes),
-        word => tests_support::number_of(word)?,
+fn to_wide<E: Utf16Order>(run: &mut Run, is_lossy: bool) {
+    let bytes = run.bytes();
+    let room = run.room(to_utf32_lossy_len::<E>(&bytes));
+    let Ok(mut to) = vec![in run.alloc; 0u32; room] else {
+        return run.refuse(Trouble::Memory);
     };
-    let mut to: Vec<u32> = vec![in alloc; 0; room]?;
-    let progress = if name == "to_utf32" {
-        to_utf32::<E>(bytes, &mut to)
+    let progress = if is_lossy {
+        to_utf32_lossy::<E>(&bytes, &mut to)
     } else {
-        to_utf32_lossy::<E>(bytes, &mut to)
+        to_utf32::<E>(&bytes, &mut to)
     };
-    add_progress(answer, progress);
-    let mut written = Vec::new(alloc);
-    for unit in to.get(..progress.written).ok_or(Trouble::Condition)? {
-        written.extend_from_slice(&unit.to_be_bytes())?;
+    add_progress(&mut run.answer, progress);
+    match to.get(..progress.written) {
+        Some(units) => add_units(run, units),
+        None => run.unmet(),
     }
-    answer.bytes(&written);
-    Ok(())
+}
+
+// Adds the bytes of code units of UTF-32.
+fn add_units(run: &mut Run, units: &[u32]) {
+    let mut bytes = Vec::new(run.alloc);
+    for unit in units {
+        if bytes.extend_from_slice(&unit.to_be_bytes()).is_err() {
+            run.refuse(Trouble::Memory);
+        }
+    }
+    run.answer.bytes(&bytes);
 }
 
 // Adds how far a call from UTF-32 came with a buffer of this many bytes, or of the length that the
 // length call returns, and what it wrote.
-fn from_wide<E: Utf16Order>(
-    alloc: Global,
-    name: &str,
-    bytes: &[u8],
-    values: &mut Values,
-    answer: &mut Answer,
-) -> Result<(), Trouble> {
-    let numbers = numbers(alloc, bytes)?;
-    let room = match values.word()? {
-        "size" => from_utf32_lossy_len(&numbers),
-        word => tests_support::number_of(word)?,
-    };
-    let mut to = buffer(alloc, room)?;
-    let progress = if name == "from_utf32" {
-        from_utf32::<E>(&numbers, &mut to)
-    } else {
+fn from_wide<E: Utf16Order>(run: &mut Run, is_lossy: bool) {
+    let numbers = numbers(run);
+    let room = run.room(from_utf32_lossy_len(&numbers));
+    let mut to = buffer(run, room);
+    let progress = if is_lossy {
         from_utf32_lossy::<E>(&numbers, &mut to)
+    } else {
+        from_utf32::<E>(&numbers, &mut to)
     };
-    add_written(answer, &to, progress, false)
+    add_written(run, &to, progress, false);
+}
+
+fn wide_len(run: &mut Run) {
+    let numbers = numbers(run);
+    run.answer.number(from_utf32_lossy_len(&numbers));
+}
+
+fn validate(run: &mut Run) {
+    match validate_utf32(&numbers(run)) {
+        Ok(()) => run.answer.word("done"),
+        Err(at) => run.answer.number(at),
+    }
 }
 
 // Adds how far a call to Latin-1 came with a buffer of this many bytes, and what it wrote.
-fn to_narrow<E: Utf16Order>(
-    alloc: Global,
-    bytes: &[u8],
-    values: &mut Values,
-    answer: &mut Answer,
-) -> Result<(), Trouble> {
-    let mut to = buffer(alloc, values.number()?)?;
+fn to_narrow<E: Utf16Order>(run: &mut Run) {
+    let bytes = run.bytes();
+    let room = run.number();
+    let mut to = buffer(run, room);
     let Progress {
         read,
         written,
         stop,
-    } = to_latin1::<E>(bytes, &mut to);
+    } = to_latin1::<E>(&bytes, &mut to);
     let stop = match stop {
         Latin1Stop::Done => Stop::Done,
         Latin1Stop::IllFormed(len) => Stop::IllFormed(len),
         Latin1Stop::Incomplete => Stop::Incomplete,
         Latin1Stop::NoSpace => Stop::NoSpace,
         Latin1Stop::NotLatin1 => {
-            answer.number(read);
-            answer.number(written);
-            answer.word("not_latin1");
-            answer.bytes(to.get(..written).ok_or(Trouble::Condition)?);
-            return Ok(());
+            run.answer.number(read);
+            run.answer.number(written);
+            run.answer.word("not_latin1");
+            return add_start(run, &to, written, false);
         }
     };
     let progress = Progress {
@@ -141,20 +123,13 @@ fn to_narrow<E: Utf16Order>(
         written,
         stop,
     };
-    add_written(answer, &to, progress, false)
+    add_written(run, &to, progress, false);
 }
 
-// Adds the length of the longest valid prefix, the number of its characters, the least repertoire
-// that has them, and what follows.
-fn kind<E: Utf16Order>(bytes: &[u8], answer: &mut Answer) {
-    let found = inspect::<E>(bytes);
-    answer.number(found.valid_up_to);
-    answer.number(found.chars);
-    answer.word(match found.repertoire {
-        Repertoire::Ascii => "ascii",
-        Repertoire::Latin1 => "latin1",
-        Repertoire::Bmp => "bmp",
-        Repertoire::Unicode => "unicode",
-    });
-    add_stop(answer, found.stop);
+fn from_narrow<E: Utf16Order>(run: &mut Run) {
+    let bytes = run.bytes();
+    let room = run.number();
+    let mut to = buffer(run, room);
+    let progress = from_latin1::<E>(&bytes, &mut to);
+    add_written(run, &to, progress, false);
 }

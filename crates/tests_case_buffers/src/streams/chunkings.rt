@@ -3,7 +3,7 @@
 use crate::streams::fed::Decoder;
 use std::alloc::{AllocError, Global};
 use std::marker::PhantomData;
-use tests_support::{Answer, Trouble, Values};
+use tests_support::{Answer, Run, Trouble};
 use utf16_streams::{AnyLossy, Lossy, Utf16Order, decode_pieces};
 
 // The longest stream, in bytes, that is cut in every way, and the longest one that is cut at all.
@@ -46,28 +46,34 @@ impl<D: Decoder> Way for OneByOne<D> {
 
 /// Adds the text of the bytes in one chunk, and after it any other text that a chunking gives, from
 /// `decode_pieces` or from `Lossy`.
-pub fn every_chunking<E: Utf16Order>(
-    alloc: Global,
-    values: &mut Values,
-    answer: &mut Answer,
-) -> Result<(), Trouble> {
-    let bytes = values.bytes(alloc, E::BIG)?;
-    let whole = AtOnce::<E>::text(alloc, &cut(alloc, &bytes, 0, false)?)?;
-    answer.text(whole.as_str());
-    add_other::<AtOnce<E>>(alloc, &bytes, whole.as_str(), answer)?;
-    add_other::<OneByOne<Lossy<E>>>(alloc, &bytes, whole.as_str(), answer)
+pub fn every_chunking<E: Utf16Order>(run: &mut Run) {
+    let bytes = run.bytes();
+    let added = add_both::<E>(run.alloc, &bytes, &mut run.answer);
+    run.note(added);
 }
 
 /// Does the same with `AnyLossy`.
-pub fn every_any_chunking(
+pub fn every_any_chunking(run: &mut Run) {
+    let bytes = run.bytes();
+    let added = add_all::<OneByOne<AnyLossy>>(run.alloc, &bytes, &mut run.answer);
+    run.note(added.map(|_| ()));
+}
+
+fn add_both<E: Utf16Order>(
     alloc: Global,
-    values: &mut Values,
+    bytes: &[u8],
     answer: &mut Answer,
 ) -> Result<(), Trouble> {
-    let bytes = values.bytes(alloc, true)?;
-    let whole = OneByOne::<AnyLossy>::text(alloc, &cut(alloc, &bytes, 0, false)?)?;
+    let whole = add_all::<AtOnce<E>>(alloc, bytes, answer)?;
+    add_other::<OneByOne<Lossy<E>>>(alloc, bytes, whole.as_str(), answer)
+}
+
+// Adds the text of one chunk, and the first one that differs. Returns the text of one chunk.
+fn add_all<W: Way>(alloc: Global, bytes: &[u8], answer: &mut Answer) -> Result<String, Trouble> {
+    let whole = W::text(alloc, &cut(alloc, bytes, 0, false)?)?;
     answer.text(whole.as_str());
-    add_other::<OneByOne<AnyLossy>>(alloc, &bytes, whole.as_str(), answer)
+    add_other::<W>(alloc, bytes, whole.as_str(), answer)?;
+    Ok(whole)
 }
 
 // Adds the first text of a chunking that differs.

@@ -1,9 +1,8 @@
-//! Decoders that are fed chunk by chunk.
+//! Chunks decoded: fed to a decoder one by one, or at once.
 
-use crate::streams::memory::{end, heap};
-use crate::streams::pieces::pieces;
 use std::alloc::{AllocError, Allocator, Global};
-use tests_support::{Answer, How, Trouble, Values};
+use tests_support::Run;
+use tests_support::refusing::Refusing;
 use utf16_streams::{AnyLossy, Lossy, Utf16Order};
 
 /// The calls that both decoders have.
@@ -59,26 +58,36 @@ impl Decoder for AnyLossy {
 
 /// Feeds the chunks: adds for each the text and what is pending after it, and finally the result of
 /// the end.
-pub fn feed<E: Utf16Order, D: Decoder>(
-    alloc: Global,
-    how: &How,
-    values: &mut Values,
-    answer: &mut Answer,
-) -> Result<(), Trouble> {
-    let pieces = pieces::<E>(alloc, values)?;
-    let heap = heap(alloc, how);
+pub fn feed<D: Decoder>(run: &mut Run) {
+    let pieces = run.pieces();
+    run.begin();
     let mut decoder = D::new();
     for piece in &pieces {
-        match decoder.feed(&heap, piece) {
-            Ok(text) => answer.text(text.as_str()),
-            Err(AllocError) => answer.word("no_memory"),
-        }
-        answer.bytes(decoder.pending());
+        add_text(run, decoder.feed(run.heap, piece));
+        run.answer.bytes(decoder.pending());
     }
     match decoder.finish() {
-        Some(replacement) => answer.character(replacement),
-        None => answer.word("none"),
+        Some(replacement) => run.answer.character(replacement),
+        None => run.answer.word("none"),
     }
-    end(&heap, how, answer);
-    Ok(())
+    run.requests();
+}
+
+/// Adds the text of chunks that are decoded at once.
+pub fn decode_pieces<E: Utf16Order>(run: &mut Run) {
+    let pieces = run.pieces();
+    run.begin();
+    add_text(
+        run,
+        utf16_streams::decode_pieces::<E, _, _>(run.heap, &pieces),
+    );
+    run.requests();
+}
+
+// Adds a text that was made, or that an allocation failed.
+fn add_text(run: &mut Run, made: Result<String<&Refusing<Global>>, AllocError>) {
+    match made {
+        Ok(text) => run.answer.text(text.as_str()),
+        Err(AllocError) => run.answer.word("no_memory"),
+    }
 }

@@ -1,11 +1,8 @@
 //! Filters from a reader to a writer.
 
 use crate::streams::devices::manner;
-use crate::streams::memory::{add_kept, heap};
-use std::alloc::Global;
-use tests_support::refusing::Refusing;
 use tests_support::stepped::{Giver, Taker};
-use tests_support::{Answer, How, Trouble, Values};
+use tests_support::{Answer, Run};
 use utf16_streams::{
     FilterFault, Utf16Order, Watched, encode_stream, encode_stream_with_bom, filter_auto,
 };
@@ -31,17 +28,18 @@ pub struct Ended {
     pub write_faults: u64,
 }
 
-/// Runs a filter over the bytes, with a reader and a writer that misbehave at the given calls.
+/// Runs a filter over the bytes, with a reader and a writer that misbehave at the given calls, and
+/// allocations that fail as the case says.
 pub fn run<E: Utf16Order>(
-    alloc: Global,
-    heap: &Refusing<Global>,
-    how: &How,
+    case: &Run,
     bytes: &[u8],
     filter: FilterCall,
     odd: (usize, usize),
 ) -> Ended {
-    let mut reader = Watched::new(Giver::new(bytes, manner(&how.reads, odd.0)));
-    let mut writer = Watched::new(Taker::new(alloc, manner(&how.writes, odd.1)));
+    case.begin();
+    let heap = case.heap;
+    let mut reader = Watched::new(Giver::new(bytes, manner(&case.how.reads, odd.0)));
+    let mut writer = Watched::new(Taker::new(case.alloc, manner(&case.how.writes, odd.1)));
     let result = match filter {
         FilterCall::Decode => utf16_streams::filter::<E, _, _, _>(heap, &mut reader, &mut writer),
         FilterCall::DecodeAuto => filter_auto(heap, &mut reader, &mut writer),
@@ -75,28 +73,18 @@ pub fn add_result(answer: &mut Answer, found: Result<(), FilterFault>) {
 }
 
 /// Adds the result and what was written. If the case counts them, also adds the calls of the reader
-/// and the writer and their I/O errors. If memory was not freed, also adds that.
-pub fn filter<E: Utf16Order>(
-    alloc: Global,
-    how: &How,
-    values: &mut Values,
-    answer: &mut Answer,
-    filter: FilterCall,
-) -> Result<(), Trouble> {
-    let bytes = values.bytes(alloc, E::BIG)?;
-    let heap = heap(alloc, how);
-    let odd = (how.reads.odd_at, how.writes.odd_at);
-    let ended = run::<E>(alloc, &heap, how, &bytes, filter, odd);
+/// and the writer and their I/O errors.
+pub fn filter<E: Utf16Order>(case: &mut Run, filter: FilterCall) {
+    let bytes = case.bytes();
+    let odd = (case.how.reads.odd_at, case.how.writes.odd_at);
+    let ended = run::<E>(case, &bytes, filter, odd);
+    let answer = &mut case.answer;
     add_result(answer, ended.result);
-    match filter {
-        FilterCall::Decode | FilterCall::DecodeAuto => answer.text_or_bytes(&ended.taken, true),
-        FilterCall::Encode | FilterCall::EncodeWithBom => answer.bytes(&ended.taken),
-    }
-    if how.counted {
+    let is_utf8 = matches!(filter, FilterCall::Decode | FilterCall::DecodeAuto);
+    answer.text_or_bytes(&ended.taken, is_utf8);
+    if case.how.counted {
         add_counts(answer, &ended);
     }
-    add_kept(&heap, answer);
-    Ok(())
 }
 
 // Adds the numbers of reads, writes and flushes, and the counted I/O errors of the reader and of

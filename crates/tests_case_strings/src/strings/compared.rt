@@ -1,54 +1,55 @@
 //! Two strings compared.
 
 use crate::strings::held::{Heap, part, string};
-use std::cmp::Ordering;
-use std::hash::{FoldHasher, Hash, Hasher};
+use crate::views::compared::{hash_of, word};
 use tests_support::{Answer, Run};
 use utf16string::{Utf16Order, WString};
 
-/// Makes a call that compares two strings. Returns whether one has this name.
-pub fn call<'a, E: Utf16Order>(run: &mut Run<'a>, one: &WString<E, Heap<'a>>, name: &str) -> bool {
-    match name {
-        "eq" | "lt" | "le" | "cmp" | "partial_cmp" => {
-            let other = string::<E>(run);
-            two(&mut run.answer, one, &other, name);
+// A call on two strings.
+#[derive(Clone, Copy)]
+enum CompareCall {
+    Eq,
+    Lt,
+    Le,
+    Cmp,
+    PartialCmp,
+}
+
+impl CompareCall {
+    // Returns the call of this name.
+    fn named(name: &str) -> Option<Self> {
+        match name {
+            "eq" => Some(CompareCall::Eq),
+            "lt" => Some(CompareCall::Lt),
+            "le" => Some(CompareCall::Le),
+            "cmp" => Some(CompareCall::Cmp),
+            "partial_cmp" => Some(CompareCall::PartialCmp),
+            _ => None,
         }
-        "hash" => hash(run, one),
-        _ => return false,
+    }
+}
+
+/// Makes a call that compares or hashes a string.
+pub fn call<'a, E: Utf16Order>(run: &mut Run<'a>, one: &WString<E, Heap<'a>>, name: &str) -> bool {
+    match CompareCall::named(name) {
+        Some(call) => two(run, one, call),
+        None if name == "hash" => hash(run, one),
+        None => return false,
     }
     true
 }
 
-// Adds how two strings compare.
-fn two<'a, E: Utf16Order>(
-    answer: &mut Answer,
-    one: &WString<E, Heap<'a>>,
-    other: &WString<E, Heap<'a>>,
-    name: &str,
-) {
-    match name {
-        "eq" => answer.truth(one == other),
-        "lt" => answer.truth(one < other),
-        "le" => answer.truth(one <= other),
-        "cmp" => answer.word(word(Some(one.cmp(other)))),
-        _ => answer.word(word(one.partial_cmp(other))),
+// Adds how a string compares with the next one.
+fn two<'a, E: Utf16Order>(run: &mut Run<'a>, one: &WString<E, Heap<'a>>, call: CompareCall) {
+    let other = &string::<E>(run);
+    let answer = &mut run.answer;
+    match call {
+        CompareCall::Eq => answer.truth(one == other),
+        CompareCall::Lt => answer.truth(one < other),
+        CompareCall::Le => answer.truth(one <= other),
+        CompareCall::Cmp => answer.word(word(Some(one.cmp(other)))),
+        CompareCall::PartialCmp => answer.word(word(one.partial_cmp(other))),
     }
-}
-
-// Returns the word for an ordering.
-fn word(found: Option<Ordering>) -> &'static str {
-    match found {
-        Some(Ordering::Less) => "less",
-        Some(Ordering::Equal) => "equal",
-        Some(Ordering::Greater) => "greater",
-        None => "none",
-    }
-}
-
-fn hash_of<T: Hash>(value: &T) -> u64 {
-    let mut hasher = FoldHasher::default();
-    value.hash(&mut hasher);
-    hasher.finish()
 }
 
 // Adds whether a string has the same hash as another one that has no spare capacity, and as the

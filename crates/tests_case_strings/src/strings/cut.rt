@@ -5,7 +5,7 @@ use crate::strings::retained::retain;
 use tests_support::Run;
 use utf16string::{Utf16Order, WString};
 
-/// Makes a call that is always done. Returns whether one has this name.
+/// Makes a call that is always done.
 pub fn call<E: Utf16Order>(run: &mut Run, string: &mut WString<E, Heap>, name: &str) -> bool {
     match name {
         "clear" => string.clear(),
@@ -16,6 +16,7 @@ pub fn call<E: Utf16Order>(run: &mut Run, string: &mut WString<E, Heap>, name: &
         "make_ascii_uppercase" => string.make_ascii_uppercase(),
         _ => return false,
     }
+    run.done(true);
     true
 }
 

@@ -5,17 +5,6 @@ use std::alloc::AllocError;
 use tests_support::{Run, Trouble};
 use utf16string::{Utf16Order, WStr, WString};
 
-// Takes texts, separated by commas.
-fn pieces<E: Utf16Order>(run: &mut Run) -> Vec<Vec<u8>> {
-    match run.values.pieces(run.alloc, E::BIG) {
-        Ok(pieces) => pieces,
-        Err(trouble) => {
-            run.refuse(trouble);
-            Vec::new(run.alloc)
-        }
-    }
-}
-
 // Views of texts in UTF-16.
 fn views_of<'p, E: Utf16Order>(run: &mut Run, pieces: &'p [Vec<u8>]) -> Vec<WStr<'p, E>> {
     let mut views = Vec::new(run.alloc);
@@ -51,21 +40,21 @@ pub fn views<E: Utf16Order>(
     run: &mut Run,
     string: &mut WString<E, Heap>,
 ) -> Result<(), AllocError> {
-    let pieces = pieces::<E>(run);
+    let pieces = run.pieces();
     let views = views_of::<E>(run, &pieces);
     Extend::extend(string, views)
 }
 
 /// Appends texts in UTF-8.
 pub fn strs<E: Utf16Order>(run: &mut Run, string: &mut WString<E, Heap>) -> Result<(), AllocError> {
-    let pieces = pieces::<E>(run);
+    let pieces = run.pieces();
     let strs = strs_of(run, &pieces);
     Extend::extend(string, strs)
 }
 
 /// Collects views into a string.
 pub fn from_views<E: Utf16Order>(run: &mut Run) {
-    let pieces = pieces::<E>(run);
+    let pieces = run.pieces();
     let views = views_of::<E>(run, &pieces);
     run.begin();
     let found: Result<WString<E, Heap>, AllocError> = views.into_iter().collect(run.heap);
@@ -74,7 +63,7 @@ pub fn from_views<E: Utf16Order>(run: &mut Run) {
 
 /// Collects texts in UTF-8 into a string.
 pub fn from_strs<E: Utf16Order>(run: &mut Run) {
-    let pieces = pieces::<E>(run);
+    let pieces = run.pieces();
     let strs = strs_of(run, &pieces);
     run.begin();
     let found: Result<WString<E, Heap>, AllocError> = strs.into_iter().collect(run.heap);

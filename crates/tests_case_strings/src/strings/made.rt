@@ -4,28 +4,17 @@ ghost use Rattle.std.specs.Prelude.{IfSome};
 ghost use Rattle.utf16string.specs.Encoding.{IsUtf16};
 
 use crate::strings::held::{Heap, left, made, part, string};
-use crate::strings::{grown, joined, read, taken};
+use crate::strings::joined;
+use crate::views::made::{MakingCall, refused};
 use std::alloc::AllocError;
-use tests_support::{Answer, Run, Trouble};
+use tests_support::{Run, Trouble};
 use utf16string::{BigEndian, LittleEndian, Utf16Error, Utf16Order, WStr, WString};
 
-/// Makes a call that makes a string of no text or of bytes, or passes the name to `of_text`.
+/// Makes a call that makes a string, or takes one whole.
 pub fn call<E: Utf16Order>(run: &mut Run, name: &str) -> bool {
     match name {
         "new" => new::<E>(run),
         "with_capacity" => with_capacity::<E>(run),
-        "from_utf16" | "from_utf16le" | "from_utf16be" => tested::<E>(run, name),
-        "from_utf16_unchecked" => unchecked::<E>(run),
-        "from_utf16le_unchecked" => unchecked_le::<E>(run),
-        "from_utf16be_unchecked" => unchecked_be::<E>(run),
-        _ => return of_text::<E>(run, name),
-    }
-    true
-}
-
-// Makes a call that makes a string of a text or takes a string, or passes the name to `on_string`.
-fn of_text<E: Utf16Order>(run: &mut Run, name: &str) -> bool {
-    match name {
         "from_str" => from_str::<E>(run),
         "from_wstr" => from_wstr::<E>(run),
         "from_iter" => from_iter::<E>(run),
@@ -33,22 +22,21 @@ fn of_text<E: Utf16Order>(run: &mut Run, name: &str) -> bool {
         "from_iter_str" => joined::from_strs::<E>(run),
         "into_byte_order" => into_byte_order::<E>(run),
         "into_bytes" => into_bytes::<E>(run),
-        _ => return on_string::<E>(run, name),
+        _ => return of_bytes::<E>(run, name),
     }
     true
 }
 
-/// Makes a call on a string, which is the first value. If the call changes the string, adds the
-/// string that it leaves.
-pub fn on_string<E: Utf16Order>(run: &mut Run, name: &str) -> bool {
-    let mut string = string::<E>(run);
-    run.begin();
-    match grown::call(run, &mut string, name) {
-        Some(done) => run.done(done.is_ok()),
-        None if taken::call(run, &mut string, name) => {}
-        None => return read::call(run, &string, name),
+// Makes a call that makes a string from bytes. The calls for one byte order are made only in that
+// order.
+fn of_bytes<E: Utf16Order>(run: &mut Run, name: &str) -> bool {
+    match MakingCall::named(name) {
+        Some(MakingCall::AnyUnchecked) => unchecked::<E>(run),
+        Some(MakingCall::LittleUnchecked) => unchecked_le::<E>(run),
+        Some(MakingCall::BigUnchecked) => unchecked_be::<E>(run),
+        Some(call) => tested::<E>(run, call),
+        None => return false,
     }
-    left(run, &string);
     true
 }
 
@@ -77,26 +65,16 @@ fn made_or_error<E: Utf16Order>(run: &mut Run, made: Result<WString<E, Heap>, Ut
     }
 }
 
-// Adds the fields of an error.
-fn refused(answer: &mut Answer, error: Utf16Error) {
-    answer.word("error");
-    answer.number(error.valid_up_to());
-    match error.error_len() {
-        Some(len) => answer.number(len),
-        None => answer.word("none"),
-    }
-}
-
-// The calls for one byte order are made only in that order. The bytes are in the memory of the
-// case, so a vector that is refused and not freed counts as leaked.
-fn tested<E: Utf16Order>(run: &mut Run, name: &str) {
+// The bytes are in the memory of the case, so a vector that is refused and not freed counts as
+// leaked.
+fn tested<E: Utf16Order>(run: &mut Run, call: MakingCall) {
     let Ok(raw) = run.bytes().to_vec(run.heap) else {
         return run.refuse(Trouble::Memory);
     };
-    match name {
-        "from_utf16" => made_or_error(run, WString::<E, Heap>::from_utf16(raw)),
-        "from_utf16le" if !E::BIG => made_or_error(run, WString::from_utf16le(raw)),
-        "from_utf16be" if E::BIG => made_or_error(run, WString::from_utf16be(raw)),
+    match call {
+        MakingCall::Any => made_or_error(run, WString::<E, Heap>::from_utf16(raw)),
+        MakingCall::Little if !E::BIG => made_or_error(run, WString::from_utf16le(raw)),
+        MakingCall::Big if E::BIG => made_or_error(run, WString::from_utf16be(raw)),
         _ => run.unmet(),
     }
 }

@@ -1,53 +1,44 @@
 //! Calls that read a string.
 
 use crate::strings::held::{Heap, made, part, refused};
-use crate::strings::{parts, replaced};
+use crate::strings::parts;
 use tests_support::{Answer, By, Run, Trouble, add_written};
 use utf16string::{Utf16Order, WString};
 
-/// Makes a call that reads a string, or passes the name to `asked`.
+/// Makes a call that reads a string.
 pub fn call<'a, E: Utf16Order>(
     run: &mut Run<'a>,
     string: &WString<E, Heap<'a>>,
     name: &str,
 ) -> bool {
     match name {
-        "capacity" | "len" | "is_empty" | "is_ascii" | "as_bytes" | "as_wstr" => {
-            shown(&mut run.answer, string, name);
-        }
         "clone" => made(run, string.clone()),
         "to_utf8" => to_utf8(run, string),
-        "chars" => chars(run, string),
-        "char_indices" => char_indices(&mut run.answer, string),
-        _ => return asked(run, string, name),
-    }
-    true
-}
-
-// Makes a call that takes values or a part of the string, or passes the name to `replaced`.
-fn asked<'a, E: Utf16Order>(run: &mut Run<'a>, string: &WString<E, Heap<'a>>, name: &str) -> bool {
-    match name {
+        "fmt" => fmt(run, string),
         "is_char_boundary" => is_char_boundary(run, string),
         "fits" => fits(run, string),
         "get" => parts::part(run, string, By::Get),
         "get_unchecked" => parts::part(run, string, By::GetUnchecked),
         "index" => parts::part(run, string, By::Index),
-        "fmt" => fmt(run, string),
-        _ => return replaced::call(run, string, name),
+        "chars" => chars(run, string),
+        _ => return shown(&mut run.answer, string, name),
     }
     true
 }
 
-// Adds what a call without further values returns.
-fn shown<E: Utf16Order>(answer: &mut Answer, string: &WString<E, Heap>, name: &str) {
+// Makes a call without further values.
+fn shown<E: Utf16Order>(answer: &mut Answer, string: &WString<E, Heap>, name: &str) -> bool {
     match name {
         "capacity" => answer.number(string.capacity()),
         "len" => answer.number(string.len()),
         "is_empty" => answer.truth(string.is_empty()),
         "is_ascii" => answer.truth(string.is_ascii()),
         "as_bytes" => answer.bytes(string.as_bytes()),
-        _ => answer.bytes(string.as_wstr().as_bytes()),
+        "as_wstr" => answer.bytes(string.as_wstr().as_bytes()),
+        "char_indices" => char_indices(answer, string),
+        _ => return false,
     }
+    true
 }
 
 fn to_utf8<E: Utf16Order>(run: &mut Run, string: &WString<E, Heap>) {

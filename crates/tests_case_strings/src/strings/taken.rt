@@ -6,14 +6,15 @@ use crate::strings::retained::retain_by;
 use tests_support::Run;
 use utf16string::{Utf16Order, WString};
 
-/// Makes a call that changes a string, and adds what it returns. Returns whether one has this name.
+/// Makes a call that changes a string, and adds what it returns.
 pub fn call<E: Utf16Order>(run: &mut Run, string: &mut WString<E, Heap>, name: &str) -> bool {
     match name {
         "pop" => pop(run, string),
         "remove" => remove(run, string),
         "split_off" => split_off(run, string),
         "drain" => drain(run, string),
-        "extend" | "Extend::extend" => extend(run, string, name == "extend"),
+        "extend" => extend(run, string, true),
+        "Extend::extend" => extend(run, string, false),
         "retain_by" => retain_by(run, string),
         _ => return false,
     }

@@ -1,29 +1,22 @@
-//! Parts of views: at ranges, before and after an offset or a character, and between delimiters.
+//! Parts of views at ranges and offsets.
 
-use crate::views::walks;
-use tests_support::{Answer, By, Run, Span};
+use crate::views::made::view;
+use crate::views::patterns::both;
+use tests_support::{By, Run, Span};
 use utf16string::{Utf16Order, WStr};
 
-/// Makes a call that takes the part at a range, or passes the name to `cut`.
+/// Makes a call with a range or an offset, or that splits from the back.
 pub fn call<E: Utf16Order>(run: &mut Run, text: WStr<E>, name: &str) -> bool {
     match name {
-        "WStr::get" => range(run, text, By::Get),
-        "WStr::get_unchecked" => range(run, text, By::GetUnchecked),
-        "WStr::index" => range(run, text, By::Index),
-        _ => return cut(run, text, name),
-    }
-    true
-}
-
-// Makes a call that cuts a view at an offset or at characters, or passes the name to `walks`.
-fn cut<E: Utf16Order>(run: &mut Run, text: WStr<E>, name: &str) -> bool {
-    match name {
-        "WStr::split_at" => split_at(run, text),
-        "WStr::split_at_checked" => split_at_checked(run, text),
-        "WStr::split_once" | "WStr::rsplit_once" => split_once(run, text, name),
-        "WStr::split" => split(run, text),
+        "get" => range(run, text, By::Get),
+        "get_unchecked" => range(run, text, By::GetUnchecked),
+        "index" => range(run, text, By::Index),
+        "fits" => fits(run, text),
+        "is_char_boundary" => is_char_boundary(run, text),
+        "split_at" => split_at(run, text),
+        "split_at_checked" => split_at_checked(run, text),
         "WStrSplit::rev" => split_back(run, text),
-        _ => return walks::call(run, text, name),
+        _ => return false,
     }
     true
 }
@@ -74,17 +67,6 @@ fn range<E: Utf16Order>(run: &mut Run, text: WStr<E>, by: By) {
     }
 }
 
-/// Adds two parts of a view, if there are any.
-pub fn both<E: Utf16Order>(answer: &mut Answer, parts: Option<(WStr<E>, WStr<E>)>) {
-    match parts {
-        Some((front, back)) => {
-            answer.bytes(front.as_bytes());
-            answer.bytes(back.as_bytes());
-        }
-        None => answer.word("none"),
-    }
-}
-
 fn split_at<E: Utf16Order>(run: &mut Run, text: WStr<E>) {
     let mid = run.number();
     if text.is_char_boundary(mid) {
@@ -99,24 +81,21 @@ fn split_at_checked<E: Utf16Order>(run: &mut Run, text: WStr<E>) {
     both(&mut run.answer, text.split_at_checked(mid));
 }
 
-fn split_once<E: Utf16Order>(run: &mut Run, text: WStr<E>, name: &str) {
-    let delimiter = run.character();
-    let parts = if name == "WStr::split_once" {
-        text.split_once(delimiter)
-    } else {
-        text.rsplit_once(delimiter)
-    };
-    both(&mut run.answer, parts);
-}
-
-fn split<E: Utf16Order>(run: &mut Run, text: WStr<E>) {
-    for part in text.split(run.character()) {
+fn split_back<E: Utf16Order>(run: &mut Run, text: WStr<E>) {
+    for part in text.split(run.character()).rev() {
         run.answer.bytes(part.as_bytes());
     }
 }
 
-fn split_back<E: Utf16Order>(run: &mut Run, text: WStr<E>) {
-    for part in text.split(run.character()).rev() {
-        run.answer.bytes(part.as_bytes());
+fn is_char_boundary<E: Utf16Order>(run: &mut Run, text: WStr<E>) {
+    let index = run.number();
+    run.answer.truth(text.is_char_boundary(index));
+}
+
+fn fits<E: Utf16Order>(run: &mut Run, text: WStr<E>) {
+    let index = run.number();
+    let part = run.bytes();
+    if let Some(part) = view(run, &part) {
+        run.answer.truth(text.fits(index, part));
     }
 }

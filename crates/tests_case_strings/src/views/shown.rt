@@ -1,22 +1,28 @@
 //! Views in UTF-8, and what `{}` and `{:?}` write.
 
-use crate::views::measures;
 use std::alloc::{AllocError, Global};
 use tests_support::refusing::Refusing;
 use tests_support::{Run, Trouble, add_debug};
 use utf16string::{Utf16Order, WStr};
 
-/// Makes a call that shows a view in UTF-8, or writes it or one of its iterators, or passes the
-/// name to `measures`.
+/// Makes a call with UTF-8 or a format.
 pub fn call<E: Utf16Order>(run: &mut Run, text: WStr<E>, name: &str) -> bool {
     match name {
-        "WStr::to_utf8" => to_utf8(run, text),
-        "WStr::push_utf8" => push_utf8(run, text),
-        "WStr::fmt" => fmt(run, text),
-        "WStrChars::fmt" | "WStrCharIndices::fmt" => iterator(run, text, name),
-        _ => return measures::call(run, text, name),
+        "eq_str" => eq_str(run, text),
+        "fmt" => fmt(run, text),
+        "WStrChars::fmt" => iterator(run, text, false),
+        "WStrCharIndices::fmt" => iterator(run, text, true),
+        "ParseError::fmt" => parse_error(run, text),
+        "to_utf8" => to_utf8(run, text),
+        "push_utf8" => push_utf8(run, text),
+        _ => return false,
     }
     true
+}
+
+fn eq_str<E: Utf16Order>(run: &mut Run, text: WStr<E>) {
+    let other = run.text();
+    run.answer.truth(text.eq_str(other.as_str()));
 }
 
 fn fmt<E: Utf16Order>(run: &mut Run, text: WStr<E>) {
@@ -25,17 +31,24 @@ fn fmt<E: Utf16Order>(run: &mut Run, text: WStr<E>) {
 }
 
 // Adds what `{:?}` writes for an iterator over a view.
-fn iterator<E: Utf16Order>(run: &mut Run, text: WStr<E>, name: &str) {
+fn iterator<E: Utf16Order>(run: &mut Run, text: WStr<E>, has_offsets: bool) {
     if run.word() != "{:?}" {
         return run.unmet();
     }
-    let done = if name == "WStrChars::fmt" {
-        add_debug(run.alloc, &text.chars(), &mut run.answer)
-    } else {
+    let done = if has_offsets {
         add_debug(run.alloc, &text.char_indices(), &mut run.answer)
+    } else {
+        add_debug(run.alloc, &text.chars(), &mut run.answer)
     };
-    if let Err(trouble) = done {
-        run.refuse(trouble);
+    run.note(done);
+}
+
+// Adds what is written for the error of a text that does not spell a number.
+fn parse_error<E: Utf16Order>(run: &mut Run, text: WStr<E>) {
+    let format = run.word();
+    match text.parse::<u32>() {
+        Ok(_) => run.unmet(),
+        Err(error) => run.written(&error, format),
     }
 }
 

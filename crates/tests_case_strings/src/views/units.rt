@@ -1,6 +1,6 @@
 //! Code units, byte orders, single characters and errors.
 
-use crate::views::made;
+use crate::views::made::refused;
 use tests_support::{Run, Trouble};
 use utf16_units::{
     Utf16CharExt, decode_surrogates, is_leading_surrogate, is_trailing_surrogate,
@@ -8,22 +8,14 @@ use utf16_units::{
 };
 use utf16string::{Utf16Order, WStr};
 
-/// Makes a call on units or on a byte order, or passes the name to `by_character`.
+/// Makes a call on code units, single characters or errors.
 pub fn call<E: Utf16Order>(run: &mut Run, name: &str) -> bool {
     match name {
-        "is_leading_surrogate" | "is_trailing_surrogate" | "Utf16Order::write_unit" => {
-            of_unit::<E>(run, name);
-        }
+        "is_leading_surrogate" => is_leading(run),
+        "is_trailing_surrogate" => is_trailing(run),
         "decode_surrogates" => pair(run),
         "Utf16Order::read_unit" => read_unit::<E>(run),
-        _ => return by_character::<E>(run, name),
-    }
-    true
-}
-
-// Makes a call on one character, on bytes or on an error. Returns whether one has this name.
-fn by_character<E: Utf16Order>(run: &mut Run, name: &str) -> bool {
-    match name {
+        "Utf16Order::write_unit" => write_unit::<E>(run),
         "Utf16CharExt::encoded_utf16_len" => encoded_utf16_len(run),
         "Utf16CharExt::encode_utf16_into" => encode_utf16_into::<E>(run),
         "validate_raw_utf16" => validate::<E>(run),
@@ -45,13 +37,19 @@ fn unit(run: &mut Run) -> u16 {
     }
 }
 
-fn of_unit<E: Utf16Order>(run: &mut Run, name: &str) {
+fn is_leading(run: &mut Run) {
     let unit = unit(run);
-    match name {
-        "is_leading_surrogate" => run.answer.truth(is_leading_surrogate(unit)),
-        "is_trailing_surrogate" => run.answer.truth(is_trailing_surrogate(unit)),
-        _ => run.answer.bytes(&E::write_unit(unit)),
-    }
+    run.answer.truth(is_leading_surrogate(unit));
+}
+
+fn is_trailing(run: &mut Run) {
+    let unit = unit(run);
+    run.answer.truth(is_trailing_surrogate(unit));
+}
+
+fn write_unit<E: Utf16Order>(run: &mut Run) {
+    let unit = unit(run);
+    run.answer.bytes(&E::write_unit(unit));
 }
 
 fn pair(run: &mut Run) {
@@ -91,7 +89,7 @@ fn validate<E: Utf16Order>(run: &mut Run) {
     let bytes = run.bytes();
     match validate_raw_utf16::<E>(&bytes) {
         Ok(()) => run.answer.word("done"),
-        Err(error) => made::refused(&mut run.answer, error),
+        Err(error) => refused(&mut run.answer, error),
     }
 }
 

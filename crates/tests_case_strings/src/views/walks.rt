@@ -1,25 +1,25 @@
 //! Iteration over views from both ends.
 
-use crate::views::compared;
 use tests_support::{Answer, Run, Trouble};
 use utf16string::{Utf16Order, WStr};
 
-/// Makes a call of an iterator over a view, or passes the name to `compared`.
+/// Makes a call of an iterator over the characters of a view.
 pub fn call<E: Utf16Order>(run: &mut Run, text: WStr<E>, name: &str) -> bool {
     match name {
-        "WStr::chars" => chars(run, text),
-        "WStr::char_indices" => char_indices(run, text),
-        "WStrChars::count" | "WStrCharIndices::count" => count(run, text, name),
+        "chars" => chars(run, text),
+        "WStrChars::count" => count(run, text, false),
         "WStrChars::last" => character(&mut run.answer, text.chars().last()),
+        "char_indices" => char_indices(run, text),
+        "WStrCharIndices::count" => count(run, text, true),
         "WStrCharIndices::last" => place(&mut run.answer, text.char_indices().last()),
-        _ => return compared::call(run, text, name),
+        _ => return false,
     }
     true
 }
 
 // Adds the number of characters that remain after steps, which are given as for `chars`. If no
 // value remains there are no steps.
-fn count<E: Utf16Order>(run: &mut Run, text: WStr<E>, name: &str) {
+fn count<E: Utf16Order>(run: &mut Run, text: WStr<E>, has_offsets: bool) {
     let (mut chars, mut places) = (text.chars(), text.char_indices());
     let steps = if run.values.count() == 0 {
         ""
@@ -37,10 +37,10 @@ fn count<E: Utf16Order>(run: &mut Run, text: WStr<E>, name: &str) {
             _ => run.refuse(Trouble::Value),
         }
     }
-    run.answer.number(if name == "WStrChars::count" {
-        chars.count()
-    } else {
+    run.answer.number(if has_offsets {
         places.count()
+    } else {
+        chars.count()
     });
 }
 

@@ -1,23 +1,21 @@
 //! Views that are written to: `WStrMut`.
 
-use crate::views::made::{refused, view};
+use crate::views::made::{MakingCall, refused, view};
 use tests_support::{Answer, Run};
 use utf16string::{Utf16Order, WStr, WStrMut};
 
-/// Makes a call of a view that writes, and adds the bytes as they are after it. Returns whether a
-/// call has this name.
+/// Makes a call of a view that writes, and adds the bytes as they are after it. The name has no
+/// `WStrMut::`.
 pub fn call<E: Utf16Order>(run: &mut Run, name: &str) -> bool {
     let mut raw = run.bytes();
     match name {
-        "WStrMut::from_utf16" | "WStrMut::from_utf16le" | "WStrMut::from_utf16be" => {
-            tested::<E>(run, &mut raw, name);
-        }
-        "WStrMut::from_utf16_unchecked"
-        | "WStrMut::from_utf16le_unchecked"
-        | "WStrMut::from_utf16be_unchecked" => untested::<E>(run, &mut raw, name),
-        "WStrMut::split_valid" => split_valid::<E>(&mut run.answer, &mut raw),
-        "WStrMut::fits" | "WStrMut::overwrite" => part::<E>(run, &mut raw, name),
-        _ => return false,
+        "split_valid" => split_valid::<E>(&mut run.answer, &mut raw),
+        "fits" => part::<E>(run, &mut raw, false),
+        "overwrite" => part::<E>(run, &mut raw, true),
+        _ => match MakingCall::named(name) {
+            Some(call) => make::<E>(run, &mut raw, call),
+            None => return false,
+        },
     }
     run.answer.bytes(&raw);
     true
@@ -36,29 +34,30 @@ macro_rules! made {
     };
 }
 
-fn tested<E: Utf16Order>(run: &mut Run, raw: &mut [u8], name: &str) {
+fn make<E: Utf16Order>(run: &mut Run, raw: &mut [u8], call: MakingCall) {
     let answer = &mut run.answer;
-    match name {
-        "WStrMut::from_utf16le" if !E::BIG => made!(answer, WStrMut::from_utf16le(raw)),
-        "WStrMut::from_utf16be" if E::BIG => made!(answer, WStrMut::from_utf16be(raw)),
-        "WStrMut::from_utf16" => made!(answer, WStrMut::<E>::from_utf16(raw)),
-        _ => run.unmet(),
+    match call {
+        MakingCall::Any => made!(answer, WStrMut::<E>::from_utf16(raw)),
+        MakingCall::Little if !E::BIG => made!(answer, WStrMut::from_utf16le(raw)),
+        MakingCall::Big if E::BIG => made!(answer, WStrMut::from_utf16be(raw)),
+        MakingCall::Little | MakingCall::Big => run.unmet(),
+        _ => untested::<E>(run, raw, call),
     }
 }
 
-fn untested<E: Utf16Order>(run: &mut Run, raw: &mut [u8], name: &str) {
+fn untested<E: Utf16Order>(run: &mut Run, raw: &mut [u8], call: MakingCall) {
     if view::<E>(run, raw).is_none() {
         return;
     }
     let answer = &mut run.answer;
-    match name {
-        "WStrMut::from_utf16le_unchecked" if !E::BIG => {
+    match call {
+        MakingCall::LittleUnchecked if !E::BIG => {
             answer.bytes(WStrMut::from_utf16le_unchecked(raw).as_wstr().as_bytes());
         }
-        "WStrMut::from_utf16be_unchecked" if E::BIG => {
+        MakingCall::BigUnchecked if E::BIG => {
             answer.bytes(WStrMut::from_utf16be_unchecked(raw).as_wstr().as_bytes());
         }
-        "WStrMut::from_utf16_unchecked" => {
+        MakingCall::AnyUnchecked => {
             answer.bytes(WStrMut::<E>::from_utf16_unchecked(raw).as_wstr().as_bytes());
         }
         _ => run.unmet(),
@@ -72,21 +71,21 @@ fn split_valid<E: Utf16Order>(answer: &mut Answer, raw: &mut [u8]) {
 }
 
 // Makes a call on an index and a text.
-fn part<E: Utf16Order>(run: &mut Run, raw: &mut [u8], name: &str) {
+fn part<E: Utf16Order>(run: &mut Run, raw: &mut [u8], is_put: bool) {
     let index = run.number();
     let part = run.bytes();
     if let Some(part) = view(run, &part) {
-        put::<E>(run, raw, index, part, name);
+        put::<E>(run, raw, index, part, is_put);
     }
 }
 
 // Whether a text fits at an index, or the view once it is written there.
-fn put<E: Utf16Order>(run: &mut Run, raw: &mut [u8], index: usize, part: WStr<E>, name: &str) {
+fn put<E: Utf16Order>(run: &mut Run, raw: &mut [u8], index: usize, part: WStr<E>, is_put: bool) {
     let Ok(mut text) = WStrMut::<E>::from_utf16(raw) else {
         return run.unmet();
     };
     let fits = text.fits(index, part);
-    if name == "WStrMut::fits" {
+    if !is_put {
         run.answer.truth(fits);
     } else if fits {
         text.overwrite(index, part);
