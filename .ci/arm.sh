@@ -4,8 +4,8 @@
 # harness with pages of 4 and of 64 KiB, the symbols and the Debian packages. .ci/install.sh tests
 # the release archive.
 # qemu emulates a Cortex-A53, which has no more than what each ARM64 processor has. If this runs as
-# root, apt-get installs missing tools; if one is still missing, this part is skipped. Prints each
-# check that fails; the last line is 'N passed, M failed'.
+# root, apt-get installs missing tools; a tool that is still missing is a failure. Prints each check
+# that fails; the last line is 'N passed, M failed'.
 set -uo pipefail
 top=$(cd "$(dirname "$0")/.." && pwd)
 version=$(< "$top/VERSION")
@@ -166,12 +166,9 @@ has_no_more() {
     ! find "$room/unpacked" -path '*/bin/*' -o -path '*hwcaps*' -o -path '*x86*' | grep .
 }
 
-provide "${for_arm64[@]}" $triplet-g++:g++-$triplet qemu-aarch64:qemu-user clang:clang gcc:gcc \
-    make:make pkg-config:pkg-config dpkg-buildpackage:dpkg-dev dh:debhelper lintian:lintian
-if [ ${#missing[@]} != 0 ]; then
-    echo "skipped: ARM64: there is no ${missing[*]}: install ${wanted[*]}"
+need "${for_arm64[@]}" $triplet-g++:g++-$triplet qemu-aarch64:qemu-user clang:clang gcc:gcc \
+    make:make pkg-config:pkg-config dpkg-buildpackage:dpkg-dev dh:debhelper lintian:lintian ||
     finish
-fi
 
 tables $triplet-gcc || finish
 fuzz &

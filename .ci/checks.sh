@@ -1,6 +1,6 @@
-# Sourced by .ci/arm.sh, .ci/dist.sh, .ci/install.sh and .ci/windows.sh: how they count checks and
-# install tools, and what a library's symbols must be. They set `top`, the folder of the tree, and
-# `room`, a temporary folder.
+# Sourced by .ci/arm.sh, .ci/dist.sh, .ci/install.sh, .ci/windows.sh and bindings/js/test.sh: how
+# they count checks and install tools, and what a library's symbols must be. They set `top`, the
+# folder of the tree, and `room`, a temporary folder.
 passed=0
 failed=0
 
@@ -35,27 +35,37 @@ is_there() {
     command -v "$1" > /dev/null || [ -f "$1" ]
 }
 
-# Takes pairs of a tool or a file and its Debian package, and installs the packages of missing ones
-# if this runs as root. What is still missing is in `missing`, and the packages are in `wanted`.
-provide() {
+# Takes pairs of a tool or a file and its Debian package. Puts those that are missing into `missing`
+# and their packages into `wanted`.
+look_for() {
     local pair
+    missing=()
     wanted=()
     for pair in "$@"; do
-        is_there "${pair%:*}" || wanted+=("${pair#*:}")
+        is_there "${pair%:*}" && continue
+        missing+=("${pair%:*}")
+        [[ " ${wanted[*]} " == *" ${pair#*:} "* ]] || wanted+=("${pair#*:}")
     done
+}
+
+# Takes the same pairs, and installs the packages of what is missing if this runs as root. If
+# something is still missing, that is a failure, which names the packages.
+need() {
+    look_for "$@"
     if [ ${#wanted[@]} != 0 ] && [ $EUID = 0 ]; then
         echo "installing ${wanted[*]}"
         install_packages "${wanted[@]}" > "$room/said" 2>&1 < /dev/null ||
             { apt-get update -q && install_packages "${wanted[@]}"; } > "$room/said" 2>&1 \
                 < /dev/null
+        look_for "$@"
     fi
-    missing=()
-    for pair in "$@"; do
-        is_there "${pair%:*}" || missing+=("${pair%:*}")
-    done
+    [ ${#missing[@]} != 0 ] || return 0
+    failed=$((failed + 1))
+    echo "failed: there is no ${missing[*]}: apt-get install ${wanted[*]}"
+    return 1
 }
 
-# What a cross compiler for ARM64 needs, for `provide`.
+# What a cross compiler for ARM64 needs, for `need`.
 for_arm64=(aarch64-linux-gnu-gcc:gcc-aarch64-linux-gnu)
 for_arm64+=(/usr/aarch64-linux-gnu/include/stdio.h:libc6-dev-arm64-cross)
 

@@ -32,7 +32,7 @@ first_of() {
     done
 }
 
-# It fails as well if it leaves out a part, because a tool is missing.
+# It fails if a tool is missing.
 if docs/html/build.py; then
     passed=$((passed + 1))
 else
@@ -51,7 +51,7 @@ if command -v mandoc > /dev/null; then
     done
 else
     failed=$((failed + 1))
-    echo 'failed: the manual pages: there is no mandoc'
+    echo 'failed: the manual pages: there is no mandoc: apt-get install mandoc'
 fi
 
 counts .ci/site_links.py docs/site
@@ -62,7 +62,7 @@ if [ -n "$CHROMIUM" ]; then
     counts .ci/site_browser.py docs/site
 else
     failed=$((failed + 1))
-    echo 'failed: the pages in a browser: there is no chromium'
+    echo 'failed: the pages in a browser: there is no chromium: apt-get install chromium'
 fi
 echo "$passed passed, $failed failed"
 [ $failed = 0 ]

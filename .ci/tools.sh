@@ -1,51 +1,86 @@
 #!/usr/bin/env bash
-# Installs the missing Debian packages that the next parts need, if this runs as root. A package
-# that is still missing is a failure, with a line that says what to install, unless it is optional.
-# The last line is 'N passed, M failed'.
+# Installs the Debian packages that the parts of CI need and that are missing, if this runs as root.
+# It runs before the parts, because they run side by side. Each package that is still missing is a
+# failure, and a line says what to install. The last line is 'N passed, M failed'.
 set -uo pipefail
-packages=(pkg-config librust-byteorder-dev libicu-dev cmark-gfm mandoc doxygen chromium)
-# A part that needs one of these is left out, or fails, if it is missing, and says so. They are
-# installed here, because the parts after this one run side by side.
-optional=(python3-distributed)
-optional+=(cmake debhelper dpkg-dev lintian lld qemu-user wine64 gcc-aarch64-linux-gnu)
-optional+=(g++-aarch64-linux-gnu libc6-dev-arm64-cross)
-optional+=(gcc-mingw-w64-x86-64 g++-mingw-w64-x86-64)
-passed=0
-failed=0
 
-is_installed() {
-    dpkg-query -f '${db:Status-Status}\n' -W "$1" 2> /dev/null | grep -qx installed
+# Prints what Python answers, or nothing without Python.
+ask_python() {
+    python3 -c "import importlib.util, sys, sysconfig; print($1)" 2> /dev/null
 }
 
-# Installs packages, after a new list of packages if the old one does not have them.
-install_packages() {
-    local words=(-y -q --no-install-recommends)
-    apt-get install "${words[@]}" "$@" ||
-        { apt-get update -q && apt-get install "${words[@]}" "$@"; }
-}
+python_version=$(ask_python '"{}.{}".format(*sys.version_info)')
+python_headers=$(ask_python 'sysconfig.get_path("include")')/Python.h
 
-# Installs the missing ones among these packages, if this runs as root.
-provide() {
-    missing=()
-    for package in "$@"; do
-        is_installed "$package" || missing+=("$package")
-    done
-    [ ${#missing[@]} = 0 ] || [ $EUID != 0 ] ||
-        install_packages "${missing[@]}" > /dev/null 2>&1 < /dev/null
-}
+# Each package, and after a '=' the program, the file or the module of Python that is looked for. It
+# may also come from elsewhere.
+packages=(
+    # Compilers, and what they build with.
+    gcc=gcc g++=g++ clang=clang clang=clang++ lld=lld-link binutils=objcopy make=make cmake=cmake
+    pkg-config=pkg-config cargo=cargo rustc=rustc rustfmt=cargo-fmt rust-clippy=cargo-clippy
+    libicu-dev librust-byteorder-dev
+    # Other platforms.
+    gcc-aarch64-linux-gnu=aarch64-linux-gnu-gcc g++-aarch64-linux-gnu=aarch64-linux-gnu-g++
+    libc6-dev-arm64-cross gcc-mingw-w64-x86-64=x86_64-w64-mingw32-gcc
+    g++-mingw-w64-x86-64=x86_64-w64-mingw32-g++ qemu-user=qemu-aarch64 qemu-user=qemu-x86_64
+    wine64=/usr/lib/wine/wine64
+    # Python and JavaScript.
+    python3=python3 python3-pip=pip python3-dev="$python_headers" python3-venv=module:ensurepip
+    "libpython${python_version:-3}-testsuite=module:test.test_codecs" mypy=mypy python3-distributed
+    nodejs=node npm=npm node-typescript=tsc
+    # Documents and packages.
+    cmark-gfm=cmark-gfm mandoc=mandoc doxygen=doxygen chromium=chromium debhelper=dh
+    dpkg-dev=dpkg-buildpackage lintian=lintian
+    # What runs and compares.
+    valgrind=valgrind git=git libc-bin=iconv diffutils=cmp util-linux=flock util-linux=setpriv
+)
 
-provide "${optional[@]}"
-for package in "${optional[@]}"; do
-    is_installed "$package" || echo "there is no $package"
-done
-provide "${packages[@]}"
-for package in "${packages[@]}"; do
-    if is_installed "$package"; then
-        passed=$((passed + 1))
+is_there() {
+    local tool=${1#*=}
+    if [[ $tool == module:* ]]; then
+        [ "$(ask_python "importlib.util.find_spec('${tool#module:}') is not None")" = True ]
+    elif [[ $1 == *=* ]]; then
+        command -v "$tool" > /dev/null || [ -f "$tool" ]
     else
-        failed=$((failed + 1))
-        echo "failed: there is no $package: apt-get install ${missing[*]}"
+        dpkg-query -f '${db:Status-Status}\n' -W "$1" 2> /dev/null | grep -qx installed
     fi
+}
+
+# Puts what is missing into `missing`, and its packages into `wanted`.
+look_for() {
+    local row
+    missing=()
+    wanted=()
+    for row in "${packages[@]}"; do
+        is_there "$row" && continue
+        missing+=("$row")
+        [[ " ${wanted[*]} " == *" ${row%%=*} "* ]] || wanted+=("${row%%=*}")
+    done
+}
+
+install() {
+    apt-get -o DPkg::Lock::Timeout=600 install -y -q --no-install-recommends "$@"
+}
+
+# Installs the packages in `wanted`: all at once, or if that fails one by one.
+install_wanted() {
+    local package
+    echo "installing ${wanted[*]}" >&2
+    install "${wanted[@]}" && return
+    apt-get update -q && install "${wanted[@]}" && return
+    for package in "${wanted[@]}"; do
+        install "$package"
+    done
+}
+
+look_for
+if [ ${#wanted[@]} != 0 ] && [ $EUID = 0 ]; then
+    install_wanted > /dev/null < /dev/null
+    look_for
+fi
+for row in "${missing[@]}"; do
+    echo "failed: there is no ${row#*=}, which is in Debian's package ${row%%=*}"
 done
-echo "$passed passed, $failed failed"
-[ $failed = 0 ]
+[ ${#wanted[@]} = 0 ] || echo "apt-get install ${wanted[*]}"
+echo "$((${#packages[@]} - ${#missing[@]})) passed, ${#missing[@]} failed"
+[ ${#missing[@]} = 0 ]

@@ -3,8 +3,9 @@
 # the tables of cases/, the first programs, the check in C++, the programs of examples/windows and
 # the archive of packaging/zip.sh. Tests what the libraries export and call, what a call takes of
 # the stack, and that it keeps the registers that a function must keep there. Then clang compiles
-# for MSVC. If this runs as root, apt-get installs missing tools. Prints each check that fails, and
-# what is skipped because a tool is missing; the last line is 'N passed, M failed'.
+# for MSVC. If this runs as root, apt-get installs missing tools; a tool that is still missing is a
+# failure. Only MSVC itself is left out, and a line says so. Prints each check that fails; the last
+# line is 'N passed, M failed'.
 set -uo pipefail
 top=$(cd "$(dirname "$0")/.." && pwd)
 dist=$top/dist
@@ -46,14 +47,6 @@ tools+=(/usr/lib/wine/wine64:wine64)
 # Prints the path of the program that starts programs of Windows.
 wine_program() {
     command -v wine || command -v wine64 || command -v /usr/lib/wine/wine64
-}
-
-# Installs missing tools, if this runs as root. Without one of them nothing is tested.
-provide_tools() {
-    provide "${tools[@]}"
-    [ ${#missing[@]} != 0 ] || return 0
-    echo "skipped: Windows: there is no ${missing[*]}"
-    finish
 }
 
 # == compilers
@@ -411,7 +404,7 @@ runs_for_msvc() {
         run ./user.exe
 }
 
-provide_tools
+need "${tools[@]}" || finish
 wine=$(wine_program)
 mingw=$(dirname "$($gcc -print-libgcc-file-name)")
 check 'Wine' run wineboot -i || finish

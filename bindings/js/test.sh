@@ -1,9 +1,9 @@
 #!/usr/bin/env bash
 # Packages the package, installs it in an empty folder without network, and there runs the first
 # program of docs/JS.md, the tests and the tables of cases in Node. Then it tests the page of site/
-# in headless Chromium. If this runs as root, apt-get installs a missing Chromium and TypeScript. A
-# line 'skipped: ..' names what is not tested since a tool is missing. With --node it leaves out the
-# page. The last line is 'N passed, M failed'. NODE and CHROMIUM name other programs.
+# in headless Chromium. If this runs as root, apt-get installs missing tools; a tool that is still
+# missing is a failure. With --node it tests the package only. The last line is 'N passed, M failed'.
+# NODE and CHROMIUM name other programs.
 set -uo pipefail
 here=$(cd "$(dirname "${BASH_SOURCE[0]}")" && pwd)
 top=$(cd "$here/../.." && pwd)
@@ -54,16 +54,11 @@ make_package() {
     diff -r "$room/022" "$room/077"
 }
 
-# Installs the package, with npm if there is one.
+# Installs the package.
 install_package() {
     local package=$room/022/dethrux-$(< "$top/VERSION").tgz
-    if command -v npm > /dev/null; then
-        (cd "$room" && npm install --offline --no-audit --no-fund "$package")
-    else
-        mkdir -p "$room/node_modules/dethrux" &&
-            tar -xzf "$package" --strip-components=1 -C "$room/node_modules/dethrux"
-    fi
-    [ -s "$room/node_modules/dethrux/dethrux.wasm" ] && cp -R "$here/tests" "$room/"
+    (cd "$room" && npm install --offline --no-audit --no-fund "$package") &&
+        [ -s "$room/node_modules/dethrux/dethrux.wasm" ] && cp -R "$here/tests" "$room/"
 }
 
 # Prints the counts of a file of tests as a last line.
@@ -122,8 +117,10 @@ builds_page() {
 
 test_node() {
     node=${NODE:-node}
-    if ! command -v "$node" > /dev/null || ! is_new_enough; then
-        echo 'skipped: the JavaScript package: there is no Node 20 from 20.16, or from 22.3'
+    need "$node:nodejs" npm:npm tsc:node-typescript || return
+    if ! is_new_enough; then
+        failed=$((failed + 1))
+        echo "failed: Node is $("$node" --version): install nodejs 20 from 20.16, or from 22.3"
         return
     fi
     flags=()
@@ -137,24 +134,14 @@ test_node() {
     check 'the first program' first_program
     check 'the page has the first program' page_has_program
     check "the program of the package's page" program_of_package
-    if command -v tsc > /dev/null; then
-        check 'the types' check_types
-    else
-        echo 'skipped: the types of the JavaScript package: there is no tsc'
-    fi
+    check 'the types' check_types
 }
 
 test_page() {
-    CHROMIUM=${CHROMIUM:-$(first_of chromium chromium-browser google-chrome)}
-    [ -n "$CHROMIUM" ] || { provide chromium:chromium; CHROMIUM=$(first_of chromium); }
+    CHROMIUM=${CHROMIUM:-$(first_of chromium chromium-browser google-chrome || echo chromium)}
     export CHROMIUM
     check 'the page, twice' builds_page
-    if [ -n "$CHROMIUM" ]; then
-        counts 'the page in Chromium' "$top/site/test.py"
-    else
-        failed=$((failed + 1))
-        echo 'failed: the page in a browser: there is no chromium'
-    fi
+    need "$CHROMIUM:chromium" && counts 'the page in Chromium' "$top/site/test.py"
 }
 
 # Prints the first of these programs that is installed.
@@ -165,7 +152,6 @@ first_of() {
     done
 }
 
-provide tsc:node-typescript
 test_node
 [ "${1:-}" = --node ] || test_page
 finish

@@ -2,9 +2,9 @@
 # Installs the package with pip in an empty virtual environment, without network and without rt.
 # There it runs the first program of docs/PYTHON.md, the unit tests, CPython's tests of UTF-16 with
 # these codecs, and the tables of cases: with the extension in C, and over ctypes. It installs the
-# wheels and the source distribution that packaging/wheels.sh makes. mypy checks the types, if it is
-# installed. The last line is 'N passed, M failed'. PYTHON names another Python, which has its
-# headers. DETHRUX_LIBRARY names the shared library for the package; without it cc makes one of the
+# wheels and the source distribution that packaging/wheels.sh makes. mypy checks the types. A tool
+# that is missing is a failure, which names its Debian package. The last line is 'N passed, M failed'.
+# PYTHON names another Python, which has its headers. DETHRUX_LIBRARY names the shared library for the package; without it cc makes one of the
 # assembly in dist/. DETHRUX_CALLS is how many calls may not take memory (200000).
 set -uo pipefail
 here=$(cd "$(dirname "${BASH_SOURCE[0]}")" && pwd)
@@ -40,7 +40,7 @@ finish() {
 # Whether a tool is installed.
 has() {
     command -v "$1" && return
-    echo "there is no $1: install $2"
+    echo "there is no $1: apt-get install $2"
     return 1
 }
 
@@ -49,7 +49,7 @@ has_headers() {
     local include
     include=$("$python" -c 'import sysconfig; print(sysconfig.get_path("include"))')
     [ -f "$include/Python.h" ] && return
-    echo "there is no $include/Python.h: install python3-dev"
+    echo "there is no $include/Python.h: apt-get install python3-dev"
     return 1
 }
 
@@ -76,13 +76,9 @@ page_has_program() {
         diff - "$here/examples/first.py"
 }
 
-# Whether the types of the package agree. It is neither passed nor failed without mypy.
+# Whether the types of the package agree.
 check_types() {
-    if command -v mypy > /dev/null; then
-        count 'mypy --strict' mypy --strict --cache-dir "$room/mypy" "$here/src/dethrux"
-    else
-        echo 'not run: mypy --strict (apt-get install mypy)'
-    fi
+    has mypy mypy && mypy --strict --cache-dir "$room/mypy" "$here/src/dethrux"
 }
 
 # Runs the tests of a module, and counts each by the summary of unittest.
@@ -109,13 +105,11 @@ cases() {
     cat "$top"/cases/*.txt | "$room/venv/bin/python" "$top/examples/c/check.py"
 }
 
-# Makes the wheels and the source distribution, twice: with the same bytes. The compiler for the
-# other machine may be missing.
+# Makes the wheels and the source distribution, twice: with the same bytes.
 make_wheels() {
     local umask
     for umask in 022 077; do
-        (umask $umask && "$top/packaging/wheels.sh" "$room/wheels-$umask") ||
-            ! command -v "$other-linux-gnu-gcc" || return
+        (umask $umask && "$top/packaging/wheels.sh" "$room/wheels-$umask") || return
     done
     diff -r "$room"/wheels-{022,077}
 }
@@ -180,12 +174,13 @@ calls_other_library() {
         diff - "$room/found" <<< '2000 Grüße😀'
 }
 
-# Whether the extension compiles without a warning, with every compiler that is installed.
+# Whether the extension compiles without a warning, with both compilers.
 compile_strictly() {
     local compiler include
     include=$("$python" -c 'import sysconfig; print(sysconfig.get_path("include"))')
     for compiler in gcc clang; do
-        ! command -v $compiler || $compiler -std=c11 -O2 -Wall -Wextra -Wshadow -Wconversion \
+        has $compiler $compiler || return
+        $compiler -std=c11 -O2 -Wall -Wextra -Wshadow -Wconversion \
             -Werror -fPIC -c -I"$top/include" -isystem "$include" -o "$room/native.o" \
             "$here/src/dethrux/_native.c" || return
     done
@@ -204,6 +199,9 @@ test_wheels() {
     version=$("$python" -c 'import sys; print("cp%d%d" % sys.version_info[:2])')
     machine=$(uname -m)
     [ "$machine" = x86_64 ] || other=x86_64
+    count 'a compiler for another machine' \
+        has "$other-linux-gnu-gcc" "gcc-${other/_/-}-linux-gnu" || return
+    count 'an emulator' has "qemu-$other" qemu-user || return
     ! grep -q -w avx2 /proc/cpuinfo || best=libdethrux-x86-64-v3.so.0.2
     count 'the wheels, twice' make_wheels
     count 'wheels that cannot be made' leaves_out_wheels
@@ -220,17 +218,9 @@ test_wheels() {
         install_with_pip --target "$room/sources" "$room"/wheels-022/*.tar.gz
     count 'the library of the sources' takes_library sources $best
     count 'the extension of the sources' has_implementation sources c
-    if [ "$machine" = x86_64 ] && command -v qemu-x86_64 > /dev/null; then
-        count 'the wheel without AVX2' \
-            takes_library wheel libdethrux.so.0.2 qemu-x86_64 -cpu Nehalem
-    else
-        echo 'not run: the wheel without AVX2 (on x86-64: apt-get install qemu-user)'
-    fi
-    if command -v "$other-linux-gnu-gcc" "qemu-$other" > /dev/null; then
-        count "the wheel for $other, without Python" calls_other_library
-    else
-        echo "not run: the wheel for $other (apt-get install gcc-${other/_/-}-linux-gnu qemu-user)"
-    fi
+    [ "$machine" != x86_64 ] || count 'the wheel without AVX2' \
+        takes_library wheel libdethrux.so.0.2 qemu-x86_64 -cpu Nehalem
+    count "the wheel for $other, without Python" calls_other_library
 }
 
 python=${PYTHON:-python3}
@@ -254,5 +244,5 @@ unit_tests test_native
 unit_tests test_build
 count 'the warnings of the C compiler' compile_strictly
 test_wheels
-check_types
+count 'mypy --strict' check_types
 finish

@@ -5,8 +5,8 @@
 # without the library, formatting and lints. With --tests it skips the last two. The last line is
 # 'N passed, M failed'. It needs cargo, cc, pkg-config, the library
 # (crates/dethrux/out/libdethrux.a, or the folder that DETHRUX_LIB_DIR names), and for utf16string
-# the crate byteorder (Debian: librust-byteorder-dev). A missing tool or library is a failure,
-# except the compilers for other machines.
+# the crate byteorder (Debian: librust-byteorder-dev). A missing tool or library is a failure, which
+# names its Debian package.
 set -uo pipefail
 here=$(cd "$(dirname "$0")" && pwd)
 top=$(cd "$here/../.." && pwd)
@@ -51,19 +51,19 @@ documented() {
     RUSTDOCFLAGS='-D warnings' on_crate "$@"
 }
 
-# Formatting and lints, if this toolchain has them.
+# Formatting and lints.
 lint() {
     local crate=$1
     $has_lints || return
     if cargo fmt --version > "$room/said" 2>&1; then
         count "$crate: cargo fmt" cargo fmt --check --manifest-path "$here/$crate/Cargo.toml"
     else
-        echo "not run: cargo fmt of $crate (rustup component add rustfmt)"
+        fail "$crate: there is no cargo fmt: apt-get install rustfmt, or rustup component add rustfmt"
     fi
     if cargo clippy --version > "$room/said" 2>&1; then
         count "$crate: cargo clippy" on_crate "$crate" clippy --quiet --all-targets -- -D warnings
     else
-        echo "not run: cargo clippy of $crate (rustup component add clippy)"
+        fail "$crate: there is no cargo clippy: apt-get install rust-clippy, or rustup component add clippy"
     fi
 }
 
@@ -322,34 +322,22 @@ test_targets() {
         "$here/dethrux/build.rs" -o "$room/build_script" || return
     said='there is no assembly for x86_64-pc-windows-msvc: set DETHRUX_LIB_DIR to the folder of a'
     count 'a target without assembly' refuses_target x86_64-pc-windows-msvc "$said library"
-    if command -v x86_64-linux-gnu-gcc > /dev/null; then
-        for target in x86_64-unknown-linux-{gnu,musl}; do
-            count "$target" makes $target x86_64-linux-gnu:elf64-x86-64 linux-x86-64-v2.o
-        done
-        count 'x86-64-v3' makes x86_64-unknown-linux-gnu x86_64-linux-gnu:elf64-x86-64 \
-            linux-x86-64-v3.o CARGO_CFG_TARGET_FEATURE="$(rustc --print cfg --target \
-                x86_64-unknown-linux-gnu -C target-cpu=x86-64-v3 |
-                sed -n 's/^target_feature="\(.*\)"$/\1/p' | paste -sd ,)"
-        count 'the object file of dist/' is_of_dist linux-x86-64-v3.o
-    else
-        echo 'not run: the targets of Linux on x86-64 (apt-get install gcc-x86-64-linux-gnu)'
-    fi
-    if command -v $arm-gcc qemu-aarch64 > /dev/null; then
-        for target in aarch64-unknown-linux-{musl,gnu}; do
-            count "$target" makes $target $arm:elf64-littleaarch64 linux-aarch64.o
-        done
-        count 'a program for ARM64' runs_on_arm
-        test_variables
-    else
-        echo 'not run: the targets on ARM64 (apt-get install gcc-aarch64-linux-gnu qemu-user)'
-    fi
-    if command -v $windows-gcc > /dev/null; then
-        count 'x86_64-pc-windows-gnu' makes x86_64-pc-windows-gnu $windows:pe-x86-64 \
-            'windows-x86-64-v2.o windows.o'
-        count 'a program for Windows' links_for_windows
-    else
-        echo 'not run: the target of Windows (apt-get install gcc-mingw-w64-x86-64)'
-    fi
+    for target in x86_64-unknown-linux-{gnu,musl}; do
+        count "$target" makes $target x86_64-linux-gnu:elf64-x86-64 linux-x86-64-v2.o
+    done
+    count 'x86-64-v3' makes x86_64-unknown-linux-gnu x86_64-linux-gnu:elf64-x86-64 \
+        linux-x86-64-v3.o CARGO_CFG_TARGET_FEATURE="$(rustc --print cfg --target \
+            x86_64-unknown-linux-gnu -C target-cpu=x86-64-v3 |
+            sed -n 's/^target_feature="\(.*\)"$/\1/p' | paste -sd ,)"
+    count 'the object file of dist/' is_of_dist linux-x86-64-v3.o
+    for target in aarch64-unknown-linux-{musl,gnu}; do
+        count "$target" makes $target $arm:elf64-littleaarch64 linux-aarch64.o
+    done
+    count 'a program for ARM64' runs_on_arm
+    test_variables
+    count 'x86_64-pc-windows-gnu' makes x86_64-pc-windows-gnu $windows:pe-x86-64 \
+        'windows-x86-64-v2.o windows.o'
+    count 'a program for Windows' links_for_windows
 }
 
 # Which variable names the compiler, from the last to the first.
@@ -367,8 +355,11 @@ test_variables() {
 }
 
 library=${DETHRUX_LIB_DIR:-$top/crates/dethrux/out}/libdethrux.a
-for tool in cargo rustc cc ar make pkg-config cmp sed tar; do
-    command -v "$tool" > /dev/null || fail "there is no $tool"
+for pair in cargo:cargo rustc:rustc cc:gcc ar:binutils make:make pkg-config:pkg-config cmp:diffutils \
+    x86_64-linux-gnu-gcc:gcc aarch64-linux-gnu-gcc:gcc-aarch64-linux-gnu \
+    qemu-aarch64:qemu-user x86_64-w64-mingw32-gcc:gcc-mingw-w64-x86-64; do
+    command -v "${pair%:*}" > /dev/null ||
+        fail "there is no ${pair%:*}: apt-get install ${pair#*:}"
 done
 [ -f "$library" ] || fail "there is no $library: (cd crates/dethrux && rt lib)"
 if [ $failed = 0 ]; then

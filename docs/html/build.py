@@ -1,8 +1,8 @@
 #!/usr/bin/env python3
 # Builds docs/site from the tree: the page of site/, the documents, a page for each crate, and the
-# references for C, C++, Python, Rust and the programs, as HTML. Without a tool the pages that need it are left out.
-# Prints a line for each failure and for each part that was left out, and then the page to open. The
-# status is 0 if all was built, 1 after a failure, and 77 if a part was left out.
+# references for C, C++, Python, Rust and the programs, as HTML. A part that needs a missing tool is
+# a failure, which names the Debian package, and the other parts are built. Prints a line for each
+# failure, and then the page to open. The status is 0 if all was built, and 1 after a failure.
 import os
 import shutil
 import sys
@@ -49,15 +49,14 @@ FIRST = (
 
 
 def build(part, builder, tree):
-    """Builds a part. Returns what failed, and whether it was left out."""
+    """Builds a part. Returns what failed, and whether the part has its pages."""
     (pages.SITE / part).mkdir(parents=True, exist_ok=True)
     title = pages.PARTS[part]
     try:
-        return builder(tree) or [], False
+        return builder(tree) or [], True
     except pages.Missing as tool:
-        print(f"skipped: {title}: there is no {tool}")
-        write_notice(part, f"This part was left out: there is no <code>{tool}</code>.")
-        return [], True
+        write_notice(part, f"This part could not be built: there is no <code>{tool}</code>.")
+        return [f"{title}: there is no {tool}: apt-get install {tool}"], False
     except RuntimeError as error:
         write_notice(part, "This part could not be built.")
         return [str(error)], False
@@ -88,17 +87,17 @@ def main():
     pages.SITE.mkdir()
     shutil.copy("docs/html/style.css", pages.SITE)
     tree = pages.Tree()
-    failed, left_out = [], []
+    failed, built = [], set()
     for part, builder in BUILDERS.items():
-        lost, is_left_out = build(part, builder, tree)
+        lost, has_pages = build(part, builder, tree)
         failed += lost
-        left_out += [part] if is_left_out else []
+        built |= {part} if has_pages else set()
     tree.write()
-    write_index(tree, "tree" not in left_out)
+    write_index(tree, "tree" in built)
     for it in failed:
         print(f"failed: {it}")
     print("built: docs/site/index.html")
-    return 1 if failed else 77 if left_out else 0
+    return 1 if failed else 0
 
 
 if __name__ == "__main__":

@@ -1,6 +1,6 @@
 /* Reads tables of cases/, the named files or standard input, and makes the calls that the library
  * has. Prints each case whose result differs, with both results, and finally how many passed. Cases
- * of other calls, and cases with a condition on memory or devices, are skipped. */
+ * of other calls, and cases with a condition on memory or devices, are not run. */
 #include "dethrux.h"
 
 #include <ctype.h>

@@ -1,6 +1,6 @@
 """Reads tables of cases/ on standard input and makes the calls that the package dethrux of
 bindings/python has. Prints each case whose result differs, with both results, and finally how many
-passed. Cases of other calls, and cases with a condition on memory or devices, are skipped."""
+passed. Cases of other calls, and cases with a condition on memory or devices, are not run."""
 
 import collections
 import re

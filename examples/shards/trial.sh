@@ -1,9 +1,9 @@
 #!/usr/bin/env bash
 # Tests shards.py on a cluster of four local processes. Compares the joined parts with what
 # utf16_cat writes, also after a worker was killed, and tests errors, memory and speed. --small does
-# this on a few MiB, without the speed; trial.py takes the other arguments. If Dask is not
-# installed, a line says so. PYTHON names another Python, and ROOM a folder for the files. The last
-# line is 'N passed, M failed'.
+# this on a few MiB, without the speed; trial.py takes the other arguments. It is a failure if Dask is
+# not installed. PYTHON names another Python, and ROOM a folder for the files. The last line is
+# 'N passed, M failed'.
 set -uo pipefail
 here=$(cd "$(dirname "${BASH_SOURCE[0]}")" && pwd)
 top=$(cd "$here/../.." && pwd)
@@ -18,9 +18,9 @@ for candidate in "${PYTHON:-python3}" /usr/bin/python3; do
     fi
 done
 if [ -z "$python" ]; then
-    echo 'shards: not tested: there is no Dask: apt-get install python3-distributed'
-    echo '1 passed, 0 failed'
-    exit
+    echo 'failed: there is no Dask: apt-get install python3-distributed'
+    echo '0 passed, 1 failed'
+    exit 1
 fi
 
 if ! libraries=$("$top/packaging/build.sh"); then

@@ -1,7 +1,7 @@
 // Reads the tables of cases/ and makes the calls that the package has: on bytes, and in little
 // endian also on code units. Prints each case whose result differs, with both results, and last
 // 'N passed, M failed'. Cases of other calls, and cases with a condition on memory or devices, are
-// skipped.
+// not run.
 import { readFileSync } from "node:fs";
 import { load } from "dethrux";
 

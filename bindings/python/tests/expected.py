@@ -13,6 +13,8 @@ CODECS = {"little": "utf-16-le", "big": "utf-16-be"}
 ORDERS = tuple(CODECS)
 REPLACEMENT = "\ufffd"
 LARGEST = 2**64 - 1
+# Debian's package of Python's modules in C, such as _testcapi.
+STDLIB = "libpython{}.{}-stdlib".format(*sys.version_info)
 LEADING, TRAILING = 0xD83D, 0xDE00
 PAIR = (LEADING, TRAILING)
 

@@ -24,6 +24,7 @@ from expected import (
     ORDERS,
     READABLE,
     REPLACEMENT,
+    STDLIB,
     UNWRITABLE,
     UTF8,
     WRITABLE,
@@ -744,7 +745,7 @@ class Decoders(unittest.TestCase):
         try:
             from _testcapi import remove_mem_hooks, set_nomemory
         except ImportError:
-            self.skipTest("this Python has no _testcapi")
+            self.fail(f"there is no _testcapi: apt-get install {STDLIB}")
         outcomes = []
         for start in range(60):
             decoder, found = made(), None

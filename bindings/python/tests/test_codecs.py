@@ -10,7 +10,7 @@ import threading
 import unittest
 
 import dethrux._codecs
-from expected import CODECS, Index, spread
+from expected import CODECS, STDLIB, Index, spread
 
 NAMES = ("utf-16-le", "utf-16-be", "utf-16")
 UNITS = (0x41, 0xE9, 0x4E00, 0xD83D, 0xDE00, 0xFEFF, 0xFFFE)
@@ -444,7 +444,7 @@ class Streams(unittest.TestCase):
         try:
             from _testcapi import remove_mem_hooks, set_nomemory
         except ImportError:
-            self.skipTest("this Python has no _testcapi")
+            self.fail(f"there is no _testcapi: apt-get install {STDLIB}")
         text = "a\U0001f600"
         for name in NAMES:
             raw, info = text.encode(name), codecs.lookup(f"dethrux-{name}")

@@ -23,7 +23,7 @@ from pathlib import Path
 
 import dethrux
 from dethrux import _calls, _codecs, _implementation, _library
-from expected import CODECS, ORDERS, UTF8, Index, mapped, utf16
+from expected import CODECS, ORDERS, STDLIB, UTF8, Index, mapped, utf16
 from test_calls import outcome
 
 # How many calls may not take memory: a million with DETHRUX_CALLS=1000000.
@@ -745,7 +745,7 @@ class Memory(unittest.TestCase):
     def test_long_results_take_no_new_pages(self):
         """The kernel gives no pages for a result if one that is as long was freed before."""
         if platform.libc_ver()[0] != "glibc":
-            self.skipTest("this is not glibc")
+            self.fail("the C library is not glibc")
         script = (
             "import resource, sys\n"
             "import dethrux\n"
@@ -770,7 +770,7 @@ class Memory(unittest.TestCase):
         try:
             from _testcapi import remove_mem_hooks, set_nomemory
         except ImportError:
-            self.skipTest("this Python has no _testcapi")
+            self.fail(f"there is no _testcapi: apt-get install {STDLIB}")
         for function, given in self.calls():
             expected = self.run_call(function, given)
             if isinstance(expected, type) or isinstance(given[0], _library.State):
@@ -894,7 +894,7 @@ class Interpreters(unittest.TestCase):
             except ImportError:
                 continue
         else:
-            self.skipTest("this Python has no module for interpreters")
+            self.fail("this Python has no module for interpreters")
         path = f"import sys\nsys.path[:] = {sys.path!r}\n"
         for _ in range(3):
             interpreter = interpreters.create()

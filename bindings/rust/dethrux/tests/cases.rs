@@ -1,6 +1,6 @@
 //! Makes the calls that the tables of `cases/` name. Prints each case whose result differs, with
 //! both results, and finally how many passed. Cases of other calls, and cases with a condition on
-//! memory or devices, are skipped.
+//! memory or devices, are not run.
 
 use dethrux::ByteOrder::{BigEndian, LittleEndian};
 use dethrux::*;
