@@ -23,8 +23,8 @@ def table(head, rows, sums=False):
     return "".join(f"| {' | '.join(map(str, it))} |\n" for it in (head, line, *rows))
 
 
-def check(path, script, wanted):
-    """Compares the document with what it should be, section by section."""
+def check(path, script, wanted, others):
+    """Compares the document with what it should be, section by section, and adds other tests."""
     if not os.path.isfile(path):
         print(f"failed: {path} is missing: run {script}")
         print(f"0 passed, {len(wanted)} failed")
@@ -41,19 +41,29 @@ def check(path, script, wanted):
     more = len(found) > len(wanted)
     if more:
         print(f"failed: {path} has a section that {script} does not write")
-    print(f"{len(wanted) - failed} passed, {failed + more} failed")
-    return 1 if failed or more else 0
+    wrong = [it for it in others if it]
+    for it in wrong:
+        print(f"failed: {it}")
+    passed = len(wanted) - failed + len(others) - len(wrong)
+    failed += more + len(wrong)
+    print(f"{passed} passed, {failed} failed")
+    return 1 if failed else 0
 
 
-def main(words, path, sections):
-    """Does what the words of the command say, with a function that returns the sections."""
+def main(words, path, sections, others=lambda is_check: []):
+    """Does what the words of the command say, with a function that returns the sections.
+
+    The function `others` writes what else the script writes, or for a check returns for each test
+    what is wrong, or an empty text.
+    """
     os.chdir(os.path.dirname(os.path.dirname(os.path.abspath(__file__))))
     script = f".ci/{os.path.basename(sys.argv[0])}"
     if words not in ([], ["--check"]):
         print(f"usage: {script} [--check]", file=sys.stderr)
         return 2
     if words:
-        return check(path, script, sections())
+        return check(path, script, sections(), others(True))
     with open(path, "w", encoding="utf-8") as it:
         it.write("".join(sections()))
+    others(False)
     return 0

@@ -48,7 +48,8 @@ impl<E, P> Pattern<E> for P where P: private::SealedPattern<E> {}
 
 /// Searches like [`str`]'s, with offsets in bytes of UTF-16. An occurrence is between two character
 /// boundaries, so it cuts neither a code unit nor a surrogate pair. The time is linear in both
-/// lengths for every input, and nothing is allocated.
+/// lengths, as measured with the most expensive inputs that are known; this is not proved. Nothing
+/// is allocated.
 impl<E> WStr<E>
 where
     E: ByteOrder,
