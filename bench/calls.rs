@@ -180,6 +180,8 @@ const VALIDATE: &[(&str, Call)] = &[
     ("simdutf westmere", |big, raw, _| 2 * simdutf::westmere::valid_up_to(big, aligned(raw))),
     #[cfg(simdutf)]
     ("simdutf haswell", |big, raw, _| 2 * simdutf::haswell::valid_up_to(big, aligned(raw))),
+    #[cfg(simdutf)]
+    ("simdutf icelake", |big, raw, _| 2 * simdutf::icelake::valid_up_to(big, aligned(raw))),
 ];
 
 // Returns the number of ill-formed sequences in random bytes. Each call starts after the sequence
@@ -194,6 +196,8 @@ const FAULTS: &[(&str, Call)] = &[
     ("simdutf westmere", |big, raw, _| faults(aligned(raw), 1, |rest| simdutf::westmere::valid_up_to(big, rest))),
     #[cfg(simdutf)]
     ("simdutf haswell", |big, raw, _| faults(aligned(raw), 1, |rest| simdutf::haswell::valid_up_to(big, rest))),
+    #[cfg(simdutf)]
+    ("simdutf icelake", |big, raw, _| faults(aligned(raw), 1, |rest| simdutf::icelake::valid_up_to(big, rest))),
 ];
 
 fn faults<T>(mut rest: &[T], unit: usize, valid_up_to: impl Fn(&[T]) -> usize) -> usize {
@@ -216,6 +220,8 @@ const COUNT: &[(&str, Call)] = &[
     ("simdutf westmere", |big, raw, _| simdutf::westmere::count(big, aligned(raw))),
     #[cfg(simdutf)]
     ("simdutf haswell", |big, raw, _| simdutf::haswell::count(big, aligned(raw))),
+    #[cfg(simdutf)]
+    ("simdutf icelake", |big, raw, _| simdutf::icelake::count(big, aligned(raw))),
 ];
 
 // Reads all bytes, as a measure of the memory's speed.
@@ -248,6 +254,8 @@ const TO_UTF8: &[(&str, Call)] = &[
     ("simdutf westmere", |big, raw, to| simdutf::westmere::to_utf8(big, aligned(raw), to)),
     #[cfg(simdutf)]
     ("simdutf haswell", |big, raw, to| simdutf::haswell::to_utf8(big, aligned(raw), to)),
+    #[cfg(simdutf)]
+    ("simdutf icelake", |big, raw, to| simdutf::icelake::to_utf8(big, aligned(raw), to)),
 ];
 
 const FROM_UTF8: &[(&str, Call)] = &[
@@ -270,6 +278,8 @@ const FROM_UTF8: &[(&str, Call)] = &[
     ("simdutf westmere", |big, text, to| 2 * simdutf::westmere::from_utf8(big, text, to)),
     #[cfg(simdutf)]
     ("simdutf haswell", |big, text, to| 2 * simdutf::haswell::from_utf8(big, text, to)),
+    #[cfg(simdutf)]
+    ("simdutf icelake", |big, text, to| 2 * simdutf::icelake::from_utf8(big, text, to)),
 ];
 
 struct Case {
@@ -305,13 +315,13 @@ fn cases(call: &str, text: &str, big: bool, raw: &'static [u8], size: f64, field
         let run = move || black_box(raw).chunks_exact(field).map(|field| f(big, field, &mut to)).sum();
         Case { name, run: Box::new(run), size, times: 1, best: f64::MAX }
     };
-    let runs = |decoder| !["here v3", "simdutf haswell"].contains(&decoder) || is_x86_feature_detected!("avx2");
+    #[cfg(simdutf)]
+    let decoders: Vec<_> = decoders.iter().filter(|(decoder, _)| simdutf::runs(decoder)).copied().collect();
+    let runs = |decoder| decoder != "here v3" || is_x86_feature_detected!("avx2");
     decoders.iter().filter(|(decoder, _)| runs(*decoder)).map(case).collect()
 }
 
 fn main() {
-    #[cfg(simdutf)]
-    simdutf::choose();
     let folder = std::env::args().nth(1).unwrap();
     // Leaves out the decoders that make a state for each call, which takes longer than a short
     // text.

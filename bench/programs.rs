@@ -45,8 +45,12 @@ fn others(folder: &str, order: &str, from: &str, to: &str, ours: &str) -> Vec<(&
     ];
     // The kernels of simdutf that this machine can run, if `run.sh` has built the program.
     if ours == "utf16_cat" && std::fs::exists(format!("{folder}/simdutf_cat")).unwrap() {
-        for (name, kernel) in [("simdutf westmere", "westmere"), ("simdutf haswell", "haswell")] {
-            if kernel == "westmere" || is_x86_feature_detected!("avx2") {
+        for (name, kernel, runs) in [
+            ("simdutf westmere", "westmere", true),
+            ("simdutf haswell", "haswell", is_x86_feature_detected!("avx2")),
+            ("simdutf icelake", "icelake", is_x86_feature_detected!("avx512vbmi2")),
+        ] {
+            if runs {
                 programs.push((name, format!("SIMDUTF_FORCE_IMPLEMENTATION={kernel} {folder}/simdutf_cat {order}")));
             }
         }

@@ -82,6 +82,7 @@ const VALIDATE: &[(&str, Call)] = &[
     ("before", before::valid_up_to),
     ("simdutf westmere", |big, raw, _| 2 * simdutf::westmere::valid_up_to(big, units(raw))),
     ("simdutf haswell", |big, raw, _| 2 * simdutf::haswell::valid_up_to(big, units(raw))),
+    ("simdutf icelake", |big, raw, _| 2 * simdutf::icelake::valid_up_to(big, units(raw))),
 ];
 
 const TO_UTF8: &[(&str, Call)] = &[
@@ -91,6 +92,7 @@ const TO_UTF8: &[(&str, Call)] = &[
     ("before", before::decoded),
     ("simdutf westmere", |big, raw, to| simdutf::westmere::to_utf8(big, units(raw), to)),
     ("simdutf haswell", |big, raw, to| simdutf::haswell::to_utf8(big, units(raw), to)),
+    ("simdutf icelake", |big, raw, to| simdutf::icelake::to_utf8(big, units(raw), to)),
 ];
 
 const FROM_UTF8: &[(&str, Call)] = &[
@@ -100,6 +102,7 @@ const FROM_UTF8: &[(&str, Call)] = &[
     ("before", before::encoded),
     ("simdutf westmere", |big, text, to| 2 * simdutf::westmere::from_utf8(big, text, to)),
     ("simdutf haswell", |big, text, to| 2 * simdutf::haswell::from_utf8(big, text, to)),
+    ("simdutf icelake", |big, text, to| 2 * simdutf::icelake::from_utf8(big, text, to)),
 ];
 
 // Returns the text of a file in UTF-8, cut to at most `MOST` bytes of UTF-16.
@@ -174,7 +177,7 @@ fn add(all: &mut Vec<Case>, name: &str, big: bool, inputs: &[&'static [u8]], siz
     let longest = inputs.iter().map(|input| input.len()).max().unwrap_or(0);
     let mut wanted = None;
     for (decoder, call) in decoders {
-        if ["v3", "simdutf haswell"].contains(decoder) && !is_x86_feature_detected!("avx2") {
+        if !simdutf::runs(decoder) || *decoder == "v3" && !is_x86_feature_detected!("avx2") {
             continue;
         }
         let mut to = vec![0; 4 * longest + 64];
@@ -198,7 +201,6 @@ fn utf16(text: &str, big: bool) -> &'static [u8] {
 }
 
 fn main() {
-    simdutf::choose();
     let folder = std::env::args().nth(1).expect("a folder of texts");
     let mut files: Vec<_> = std::fs::read_dir(folder).unwrap().map(|file| file.unwrap().path()).collect();
     files.retain(|path| path.extension().is_some_and(|ending| ending == "txt"));

@@ -1,12 +1,13 @@
 #!/usr/bin/env bash
-# Times the calls of the C library and both programs on real texts, next to simdutf's 128-bit and
-# 256-bit kernels: `SIMDUTF=FOLDER real.sh TEXTS`. SIMDUTF has simdutf.cpp and simdutf.h. TEXTS has
-# a file NAME.txt in UTF-8 for each text, of which at most 1 MiB of UTF-16 is read. A text is
-# converted line by line, and in pieces of 4 KiB and of 64 KiB. The library is built from dist/, for
-# x86-64-v2 and for x86-64-v3. BEFORE may name another checkout of this repository with its programs
-# built: they and its library for x86-64-v2 are timed in the same run. Everything is linked at two
-# places, 16 bytes apart, and the better time counts, since a branch may cross a 32-byte boundary at
-# only one of them. The table is written to bench/out/real.md.
+# Times the calls of the C library and both programs on real texts, next to simdutf's kernels for
+# 128, 256 and 512 bits: `SIMDUTF=FOLDER real.sh TEXTS`. A kernel that this processor cannot run is
+# left out. SIMDUTF has simdutf.cpp and simdutf.h. TEXTS has a file NAME.txt in UTF-8 for each text,
+# of which at most 1 MiB of UTF-16 is read. A text is converted line by line, and in pieces of 4 KiB
+# and of 64 KiB. The library is built from dist/, for x86-64-v2 and for x86-64-v3. BEFORE may name
+# another checkout of this repository with its programs built: they and its library for x86-64-v2
+# are timed in the same run. Everything is linked at two places, 16 bytes apart, and the better time
+# counts, since a branch may cross a 32-byte boundary at only one of them. The table is written to
+# bench/out/real.md.
 set -eu
 usage() { echo "usage: SIMDUTF=FOLDER [BEFORE=CHECKOUT] real.sh TEXTS" >&2; exit 2; }
 [ $# = 1 ] && [ -n "${SIMDUTF:-}" ] || usage
@@ -48,24 +49,21 @@ rust() {
     rustc --check-cfg 'cfg(before)' -C opt-level=3 -C target-cpu=$level \
         -C llvm-args=-x86-branches-within-32B-boundaries --out-dir "$room" -L "$room" "$@"
 }
-kernels=()
-for kernel in westmere haswell; do
-    cxx -Dsimdutf=simdutf_$kernel -DKERNEL=$kernel -c simdutf_calls.cc -o "$room/simdutf_$kernel.o" &
-    kernels+=("$room/simdutf_$kernel.o")
-done
-cxx -static simdutf_cat.cc "$simdutf/simdutf.cpp" -o "$room/simdutf_cat" &
+cxx -c "$simdutf/simdutf.cpp" -o "$room/simdutf.o" &
+cxx -c simdutf_calls.cc -o "$room/simdutf_calls.o" &
 rust --edition 2018 --crate-type rlib --cap-lints allow --crate-name cfg_if $registry/cfg-if-*/src/lib.rs
 rust --edition 2018 --crate-type rlib --cap-lints allow --crate-name encoding_rs $registry/encoding_rs-*/src/lib.rs \
     --cfg 'feature="alloc"' --extern cfg_if="$room/libcfg_if.rlib"
 rust --edition 2024 cat.rs --extern encoding_rs="$room/libencoding_rs.rlib"
 rust --edition 2024 real_programs.rs
 wait
+cxx -static simdutf_cat.cc "$room/simdutf.o" -o "$room/simdutf_cat"
 for space in 16 32; do
     printf '.section .text.pad,"axR",@progbits\n.balign 16\n.skip %s\n.section .note.GNU-stack,"",@progbits\n' $space |
         gcc -c -x assembler -o "$room/pad.o" -
     # simdutf's sections are aligned to 32 bytes, so they come before the padding.
-    rust --edition 2024 real.rs ${before:+--cfg before} -C link-args="${kernels[*]} -lstdc++ $room/pad.o \
-        ${libraries[*]}"
+    rust --edition 2024 real.rs ${before:+--cfg before} -C link-args="$room/simdutf_calls.o $room/simdutf.o \
+        -lstdc++ $room/pad.o ${libraries[*]}"
     "$room/real" "$texts" >> "$room/lines"
     programs=()
     for checkout in .. ${before:+"$before"}; do
@@ -93,14 +91,15 @@ function cell(row, order, decoder, other,    own, others) {
 function cells(row, order) {
     return cell(row, order, "v2") " | " cell(row, order, "v2", "simdutf westmere") \
         " | " cell(row, order, "v2", "simdutf haswell") " | " cell(row, order, "v3") \
-        " | " cell(row, order, "v3", "simdutf haswell") " | " cell(row, order, "v2", "copy") \
+        " | " cell(row, order, "v3", "simdutf haswell") " | " cell(row, order, "v3", "simdutf icelake") \
+        " | " cell(row, order, "v2", "copy") \
         " | " cell(row, order, "v2", "before")
 }
 END {
-    columns = "v2, GB/s | to 128 bits | to 256 bits | v3, GB/s | to 256 bits | to a copy | to before |"
+    columns = "v2, GB/s | to 128 bits | to 256 bits | v3, GB/s | to 256 bits | to 512 bits | to a copy | to before |"
     print "Little endian first, then big endian. v2 and v3 are the library for x86-64-v2 and for x86-64-v3."
     print "\n| Call | Text | Form | " columns " " columns
-    print "|---|---|---|---:|---:|---:|---:|---:|---:|---:|---:|---:|---:|---:|---:|---:|---:|"
+    print "|---|---|---|---:|---:|---:|---:|---:|---:|---:|---:|---:|---:|---:|---:|---:|---:|---:|---:|"
     for (i = 1; i <= n; i++) {
         split(rows[i], name, FS)
         printf "| `%s` | %s | %s | %s | %s |\n", name[1], name[2], name[3], cells(rows[i], "le"), cells(rows[i], "be")

@@ -50,8 +50,12 @@ fn main() {
                     cases.push((decoder, format!("{} {order}", build[place])));
                 }
                 let verb = if place == 0 { order.to_string() } else { format!("enc-{order}") };
-                for (decoder, kernel) in [("simdutf westmere", "westmere"), ("simdutf haswell", "haswell")] {
-                    if kernel == "westmere" || is_x86_feature_detected!("avx2") {
+                for (decoder, kernel, runs) in [
+                    ("simdutf westmere", "westmere", true),
+                    ("simdutf haswell", "haswell", is_x86_feature_detected!("avx2")),
+                    ("simdutf icelake", "icelake", is_x86_feature_detected!("avx512vbmi2")),
+                ] {
+                    if runs {
                         cases.push((decoder, format!("SIMDUTF_FORCE_IMPLEMENTATION={kernel} {bin}/simdutf_cat {verb}")));
                     }
                 }

@@ -131,8 +131,8 @@ END {
     split("ascii,cjk", class, ","); split("2,4,8,16,24,32,40,62,64", size, ",")
     for (c = 1; c in class; c++) for (s = 1; s in size; s++) short = short (short == "" ? "" : ";") class[c] ", " size[s] " bytes"
     calls = "validate,count,is_ascii,read,to_utf8,from_utf8"
-    by_call = "here,here v3,plain loop,encoding_rs,encoding_rs mem,ICU,iconv,simdutf westmere,simdutf haswell"
-    by_program = "here,encoding_rs,iconv,uconv,simdutf westmere,simdutf haswell,copy"
+    by_call = "here,here v3,plain loop,encoding_rs,encoding_rs mem,ICU,iconv,simdutf westmere,simdutf haswell,simdutf icelake"
+    by_program = "here,encoding_rs,iconv,uconv,simdutf westmere,simdutf haswell,simdutf icelake,copy"
     short_calls = "short validate,short to_utf8,short from_utf8"
     compare(calls, classes, by_call)
     compare("utf16_cat,utf16_enc", filtered, by_program)

@@ -2,7 +2,8 @@
 # Builds the library and its competitors, makes the texts, runs all benchmarks, and writes the
 # tables (run.md) and the chart (chart.svg) to bench/out. The library is built from dist/; `here v3`
 # is its code for processors with AVX2. If SIMDUTF names a folder with simdutf.cpp and simdutf.h,
-# simdutf's kernels are also timed: westmere and, if the machine has AVX2, haswell.
+# simdutf's kernels are also timed: westmere, haswell if the processor has AVX2, and icelake if it has
+# AVX-512.
 set -eu
 [ -z "${SIMDUTF:-}" ] || SIMDUTF=$(cd "$SIMDUTF" && pwd)
 cd "$(dirname "$0")"
@@ -43,18 +44,14 @@ crate() { rust --edition 2018 --crate-type rlib --cap-lints allow --crate-name "
 crate cfg_if $registry/cfg-if-*/src/lib.rs
 crate encoding_rs $registry/encoding_rs-*/src/lib.rs --cfg 'feature="alloc"' --extern cfg_if=out/libcfg_if.rlib
 gcc -O3 -march=$level -Wa,-mbranches-within-32B-boundaries -c icu.c -o out/icu.o
-# Each object contains all of simdutf. It chooses its kernel at its first call, from an environment
-# variable.
 rm -f out/simdutf*
 simdutf=''
 if [ -n "${SIMDUTF:-}" ]; then
     cxx() { g++ -O3 -march=$level -Wa,-mbranches-within-32B-boundaries -I "$SIMDUTF" "$@"; }
-    for kernel in westmere haswell; do
-        cxx -Dsimdutf=simdutf_$kernel -DKERNEL=$kernel -c simdutf_calls.cc -o out/simdutf_$kernel.o
-        simdutf="$simdutf out/simdutf_$kernel.o"
-    done
-    cxx -static simdutf_cat.cc "$SIMDUTF/simdutf.cpp" -o out/simdutf_cat
-    simdutf="$simdutf -lstdc++"
+    cxx -c "$SIMDUTF/simdutf.cpp" -o out/simdutf.o
+    cxx -c simdutf_calls.cc -o out/simdutf_calls.o
+    cxx -static simdutf_cat.cc out/simdutf.o -o out/simdutf_cat
+    simdutf="out/simdutf_calls.o out/simdutf.o -lstdc++"
 fi
 # The calls of the library for AVX2 get other names. Its other symbols become local.
 set --
