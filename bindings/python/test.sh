@@ -100,6 +100,11 @@ unit_tests() {
     failed=$((failed + lost))
 }
 
+# Whether each module of tests is run.
+runs_all() {
+    diff <(printf '%s.py\n' "${for_each[@]}" "${once[@]}" | sort) <(cd "$here/tests" && ls test_*.py)
+}
+
 # The tables that C, C++ and Rust also check.
 cases() {
     cat "$top"/cases/*.txt | "$room/venv/bin/python" "$top/examples/c/check.py"
@@ -232,16 +237,21 @@ count 'pip install' install_with_pip "$here" || finish
 unset DETHRUX_LIBRARY
 count 'the first program' first_program
 count 'the page has the first program' page_has_program
+# The tests of either implementation, and the ones that run once.
+for_each=(test_calls test_codecs test_cpython test_package test_wtf8)
+once=(test_build test_native)
+count 'each module of tests' runs_all
 for DETHRUX_IMPLEMENTATION in c ctypes; do
     export DETHRUX_IMPLEMENTATION
-    for module in test_calls test_codecs test_package test_cpython; do
+    for module in "${for_each[@]}"; do
         unit_tests $module
     done
     count "the tables of cases, $DETHRUX_IMPLEMENTATION" cases
 done
 unset DETHRUX_IMPLEMENTATION
-unit_tests test_native
-unit_tests test_build
+for module in "${once[@]}"; do
+    unit_tests $module
+done
 count 'the warnings of the C compiler' compile_strictly
 test_wheels
 count 'mypy --strict' check_types

@@ -125,14 +125,22 @@ ignores_all() {
 }
 
 # Whether C++ refuses code units of another size, in text that is read and in text that is changed.
-refuses_wide() {
-    local line
-    for line in 'bool is(const char32_t *text) { return dethrux_u16_is_ascii(text, 1); }' \
-        'void swap(char32_t *text) { dethrux_u16_swap_byte_order(text, 1); }'; do
-        printf '#include "dethrux.h"\n%s\n' "$line" |
-            c++ -std=c++11 "-I$top/include" -fsyntax-only -x c++ - 2> "$room/refused" && return 1
-        grep -q 'a code unit of UTF-16 has two bytes' "$room/refused" || return
+refuses_other_sizes() {
+    local line unit
+    for unit in char char32_t; do
+        for line in "bool is(const $unit *text) { return dethrux_u16_is_ascii(text, 1); }" \
+            "void swap($unit *text) { dethrux_u16_swap_byte_order(text, 1); }"; do
+            printf '#include "dethrux.h"\n%s\n' "$line" | c++ -std=c++11 "-I$top/include" \
+                -fsyntax-only -x c++ - 2> "$room/refused" && return 1
+            grep -q 'a code unit of UTF-16 has two bytes' "$room/refused" || return
+        done
     done
+}
+
+# Whether a compiler that has none of GCC's attributes, as clang in MSVC's mode, warns in the first
+# standard that has [[nodiscard]], given these words.
+warns_by_standard() {
+    warns "$here/ignored.c" clang --target=x86_64-pc-windows-msvc -ffreestanding "$@"
 }
 
 # Whether C refuses an enum of one byte.
@@ -221,8 +229,8 @@ test_c() {
     count 'the first program in C' in_c first && count 'the page for C' prints_page first C
     count 'the program of the README' in_c resume && count 'resuming' resumes
     count 'ignored results in C' warns "$here/ignored.c" cc -std=c99
-    count 'ignored results in C23' warns "$here/ignored.c" clang -std=c2x -Wno-builtin-macro-redefined \
-        -U__STDC_VERSION__ -D__STDC_VERSION__=202311L
+    count 'ignored results in C23' warns "$here/ignored.c" clang "${c23[@]}"
+    count 'ignored results in C23 by its attribute' warns_by_standard "${c23[@]}"
     count 'all results are ignored' ignores_all
     count 'two files in C' in_two_files cc -std=c99 -include dethrux.h "$here/first.c" "$here/ignored.c"
     count 'enums of one byte' refuses_short_enums
@@ -246,7 +254,8 @@ memory_in_c() {
 test_c_in_cxx() {
     count 'the header in C++' header_in_cxx
     count 'ignored results of the header in C++' warns "$here/ignored.c" c++ -std=c++17 -x c++
-    count 'code units of another size in C++' refuses_wide
+    count 'ignored results in C++17 by its attribute' warns_by_standard -std=c++17 -x c++
+    count 'code units of another size in C++' refuses_other_sizes
     count 'the check of code units in C++' c_in_cxx units && count 'code units in C++' "$room/units_cxx"
     count 'the check of UTF-32 in C++' c_in_cxx fixed && count 'UTF-32 in C++' "$room/fixed_cxx"
 }
@@ -277,6 +286,7 @@ headers=''
 level=-O2
 compilers=(g++ clang++)
 standards=(c++17 c++20)
+c23=(-std=c2x -Wno-builtin-macro-redefined -U__STDC_VERSION__ -D__STDC_VERSION__=202311L)
 case "${1-}" in
     --over-ci) built=library_over_ci ;;
     --library) archive=$(realpath "$2"); built=true ;;

@@ -371,7 +371,28 @@ class Handlers(unittest.TestCase):
         self.assertEqual(len(buffer), 5)
 
 
+class Interrupted(bytes):
+    """A chunk that the user interrupts when a decoder takes what it has not read."""
+
+    def __radd__(self, other):
+        return Interrupted(other + bytes(self))
+
+    def __getitem__(self, index):
+        raise KeyboardInterrupt
+
+
 class Streams(unittest.TestCase):
+    def test_interrupted(self):
+        """After an interrupt the next call decodes as if there had been none."""
+        for bom, name in ((b"\xfe\xff", "utf-16-be"), (b"\xff\xfe", "utf-16-le")):
+            decoder = codecs.lookup("dethrux-utf-16").incrementaldecoder()
+            before = decoder.getstate()
+            with self.assertRaises(KeyboardInterrupt):
+                decoder.decode(Interrupted(bom + "a".encode(name)))
+            self.assertEqual(decoder.getstate(), before)
+            # The byte order of the interrupted call is forgotten.
+            self.assertEqual(decoder.decode("\ufeffb".encode("utf-16-be")), "b")
+
     def test_every_chunking(self):
         for name in NAMES:
             raw = "a\ud83d\U0001f600\ude00".encode(name, "surrogatepass") + b"\x3d"

@@ -712,6 +712,26 @@ class Memory(unittest.TestCase):
             for each, count in zip(singletons, others):
                 self.assertLess(abs(sys.getrefcount(each) - count), 10, (function, given, each))
 
+    def test_wrong_results_of_handlers(self):
+        """What a handler returns is released, also if its items are wrong."""
+        wrong = [(), ("?",), ("?", "x"), ("?", None), (None, 2), (5, 2), ("?", 2, 3), ["?", 2]]
+        wrong += [(object(), 2), ("?", 1 << 99), ("?", 99), ("?", -99)]
+        calls = [
+            (C["decode"], (b"\0\xdc", "little")),
+            (C["encode"], ("\udc00", "little")),
+            *((C[name], (b"\0\xdc\xdc\0",)) for name in C if "_16_" in name and "_decode" in name),
+            *((C[name], ("\udc00",)) for name in C if name.endswith("_encode")),
+        ]
+        for result, (function, given) in itertools.product(wrong, calls):
+            codecs.register_error("dethrux.test.wrong", lambda error, result=result: result)
+            kept = [result, *(each for each in result if type(each) is object)]
+            before = [sys.getrefcount(each) for each in kept]
+            for _ in range(20):
+                with self.assertRaises((TypeError, OverflowError, IndexError)):
+                    function(*given, "dethrux.test.wrong")
+            after = [sys.getrefcount(each) for each in kept]
+            self.assertEqual(after, before, (function, result))
+
     def test_no_leak(self):
         calls = [each for each in self.calls() if sys.getsizeof(each[1][0]) < LONG]
 

@@ -4,7 +4,7 @@
 use dethrux::ByteOrder::{BigEndian, LittleEndian};
 use dethrux::*;
 use std::cmp::Ordering;
-use std::mem::MaybeUninit;
+use std::mem::{self, MaybeUninit};
 use std::str;
 
 const ORDERS: [ByteOrder; 2] = [LittleEndian, BigEndian];
@@ -228,6 +228,13 @@ fn fill_each_capacity(
         unsafe { vector.set_len(progress.written) };
         assert_eq!(vector, output);
     }
+}
+
+/// `dethrux.h` refuses an enum that has other than four bytes, so what is passed for it has four.
+#[test]
+fn a_byte_order_has_the_size_of_the_enum_in_c() {
+    assert_eq!(mem::size_of::<ByteOrder>(), 4);
+    assert_eq!(mem::align_of::<ByteOrder>(), mem::align_of::<u32>());
 }
 
 #[test]
