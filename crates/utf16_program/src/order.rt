@@ -3,6 +3,8 @@
 ghost use Rattle.std.specs.Prelude.{◌≡◌, ℕ, ◌<◌, ◌≤◌, List, ◌++◌, None, IfNone, IfSome, drop, length};
 ghost use Rattle.utf16_streams.specs.Bom.{big_in, text_in};
 
+use utf16_units::bom_of;
+
 /// Whether the text of an input is big endian, and where it begins.
 #[derive(Clone, Copy)]
 pub struct Beginning {
@@ -29,11 +31,12 @@ pub fn beginning_of(big_endian: Option<bool>, bytes: &[u8]) -> Option<Beginning>
             bom_len: 0,
         });
     }
-    let (big_endian, bom_len) = match bytes {
-        [0xFE, 0xFF, ..] => (true, 2),
-        [0xFF, 0xFE, ..] => (false, 2),
-        [_, _, ..] => (true, 0),
-        _ => return None,
+    let [first, second, ..] = bytes else {
+        return None;
+    };
+    let (big_endian, bom_len) = match bom_of([*first, *second]) {
+        Some(big_endian) => (big_endian, 2),
+        None => (true, 0),
     };
     Some(Beginning {
         big_endian,

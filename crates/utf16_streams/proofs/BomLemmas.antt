@@ -1,9 +1,9 @@
 -- A stream whose BOM gives its byte order, and how it continues when more bytes come.
-use Rattle.std.proofs.Common.{◌≡◌, ℕ, Bool, true, false, List, [], ◌∷◌, ◌++◌, Option, None, Some, append-nil, refl, sym, ap, ◌∙◌, if◌then◌else◌}
+use Rattle.std.proofs.Common.{◌≡◌, ◌≢◌, ℕ, Bool, true, false, List, [], ◌∷◌, ◌++◌, Option, None, Some, append-nil, arith, length, refl, sym, ap, ◌∙◌, if◌then◌else◌}
 use Rattle.std.specs.Option.{MatchOption, option_to_list}
 use Rattle.utf16_units.specs.Split.{split_items, split_tail}
 use Rattle.utf16_units.proofs.SplitJoin.{split_items-append, split_tail-append}
-use Rattle.utf16_streams.specs.Bom.{after_bom, is_big, has_bom, items_in, byte_order_after, tail_in}
+use Rattle.utf16_streams.specs.Bom.{after_bom, begins_with, is_big, has_bom, items_in, byte_order_after, tail_in}
 
 -- one byte or none, as a slice
 pub first_slice : (first : Option ℕ) (bytes : List ℕ) → MatchOption first (bytes ≡ []) (λ byte. bytes ≡ byte ∷ []) → bytes ≡ option_to_list first
@@ -106,3 +106,17 @@ module _ (order : Option Bool) (pending piece : List ℕ) (first : Option ℕ) (
 
   pub still_order : order ≡ byte_order_after order (pending ++ piece)
   still_order = undecided ∙ sym (only_order first (pending ++ piece) bytes) ∙ ap (λ o. byte_order_after o (pending ++ piece)) (sym undecided)
+
+-- the stream begins with two bytes that are not a BOM
+not_begun : (a b first second : ℕ) (rest : List ℕ) → first ∷ second ∷ [] ≢ a ∷ b ∷ [] → begins_with a b (first ∷ second ∷ rest) ≡ false
+not_begun a b first second rest other = grind arith
+
+pub no_bom_text : (two rest bytes : List ℕ) → bytes ≡ two ++ rest → length two ≡ 2 → two ≢ 0xFE ∷ 0xFF ∷ [] → two ≢ 0xFF ∷ 0xFE ∷ []
+    → (items_in None bytes ≡ split_items true bytes) × (tail_in None bytes ≡ split_tail true bytes)
+no_bom_text (first ∷ second ∷ []) rest bytes is long not_big not_little =
+    rw (is, not_begun 0xFE 0xFF first second rest not_big, not_begun 0xFF 0xFE first second rest not_little) (refl, refl)
+no_bom_text two rest bytes is long not_big not_little = absurd (omega arith)
+
+pub no_bom_order : (two rest bytes : List ℕ) → bytes ≡ two ++ rest → length two ≡ 2 → two ≢ 0xFF ∷ 0xFE ∷ [] → byte_order_after None bytes ≡ Some true
+no_bom_order (first ∷ second ∷ []) rest bytes is long not_little = rw (is, not_begun 0xFF 0xFE first second rest not_little) refl
+no_bom_order two rest bytes is long not_little = absurd (omega arith)

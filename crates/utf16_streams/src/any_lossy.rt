@@ -13,7 +13,7 @@ use crate::transcoder::Transcoder;
 use std::alloc::{AllocError, Allocator};
 use utf16_transcode::{REPLACEMENT, put};
 use utf16_units::laws::are_bytes;
-use utf16_units::{BE, LE};
+use utf16_units::{BE, LE, bom_of};
 
 /// A decoder of UTF-16 that comes in chunks, cut anywhere, in the byte order that its BOM (byte
 /// order mark) gives. A stream that begins with the bytes `FE FF` is big endian, and one that
@@ -242,10 +242,10 @@ fn begin<'a>(first: Option<u8>, piece: &'a [u8]) -> (State, &'a [u8])
         Ok(parts) => parts,
         Err(only) => return (State::Undecided(only), &[]),
     };
-    match beginning {
-        [0xFE, 0xFF] => (State::Big(Lossy::new()), rest),
-        [0xFF, 0xFE] => (State::Little(Lossy::new()), rest),
-        _ => (State::Big(Lossy::after(first)), piece),
+    match bom_of(beginning) {
+        Some(true) => (State::Big(Lossy::new()), rest),
+        Some(false) => (State::Little(Lossy::new()), rest),
+        None => (State::Big(Lossy::after(first)), piece),
     }
 }
 
@@ -254,6 +254,7 @@ fn begin<'a>(first: Option<u8>, piece: &'a [u8]) -> (State, &'a [u8])
 fn first_two<'a>(first: Option<u8>, piece: &'a [u8]) -> Result<([u8; 2], &'a [u8]), Option<u8>>
     ensures two { IfOk result (λ parts. option_to_list first ++ piece.now
         ≡ parts.0 ++ parts.1.now) }
+    ensures len { IfOk result (λ parts. length parts.0 ≡ 2) }
     ensures fewer { IfErr result (λ only. option_to_list first ++ piece.now
         ≡ option_to_list only) }
     ensures shorter { IfOk result (λ parts. length parts.1.now ≤ length piece.now) }
