@@ -700,8 +700,9 @@ DETHRUX_NODISCARD dethrux_progress dethrux_from_wtf8(
  * - DETHRUX_ILL_FORMED: an ill-formed sequence follows `read`
  * - DETHRUX_INCOMPLETE: at most DETHRUX_WTF8_PENDING_MAX bytes follow `read`: put them before the
  *   next chunk, and at the end of the stream pass them to dethrux_from_wtf8
- * - DETHRUX_NO_SPACE: the next character or surrogate does not fit: call again with the rest; with
- *   a capacity of 4 or more, something was written
+ * - DETHRUX_NO_SPACE: the next character or surrogate does not fit, even if it is a leading
+ *   surrogate at the end: call again with the rest; with a capacity of 4 or more, something was
+ *   written
  * @ingroup dethrux_wtf8
  */
 DETHRUX_NODISCARD dethrux_progress dethrux_from_wtf8_partial(

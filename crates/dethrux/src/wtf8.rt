@@ -7,7 +7,7 @@ ghost use Rattle.utf16_transcode.specs.Shown.{ShowsWhole};
 ghost use Rattle.utf16_transcode.specs.Stream.{FeedsAs, StopsFeedingAs, stream_pending};
 ghost use Rattle.utf16_transcode.specs.Wrote.{Wrote};
 ghost use Rattle.utf16_transcode.specs.declared.progress.Stop.TheVariants.{Done, Incomplete, NoSpace};
-ghost use Rattle.utf16_wtf8.specs.FromWtf8.{StopsFromWtf8, StopsFromWtf8Partial, TranscodesFromWtf8};
+ghost use Rattle.utf16_wtf8.specs.FromWtf8.{LeavesLeading, StopsFromWtf8, StopsFromWtf8Partial, TranscodesFromWtf8};
 ghost use Rattle.utf16_wtf8.specs.ToWtf8.{DecodesToWtf8, StopsBeforeTail, StopsToWtf8, points_of, tail_points, wtf8_parts};
 ghost use Rattle.utf16_wtf8.specs.Wtf8.{generalized_utf8};
 ghost use Rattle.dethrux.specs.Numbers.{AreNumbers, is_big, stop_of};
@@ -154,7 +154,8 @@ pub extern "C" fn dethrux_from_wtf8(byte_order: u32, wtf8: &[u8], to: &mut [u8])
 
 /// Converts the next chunk of a stream of WTF-8 like `dethrux_from_wtf8`, but does not read what
 /// more bytes could change at the end: a leading surrogate, or the beginning of a code point, or
-/// both, at most six bytes. In that case the status is 2.
+/// both, at most six bytes. In that case the status is 2, or 3 if that leading surrogate does not
+/// fit.
 #[unsafe(no_mangle)]
 pub extern "C" fn dethrux_from_wtf8_partial(byte_order: u32, wtf8: &[u8], to: &mut [u8]) -> Progress
     ensures wrote { Wrote (TranscodesFromWtf8 (is_big byte_order)) wtf8.now to.new result.read
@@ -163,6 +164,8 @@ pub extern "C" fn dethrux_from_wtf8_partial(byte_order: u32, wtf8: &[u8], to: &m
         (length to.new - result.written) (stop_of result.status result.error_len) }
     ensures few { stop_of result.status result.error_len ≡ Incomplete
         → length wtf8.now ≤ result.read + 6 }
+    ensures fits { stop_of result.status result.error_len ≡ Incomplete
+        → LeavesLeading wtf8.now result.read → 2 ≤ length to.new - result.written }
     ensures succeeds { 2 * length wtf8.now ≤ length to.new
         → stop_of result.status result.error_len ≢ NoSpace }
     ensures filled { stop_of result.status result.error_len ≡ NoSpace

@@ -1,5 +1,5 @@
 -- A chunk of WTF-8: what was read without a leading surrogate at its end.
-use Rattle.std.proofs.Common.{◌≡◌, ◌⊎◌, inl, inr, ℕ, ◌+◌, ◌-◌, ◌≤◌, Bool, true, false, List, [], ◌∷◌, ◌++◌, None, All, flat_map, length, take, drop, refl, sym, ap, ◌∙◌, subst, arith, append-nil, length-append, length-take-le, take-add, take_at, true≢false}
+use Rattle.std.proofs.Common.{◌≡◌, ◌⊎◌, inl, inr, ℕ, ◌+◌, ◌-◌, ◌≤◌, Bool, true, false, List, [], ◌∷◌, ◌++◌, None, Some, All, flat_map, length, take, drop, refl, sym, ap, ◌∙◌, subst, arith, append-nil, length-append, length-take-le, take-add, take-append-drop, take_at, true≢false}
 use Rattle.std.proofs.lemmas.List.{append_cancel_left, take-take}
 use Rattle.std.proofs.lemmas.List.Concat.{flat_map-append}
 use Rattle.utf16_units.specs.Encoding.{char_bytes}
@@ -11,10 +11,11 @@ use Rattle.utf16_units.proofs.UnitLemmas.{length-unit_bytes}
 use Rattle.utf16_transcode.specs.Wrote.{Wrote}
 use Rattle.utf16_transcode.specs.declared.progress.Stop.{Stop}
 use Rattle.utf16_transcode.specs.declared.progress.Stop.TheVariants.{Incomplete, Done, IllFormed, NoSpace}
-use Rattle.utf16_wtf8.specs.FromWtf8.{EndsLeading, IsIllFormedWtf8, LeavesLeading, ReadsWtf8, StopsFromWtf8, StopsFromWtf8Partial, TranscodesFromWtf8}
+use Rattle.utf16_wtf8.specs.FromWtf8.{EndsLeading, IsIllFormedWtf8, LeavesLeading, ReadsWtf8, StopsFromWtf8, StopsFromWtf8Partial, TranscodesFromWtf8, wtf8_error_len}
 use Rattle.utf16_wtf8.specs.Wtf8.{HasNoPair, IsCodePoint, ends_leading, generalized_utf8}
 use Rattle.utf16_wtf8.proofs.CodeLemmas.{spelled, spelled-unique}
 use Rattle.utf16_wtf8.proofs.ContinuedLemmas.{bytes_of_three}
+use Rattle.utf16_wtf8.proofs.MaximalLemmas.{pair_has_three}
 
 -- code points of which the last is a leading surrogate
 record EndsWith (points : List ℕ) : Type 0 where
@@ -113,6 +114,19 @@ module _ (big : Bool) (wtf8 to : List ℕ) (read written : ℕ) (before : ReadsW
         (ap (λ b. b ++ take 3 (drop (read - 3) wtf8)) (sym front_bytes) ∙ sym (take-add (read - 3) 3 wtf8) ∙ ap (λ k. take k wtf8) again ∙ bytes);
     after = subst (λ k. (k ≡ length wtf8) ⊎ IsIllFormedWtf8 wtf8 k None) (sym again) after;
   }
+
+-- before a leading surrogate, no code point is truncated
+not_truncated : (wtf8 : List ℕ) (read : ℕ) → LeavesLeading wtf8 read → ¬ (IsIllFormedWtf8 wtf8 read None)
+not_truncated wtf8 read leaves cut =
+    let rest = drop read wtf8 in
+    let begins : generalized_utf8 leaves.lead ++ drop 3 rest ≡ rest = ap (λ b. b ++ drop 3 rest) (sym leaves.begins) ∙ take-append-drop 3 rest in
+    let three : wtf8_error_len rest ≡ Some 3 = ap wtf8_error_len (sym begins) ∙ pair_has_three leaves.lead (drop 3 rest) (omega (arith, leaves.leading)) (omega (arith, leaves.leading)) in
+    let none = cut.1 in
+    absurd (cc)
+
+-- a call that stops before a truncated code point does not stop before a leading surrogate
+pub leaves_no_leading : (big : Bool) (wtf8 : List ℕ) (read left : ℕ) (stop : Stop) → stop ≡ Incomplete → StopsFromWtf8 big wtf8 read left stop → ¬ (LeavesLeading wtf8 read)
+leaves_no_leading big wtf8 read left stop is here leaves = not_truncated wtf8 read leaves (subst (StopsFromWtf8 big wtf8 read left) is here)
 
 -- why a call stops if what was read does not end with a leading surrogate
 pub stops_kept : (big : Bool) (wtf8 : List ℕ) (read left : ℕ) (stop : Stop) → EndsLeading (take read wtf8) false → StopsFromWtf8 big wtf8 read left stop

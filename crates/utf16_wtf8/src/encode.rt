@@ -3,7 +3,7 @@
 ghost use Rattle.std.specs.Prelude.{◌≡◌, ◌+◌, ◌-◌, ◌≤◌, true, IfErr, IfOk, length};
 ghost use Rattle.utf16_transcode.specs.Wrote.{Wrote};
 ghost use Rattle.utf16_transcode.specs.declared.progress.Stop.TheVariants.{Incomplete};
-ghost use Rattle.utf16_wtf8.specs.FromWtf8.{BeginsWithSurrogate, ReadsWtf8, StopsAfter, StopsFromWtf8, StopsFromWtf8Partial, TranscodesFromWtf8, surrogate_begins};
+ghost use Rattle.utf16_wtf8.specs.FromWtf8.{BeginsWithSurrogate, LeavesLeading, ReadsWtf8, StopsAfter, StopsFromWtf8, StopsFromWtf8Partial, TranscodesFromWtf8, surrogate_begins};
 
 use utf8_bytes::is_continuation;
 use utf16_transcode::{Progress, Stop, from_utf8, put};
@@ -36,7 +36,8 @@ pub fn from_wtf8<E: Utf16Order>(wtf8: &[u8], to: &mut [u8]) -> Progress
 /// Writes a chunk of a stream of WTF-8 in UTF-16 to the start of a buffer, like `from_wtf8`. It
 /// stops with `Incomplete` before what more bytes could change at the end: a leading surrogate, or
 /// the beginning of a code point, or both. These are at most six bytes: put them before the next
-/// chunk, and pass those at the end of the stream to `from_wtf8`.
+/// chunk, and pass those at the end of the stream to `from_wtf8`. If that leading surrogate does
+/// not fit, it stops with `NoSpace` instead.
 ///
 /// # Complexity
 ///
@@ -46,6 +47,8 @@ pub fn from_wtf8_partial<E: Utf16Order>(wtf8: &[u8], to: &mut [u8]) -> Progress
     ensures stop { StopsFromWtf8Partial E.BIG wtf8.now result.read
         (length to.new - result.written) result.stop }
     ensures few { result.stop ≡ Incomplete → length wtf8.now ≤ result.read + 6 }
+    ensures fits { result.stop ≡ Incomplete → LeavesLeading wtf8.now result.read
+        → 2 ≤ length to.new - result.written }
 {
     let (progress, after_leading) = transcode_wtf8::<E>(wtf8, to);
     if !after_leading {

@@ -1,8 +1,8 @@
-use Rattle.std.proofs.Common.{inr, refl, subst, true}
+use Rattle.std.proofs.Common.{arith, inr, refl, subst, true}
 use Rattle.utf16_transcode.specs.declared.progress.Stop.TheVariants.{Incomplete}
 use Rattle.utf16_wtf8.specs.FromWtf8.{EndsLeading, ReadsWtf8}
 use Rattle.utf16_wtf8.proofs.FewLemmas.{few_left}
-use Rattle.utf16_wtf8.proofs.PartialLemmas.{Wrote-before, ended, ends_as_read, leaves_leading, stops_kept, three_read, two_written}
+use Rattle.utf16_wtf8.proofs.PartialLemmas.{Wrote-before, ended, ends_as_read, leaves_leading, leaves_no_leading, stops_kept, three_read, two_written}
 use Rattle.utf16_wtf8.proofs.encode.from_wtf8_partial.Given.{Over}
 use Rattle.utf16_wtf8.proofs.encode.from_wtf8_partial.Goals as goal
 use Rattle.utf16_wtf8.proofs.encode.from_wtf8_partial.Goals.{In-Done}
@@ -16,6 +16,11 @@ returns-then-not-after_leading-clause-stop g c =
 pub returns-then-not-after_leading-clause-few : goal.returns-then-not-after_leading-clause-few
 returns-then-not-after_leading-clause-few g c is =
     few_left g.E.Utf16Order.BIG c.args.wtf8.now _ _ _ is (returns-then-not-after_leading-clause-stop g c)
+
+pub returns-then-not-after_leading-clause-fits : goal.returns-then-not-after_leading-clause-fits
+returns-then-not-after_leading-clause-fits g c is leaves =
+    let call = c.transcode_wtf8-after_leading in
+    absurd (leaves_no_leading g.E.Utf16Order.BIG c.args.wtf8.now _ _ call.result.0.stop is call.ensures.stop leaves)
 
 -- what was read ends with a leading surrogate
 leading : (g : Over) (c : In-Done g)
@@ -38,3 +43,8 @@ returns-in-Done-clause-stop g c =
 
 pub returns-in-Done-clause-few : goal.returns-in-Done-clause-few
 returns-in-Done-clause-few g c is = few_left g.E.Utf16Order.BIG c.args.wtf8.now _ 0 Incomplete refl (returns-in-Done-clause-stop g c)
+
+pub returns-in-Done-clause-fits : goal.returns-in-Done-clause-fits
+returns-in-Done-clause-fits g c is leaves =
+    let read = leading g (goal.at.returns-in-Done-clause-fits g c).In-Done in
+    omega (arith, read.fits, two_written _ _ _ _ _ read)
