@@ -7,10 +7,10 @@ use Rattle.utf16_units.proofs.SplitJoin.{split_items-append, split_tail-append}
 use Rattle.utf16_units.proofs.SplitUnique.{length-split_tail}
 use Rattle.utf16_transcode.proofs.DecodesLemmas.{length-split_tail-le, split_tail-again, undecided_items}
 use Rattle.utf16_streams.specs.Bom.{big_in, has_bom, text_in}
-use Rattle.utf16_program.specs.Checker.{Follows, checker_lines, checker_report}
+use Rattle.utf16_program.specs.Checker.{Follows, Takes, checker_lines, checker_report}
 use Rattle.utf16_program.specs.Order.{bom_len}
 use Rattle.utf16_program.specs.Report.{closing, count_line, ill_formed_lines, ill_formed_from, is_char, is_ill_formed, items_in, lines_from, report_from, tail_ill_formed, tail_in, tail_line}
-use Rattle.utf16_program.specs.Scans.{Scans}
+use Rattle.utf16_program.specs.Scans.{AppendsFront, Scans}
 use Rattle.utf16_program.specs.declared.checker.Checker.{Checker}
 use Rattle.utf16_program.specs.declared.scan.Found.{Found}
 use Rattle.utf16_program.proofs.ItemLemmas.{count-append, ill_formed_lines-append, some_line}
@@ -117,6 +117,25 @@ module _ (order : Option Bool) (big : Bool) (from : ℕ) (bytes : List ℕ) (wit
     pub fed_few : length bytes ≤ (from + found.taken) + 3
     fed_few = omega (arith, within, scans.within, length-drop from bytes, length-drop (from + found.taken) bytes, ap length is_kept, length-split_tail big text)
 
+    -- a checker that takes them
+    pub fed_takes : (it now : Checker) → it.big_endian ≡ order → it.offset ≡ offset → now.big_endian ≡ Some big → now.offset ≡ later
+        → now.chars ≡ it.chars + found.chars → now.unpaired ≡ it.unpaired + found.unpaired → Takes it now bytes (from + found.taken)
+    fed_takes it now in_order at is_now at_now chars unpaired = record {
+      within = omega (arith, within, scans.within, length-drop from bytes);
+      few = fed_few;
+      offset = omega (arith, at, at_now);
+      follows = record {
+        lines = λ back. rw (in_order, at, is_now, at_now) (more_lines back);
+        report = λ back. rw (in_order, at, is_now, at_now, chars, unpaired) (more_report back it.chars it.unpaired);
+        ill_formed = λ back. rw (in_order, is_now, unpaired) (more_ill_formed back it.unpaired);
+      };
+      pending = rw is_now fed_pending;
+    }
+
+  -- a prefix of the lines was appended
+  pub fed_front : (offset : ℕ) (old new : List ℕ) → AppendsFront old new (ill_formed_lines big (offset + from) (split_items big text)) → AppendsFront old new (lines_from order offset bytes)
+  fed_front offset old new wrote = subst (AppendsFront old new) (sym (bytes_lines offset)) wrote
+
   pub some_lines : (offset : ℕ) → 0 < count_by is_ill_formed (split_items big text) → 0 < length (lines_from order offset bytes)
   some_lines offset some = subst (λ l. 0 < length l) (sym (bytes_lines offset)) (some_line big (offset + from) (split_items big text) some)
 
@@ -148,6 +167,15 @@ Follows-few checker bytes none short = record {
 } where
   no_lines : checker_lines checker bytes ≡ []
   no_lines = few_lines checker.big_endian checker.offset bytes none short
+
+pub Takes-few : (checker : Checker) (bytes : List ℕ) → checker.big_endian ≡ None → length bytes < 2 → Takes checker checker bytes 0
+Takes-few checker bytes none short = record {
+  within = omega arith;
+  few = omega (arith, short);
+  offset = omega arith;
+  follows = Follows-few checker bytes none short;
+  pending = ap (λ o. tail_in o bytes) none ∙ few_tail bytes short;
+}
 
 -- bytes that are all tail have no item
 behind_bom : (big bom : Bool) (bytes : List ℕ) → split_tail big (if bom then drop 2 bytes else bytes) ≡ bytes

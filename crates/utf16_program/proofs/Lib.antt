@@ -5,3 +5,4 @@ pub mod WellFormedLemmas
 pub mod CheckLemmas
 pub mod BlockLemmas
 pub mod MessageLemmas
+pub mod LineLemmas

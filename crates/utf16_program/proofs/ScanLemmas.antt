@@ -13,9 +13,10 @@ use Rattle.utf16_units.proofs.SplitIllFormed.{split_items-fault, split_tail-faul
 use Rattle.utf16_units.proofs.SplitJoin.{split_items-text, split_tail-text}
 use Rattle.utf16_transcode.proofs.DecodesLemmas.{split_tail-again, undecided_items}
 use Rattle.utf16_program.specs.Report.{ill_formed_line, ill_formed_lines, is_char, is_ill_formed}
-use Rattle.utf16_program.specs.Scans.{BeginsLone, IsFront, Scans, lone}
+use Rattle.utf16_program.specs.Scans.{AppendsFront, BeginsLone, IsFront, Scans, lone}
 use Rattle.utf16_program.specs.declared.scan.Found.{Found}
 use Rattle.utf16_program.specs.declared.scan.Front.{Front}
+use Rattle.utf16_program.proofs.LineLemmas.{appended_front}
 use Rattle.utf16_program.proofs.ItemLemmas.{chars-good, count-append, ill_formed_lines-append, ill_formed_lines-good, ill_formed-good, few_chars, length-good, length-items_bytes, lone-bytes, lone-chars, lone-ill_formed}
 
 -- the first `taken` bytes are the items so far, whose lines were appended
@@ -176,6 +177,11 @@ module _ (big : Bool) (offset : ℕ) (bytes old mid : List ℕ) (taken chars unp
   -- characters have no line
   no_lines : (text : List ℕ) → mid ≡ mid ++ ill_formed_lines big (offset + taken) (map good text)
   no_lines text = sym (append-nil mid) ∙ ap (λ l. mid ++ l) (sym (ill_formed_lines-good big (offset + taken) text))
+
+  -- the lines so far are a prefix of all
+  pub front_lines : (new : List ℕ) → new ≡ mid → AppendsFront old new (ill_formed_lines big offset (split_items big bytes))
+  front_lines new same = appended_front old new (ill_formed_lines big offset so_far.items) _ _ (same ∙ so_far.text)
+      (ap (ill_formed_lines big offset) so_far.first ∙ ill_formed_lines-append big offset so_far.items (split_items big rest))
 
   module _ (front : Front) (is : IsFront big rest front) where
     abbrev text : List ℕ

@@ -1,11 +1,14 @@
 //! A checker of UTF-16 that comes in chunks.
 
-ghost use Rattle.std.specs.Prelude.{◌≡◌, ◌↔◌, ◌+◌, ◌<◌, ◌≤◌, ◌^◌, ◌++◌, IfOk, OnErr, OnOk, IsTrue, length, string_bytes};
+ghost use Rattle.std.specs.Prelude.{◌≡◌, ◌↔◌, ◌+◌, ◌<◌, ◌≤◌, ◌^◌, [], ◌∷◌, ◌++◌, IfOk, OnErr, OnOk, IsTrue, length, string_bytes};
+ghost use Rattle.std.specs.Fmt.InlineText.{inline_text};
 ghost use Rattle.utf16_program.specs.Report.{count_line, tail_ill_formed, tail_line};
 
+use crate::lines::{Line, append};
 use crate::order::beginning_of;
 use crate::scan::scan;
 use std::alloc::{AllocError, Allocator};
+use std::fmt::{self, Write};
 use utf16_units::{BE, LE};
 
 /// A checker of UTF-16 that comes in chunks, cut anywhere. It counts, and appends lines to a
@@ -24,6 +27,7 @@ pub struct Checker {
 
 impl Checker {
     ghost use Rattle.utf16_program.specs.Checker.{IsPending, StartsIn, Takes, checker_ill_formed, checker_lines, checker_offset, checker_report};
+    ghost use Rattle.utf16_program.specs.Scans.{AppendsFront};
 
     /// Returns a checker at the beginning of an input, in the given byte order: `Some(true)` for
     /// big endian, `Some(false)` for little endian, and `None` if the BOM gives it.
@@ -51,7 +55,8 @@ impl Checker {
     ///
     /// # Errors
     ///
-    /// If allocation fails. It does not fail if it appends no line.
+    /// If allocation fails. In that case the checker is unchanged, and a prefix of the lines is
+    /// appended. It does not fail if it appends no line.
     ///
     /// # Precondition
     ///
@@ -66,6 +71,9 @@ impl Checker {
             ++ checker_lines self.old bytes.now) }
         ensures takes { IfOk result (Takes self.old self.new bytes.now) }
         ensures nothing { OnErr result (0 < length (checker_lines self.old bytes.now)) }
+        ensures unchanged { OnErr result (self.new ≡ self.old) }
+        ensures err { OnErr result (AppendsFront (string_bytes lines.old) (string_bytes lines.new)
+            (checker_lines self.old bytes.now)) }
     {
         let Some(begins) = beginning_of(self.big_endian, bytes) else {
             return Ok(0);
@@ -85,7 +93,7 @@ impl Checker {
     ///
     /// # Errors
     ///
-    /// If allocation fails.
+    /// If allocation fails. In that case a prefix of the lines is appended.
     ///
     /// # Precondition
     ///
@@ -101,16 +109,18 @@ impl Checker {
             ++ checker_report self pending.now) }
         ensures well_formed { IfOk result (λ well_formed.
             IsTrue well_formed ↔ (checker_ill_formed self pending.now ≡ 0)) }
+        ensures err { OnErr result (AppendsFront (string_bytes lines.old) (string_bytes lines.new)
+            (checker_report self pending.now)) }
     {
         let bytes = self.offset + pending.len() as u64;
         let ill_formed = self.unpaired + put_tail(self.offset, pending, lines)?;
-        put_counts(bytes, self.chars, ill_formed, lines)?;
+        append(counts_line(bytes, self.chars, ill_formed), lines)?;
         Ok(ill_formed == 0)
     }
 }
 
 // Appends the line of the bytes that are left at the end, if there are any, and returns the number
-// of lines.
+// of lines. If allocation fails, nothing is appended.
 fn put_tail<A: Allocator>(
     offset: u64,
     tail: &[u8],
@@ -119,26 +129,32 @@ fn put_tail<A: Allocator>(
     ensures lines { OnOk result (string_bytes lines.new
         ≡ string_bytes lines.old ++ tail_line offset tail.now) }
     ensures count { IfOk result (λ count. count ≡ tail_ill_formed tail.now) }
+    ensures err { OnErr result (string_bytes lines.new ≡ string_bytes lines.old) }
 {
     if tail.is_empty() {
         return Ok(0);
     }
-    writeln!(lines, "0x{offset:X} ({offset}): incomplete character")?;
+    append(incomplete_line(offset), lines)?;
     Ok(1)
 }
 
-// Appends the line that counts.
-fn put_counts<A: Allocator>(
-    bytes: u64,
-    chars: u64,
-    ill_formed: u64,
-    lines: &mut String<A>,
-) -> Result<(), AllocError>
-    ensures { OnOk result (string_bytes lines.new
-        ≡ string_bytes lines.old ++ count_line bytes chars ill_formed) }
+// Returns the line of an incomplete character at an offset.
+fn incomplete_line(offset: u64) -> Result<Line, fmt::Error>
+    ensures { IfOk result (λ line. inline_text line ≡ tail_line offset (0 ∷ [])) }
 {
+    let mut line = Line::new();
+    writeln!(line, "0x{offset:X} ({offset}): incomplete character")?;
+    Ok(line)
+}
+
+// Returns the line that counts.
+fn counts_line(bytes: u64, chars: u64, ill_formed: u64) -> Result<Line, fmt::Error>
+    ensures { IfOk result (λ line. inline_text line ≡ count_line bytes chars ill_formed) }
+{
+    let mut line = Line::new();
     writeln!(
-        lines,
+        line,
         "bytes: {bytes}, characters: {chars}, ill-formed: {ill_formed}"
-    )
+    )?;
+    Ok(line)
 }

@@ -6,6 +6,7 @@ mod arguments;
 mod check;
 mod checker;
 mod job;
+mod lines;
 mod messages;
 mod order;
 mod outcome;

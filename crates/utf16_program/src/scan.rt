@@ -1,11 +1,14 @@
 //! The ill-formed sequences of bytes in a given byte order.
 
-ghost use Rattle.std.specs.Prelude.{◌≡◌, ◌+◌, ◌<◌, ◌^◌, ◌++◌, IfOk, OnErr, OnOk, count_by, length, string_bytes};
+ghost use Rattle.std.specs.Prelude.{◌≡◌, ◌+◌, ◌<◌, ◌^◌, IfOk, OnErr, count_by, length, string_bytes};
+ghost use Rattle.std.specs.Fmt.InlineText.{inline_text};
 ghost use Rattle.utf16_units.specs.Split.{split_items};
-ghost use Rattle.utf16_program.specs.Report.{ill_formed_line, is_ill_formed};
-ghost use Rattle.utf16_program.specs.Scans.{IsFront, Scans, lone};
+ghost use Rattle.utf16_program.specs.Report.{ill_formed_line, ill_formed_lines, is_ill_formed};
+ghost use Rattle.utf16_program.specs.Scans.{AppendsFront, IsFront, Scans, lone};
 
+use crate::lines::{Line, append};
 use std::alloc::{AllocError, Allocator};
+use std::fmt::{self, Write};
 use utf16_units::text::count_chars;
 use utf16_units::{BE, LE, Utf16Order, is_leading_surrogate, validate_raw_utf16};
 
@@ -25,7 +28,8 @@ pub struct Found {
 ///
 /// # Errors
 ///
-/// If allocation fails. A scan that appends no line does not fail.
+/// If allocation fails. In that case a prefix of the lines is appended. A scan that appends no line
+/// does not fail.
 ///
 /// # Precondition
 ///
@@ -44,6 +48,8 @@ pub fn scan<A: Allocator>(
     ensures found { IfOk result (Scans big_endian offset bytes.now (string_bytes lines.old)
         (string_bytes lines.new)) }
     ensures nothing { OnErr result (0 < count_by is_ill_formed (split_items big_endian bytes.now)) }
+    ensures err { OnErr result (AppendsFront (string_bytes lines.old) (string_bytes lines.new)
+        (ill_formed_lines big_endian offset (split_items big_endian bytes.now))) }
 {
     if big_endian {
         scan_in::<BE, A>(offset, bytes, lines)
@@ -62,6 +68,8 @@ fn scan_in<E: Utf16Order, A: Allocator>(
     ensures found { IfOk result (Scans E.BIG offset bytes.now (string_bytes lines.old)
         (string_bytes lines.new)) }
     ensures nothing { OnErr result (0 < count_by is_ill_formed (split_items E.BIG bytes.now)) }
+    ensures err { OnErr result (AppendsFront (string_bytes lines.old) (string_bytes lines.new)
+        (ill_formed_lines E.BIG offset (split_items E.BIG bytes.now))) }
 {
     let mut found = Found {
         taken: 0,
@@ -75,7 +83,7 @@ fn scan_in<E: Utf16Order, A: Allocator>(
         let Some(unit) = front.unpaired else {
             return Ok(found);
         };
-        put_unpaired(offset + found.taken as u64, unit, lines)?;
+        append(unpaired_line(offset + found.taken as u64, unit), lines)?;
         found.taken += 2;
         found.unpaired += 1;
     }
@@ -113,25 +121,21 @@ fn front_of<E: Utf16Order>(bytes: &[u8]) -> Front
     }
 }
 
-// Appends the line of an unpaired surrogate at an offset.
-fn put_unpaired<A: Allocator>(
-    offset: u64,
-    unit: u16,
-    lines: &mut String<A>,
-) -> Result<(), AllocError>
-    ensures { OnOk result (string_bytes lines.new
-        ≡ string_bytes lines.old ++ ill_formed_line offset (lone unit)) }
+// Returns the line of an unpaired surrogate at an offset.
+fn unpaired_line(offset: u64, unit: u16) -> Result<Line, fmt::Error>
+    ensures { IfOk result (λ line. inline_text line ≡ ill_formed_line offset (lone unit)) }
 {
+    let mut line = Line::new();
     if is_leading_surrogate(unit) {
         writeln!(
-            lines,
+            line,
             "0x{offset:X} ({offset}): unpaired leading surrogate {unit:X}"
         )?;
     } else {
         writeln!(
-            lines,
+            line,
             "0x{offset:X} ({offset}): unpaired trailing surrogate {unit:X}"
         )?;
     }
-    Ok(())
+    Ok(line)
 }

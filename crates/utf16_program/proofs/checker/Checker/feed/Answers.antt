@@ -1,10 +1,10 @@
-use Rattle.std.proofs.Common.{◌∙◌, ◌+◌, ◌<◌, ◌++◌, ap, append-nil, arith, drop, length-drop, string_bytes, subst, sym}
+use Rattle.std.proofs.Common.{◌+◌, ◌<◌, ◌++◌, ap, append-nil, drop, refl, string_bytes, subst, sym, ◌∙◌}
 use Rattle.std.proofs.lemmas.List.{take_rest}
 use Rattle.std.specs.Prelude.{count_by}
 use Rattle.utf16_units.specs.Split.{split_items}
-use Rattle.utf16_program.specs.Report.{is_ill_formed, tail_in}
-use Rattle.utf16_program.specs.Scans.{Scans}
-use Rattle.utf16_program.proofs.FollowLemmas.{Follows-few, fed_few, fed_lines, fed_pending, few_lines, few_tail, more_ill_formed, more_lines, more_report, some_lines}
+use Rattle.utf16_program.specs.Report.{ill_formed_lines, is_ill_formed}
+use Rattle.utf16_program.specs.Scans.{AppendsFront, Scans}
+use Rattle.utf16_program.proofs.FollowLemmas.{Takes-few, fed_front, fed_lines, fed_takes, few_lines, some_lines}
 use Rattle.utf16_program.proofs.ScanLemmas.{OnErr-always}
 use Rattle.utf16_program.proofs.checker.Checker.feed.Given.{Over}
 use Rattle.utf16_program.proofs.checker.Checker.feed.Goals as goal
@@ -20,13 +20,7 @@ returns-in_default-clause-lines g c =
 pub returns-in_default-clause-takes : goal.returns-in_default-clause-takes
 returns-in_default-clause-takes g c =
     let undecided = c.in_default.ensures.undecided in
-    record {
-      within = omega arith;
-      few = omega (arith, undecided.1);
-      offset = omega arith;
-      follows = Follows-few c.args.self.now c.args.bytes.now undecided.0 undecided.1;
-      pending = ap (λ o. tail_in o c.args.bytes.now) undecided.0 ∙ few_tail c.args.bytes.now undecided.1;
-    }
+    Takes-few c.args.self.now c.args.bytes.now undecided.0 undecided.1
 
 pub returns-in_err-found-clause-nothing : goal.returns-in_err-found-clause-nothing
 returns-in_err-found-clause-nothing g c =
@@ -36,6 +30,16 @@ returns-in_err-found-clause-nothing g c =
     let from = c.in-Some.begins.bom_len in
     let some = subst (λ t. 0 < count_by is_ill_formed (split_items big t)) (take_rest c.args.bytes.now from) c.in_err-found.ensures.nothing in
     OnErr-always _ (some_lines it.big_endian big from c.args.bytes.now begins.within begins.order begins.text it.offset some)
+
+pub returns-in_err-found-clause-err : goal.returns-in_err-found-clause-err
+returns-in_err-found-clause-err g c =
+    let it = c.args.self.now in
+    let begins = c.in-Some.ensures in
+    let big = c.in-Some.begins.big_endian in
+    let from = c.in-Some.begins.bom_len in
+    let front = subst (λ t. AppendsFront (string_bytes c.args.lines.now) (string_bytes c.scan.new.lines) (ill_formed_lines big (it.offset + from) (split_items big t)))
+    (take_rest c.args.bytes.now from) c.in_err-found.ensures.err in
+    OnErr-always _ (fed_front it.big_endian big from c.args.bytes.now begins.within begins.order begins.text it.offset _ _ front)
 
 -- the scan of the text
 scans : (g : Over) (c : In_ok-found g)
@@ -51,17 +55,5 @@ returns-clause-lines g c =
 
 pub returns-clause-takes : goal.returns-clause-takes
 returns-clause-takes g c =
-    let it = c.args.self.now in
     let b = c.in-Some.ensures in
-    let found = scans g (goal.at.returns-clause-takes g c).In_ok-found in
-    record {
-      within = omega (arith, b.within, found.within, length-drop c.in-Some.begins.bom_len c.args.bytes.now);
-      few = fed_few _ _ _ _ b.within b.order b.text _ _ _ _ found;
-      offset = omega arith;
-      follows = record {
-        lines = more_lines _ _ _ _ b.within b.order b.text _ _ _ _ found;
-        report = λ back. more_report _ _ _ _ b.within b.order b.text _ _ _ _ found back it.chars it.unpaired;
-        ill_formed = λ back. more_ill_formed _ _ _ _ b.within b.order b.text _ _ _ _ found back it.unpaired;
-      };
-      pending = fed_pending _ _ _ _ b.within b.order b.text _ _ _ _ found;
-    }
+    fed_takes _ _ _ _ b.within b.order b.text _ _ _ _ (scans g (goal.at.returns-clause-takes g c).In_ok-found) c.args.self.now _ refl refl refl refl refl refl
