@@ -21,6 +21,9 @@ mod CharFound
 mod FoundLemmas
 mod CountLemmas
 mod JoinLemmas
+mod WithinLemmas
+mod WithinBack
+mod PartWindows
 mod MatchLemmas
 mod NextLemmas
 mod BackNext

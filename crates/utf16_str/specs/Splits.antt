@@ -2,12 +2,13 @@
 use Rattle.std.specs.Prelude.{◌≡◌, ◌==◌, ℕ, zero, suc, ◌-◌, ◌≤◌, ⊤, All, Bool, false, List, [], ◌∷◌, ◌++◌, Option, None, Some, filter, length, map, nat_eq, nat_lt, reverse, if◌then◌else◌}
 use Rattle.std.specs.Char.{is_whitespace}
 use Rattle.std.specs.Iterator.{YieldsFirstBy, YieldsLastBy}
-use Rattle.std.specs.Iterator.Runs.{EveryRun, ItemsMapTo, ItemsMapToReversed}
+use Rattle.std.specs.Iterator.Runs.{EachRunFrom, EveryRun, ItemsMapTo, ItemsMapToReversed}
 use Rattle.std.specs.List.{join_by, join_with_byte, onto_first, slice_split, starts_with}
 use Rattle.std.specs.Str.Lines.{lines}
 use Rattle.utf16_units.specs.Delimited.{Lacks}
 use Rattle.utf16_units.specs.declared.byte_order.Utf16Order.{Ghosts}
-use Rattle.utf16_str.specs.WStr.{wstr_text}
+use Rattle.utf16_str.specs.Window.{IsWindowOf, window_bytes}
+use Rattle.utf16_str.specs.WStr.{wstr_bytes, wstr_text}
 use Rattle.utf16_str.specs.declared.wstr.WStr.{WStr}
 
 -- ---- where a part occurs. A part of one character is said by the characters of the text
@@ -111,3 +112,18 @@ YieldsTexts {E = E} {order = order} like =
 abbrev pub YieldsTextsBack : {E : Type 0} {order : Ghosts E} → WStr E order → Type 0
 YieldsTextsBack {E = E} {order = order} like =
     EveryRun (YieldsLastBy (wstr_text {E = E} {order = order}) (λ (rest : List (List ℕ)). rest)) (λ p. ItemsMapToReversed p (wstr_text {E = E} {order = order}) p.from)
+
+-- the bytes of a part are those in a window of a view
+abbrev pub LiesIn : {E : Type 0} {order : Ghosts E} → WStr E order → WStr E order → Type 0
+LiesIn whole part =
+    (window : ℕ × ℕ) × IsWindowOf (wstr_text whole) (Some window) × (wstr_bytes part ≡ window_bytes (wstr_bytes whole) (Some window))
+
+-- an iterator that has these texts left yields only views of a window of the given view
+abbrev pub YieldsPartsOf : {E : Type 0} {order : Ghosts E} → WStr E order → List (List ℕ) → Type 0
+YieldsPartsOf {E = E} {order = order} whole left =
+    EachRunFrom (YieldsFirstBy (wstr_text {E = E} {order = order}) (λ (rest : List (List ℕ)). rest)) left (λ p. All (LiesIn whole) p.items)
+
+-- the same from the back
+abbrev pub YieldsPartsOfBack : {E : Type 0} {order : Ghosts E} → WStr E order → List (List ℕ) → Type 0
+YieldsPartsOfBack {E = E} {order = order} whole left =
+    EachRunFrom (YieldsLastBy (wstr_text {E = E} {order = order}) (λ (rest : List (List ℕ)). rest)) left (λ p. All (LiesIn whole) p.items)

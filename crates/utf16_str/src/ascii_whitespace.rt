@@ -6,7 +6,7 @@ ghost use Rattle.std.specs.Char.{is_ascii_whitespace};
 ghost use Rattle.std.specs.Iterator.{YieldsFirstBy, YieldsLastBy, item_count};
 ghost use Rattle.utf16_str.specs.AsciiWords.{SaysIsAsciiWhitespace, ascii_words};
 ghost use Rattle.utf16_str.specs.Predicates.{IsTrimmedEndWith, IsTrimmedStartWith, IsTrimmedWith, LiesAfterTrim};
-ghost use Rattle.utf16_str.specs.Splits.{YieldsTexts, YieldsTextsBack};
+ghost use Rattle.utf16_str.specs.Splits.{YieldsPartsOf, YieldsPartsOfBack, YieldsTexts, YieldsTextsBack};
 ghost use Rattle.utf16_str.specs.WStr.{wstr_bytes, wstr_text};
 
 use crate::WStr;
@@ -132,6 +132,8 @@ impl<'a, E: Utf16Order> WStr<'a, E> {
         ensures bound { length result < 2 ^ 64 }
         ensures runs { YieldsTexts self.entry }
         ensures runs_back { YieldsTextsBack self.entry }
+        ensures within { YieldsPartsOf self.entry result }
+        ensures within_back { YieldsPartsOfBack self.entry result }
     {
         WStrSplitAsciiWhitespace { rest: self }
     }

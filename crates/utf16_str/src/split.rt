@@ -2,7 +2,7 @@
 
 ghost use Rattle.std.specs.Prelude.{◌≡◌, ◌^◌, ◌<◌, ◌∷◌, [], ℕ, List, length, option_map};
 ghost use Rattle.std.specs.Iterator.{YieldsFirstBy, YieldsLastBy, item_count};
-ghost use Rattle.utf16_str.specs.Splits.{EachLacks, YieldsTexts, YieldsTextsBack, joined_with, parts_left, rparts_left, rsplit_by, split_by};
+ghost use Rattle.utf16_str.specs.Splits.{EachLacks, YieldsPartsOf, YieldsPartsOfBack, YieldsTexts, YieldsTextsBack, joined_with, parts_left, rparts_left, rsplit_by, split_by};
 ghost use Rattle.utf16_str.specs.WStr.{wstr_text};
 
 use crate::WStr;
@@ -101,6 +101,8 @@ impl<'a, E: Utf16Order> WStr<'a, E> {
         ensures bound { length result < 2 ^ 64 }
         ensures runs { YieldsTexts self.entry }
         ensures runs_back { YieldsTextsBack self.entry }
+        ensures within { YieldsPartsOf self.entry result }
+        ensures within_back { YieldsPartsOfBack self.entry result }
     {
         WStrSplit {
             left: Remaining::new(self, delimiter),
@@ -121,6 +123,7 @@ impl<'a, E: Utf16Order> WStr<'a, E> {
         ensures parts { result ≡ rsplit_by (P.part delimiter) (wstr_text self.entry) }
         ensures bound { length result < 2 ^ 64 }
         ensures runs { YieldsTexts self.entry }
+        ensures within { YieldsPartsOf self.entry result }
     {
         WStrRSplit {
             left: Remaining::new(self, delimiter),

@@ -3,7 +3,7 @@
 ghost use Rattle.std.specs.Prelude.{◌≡◌, ◌≤◌, ℕ, List, length, option_map, reverse};
 ghost use Rattle.std.specs.Iterator.{YieldsFirstBy, item_count};
 ghost use Rattle.utf16_str.specs.Matches.{limited};
-ghost use Rattle.utf16_str.specs.Splits.{YieldsTexts, joined_with, parts_left, rjoined_with, rparts_left, rsplit_by, split_by};
+ghost use Rattle.utf16_str.specs.Splits.{YieldsPartsOf, YieldsTexts, joined_with, parts_left, rjoined_with, rparts_left, rsplit_by, split_by};
 ghost use Rattle.utf16_str.specs.WStr.{wstr_text};
 
 use crate::WStr;
@@ -102,6 +102,7 @@ impl<'a, E: Utf16Order> WStr<'a, E> {
             (split_by (P.part delimiter) (wstr_text self.entry)) }
         ensures bound { length result ≤ n }
         ensures runs { YieldsTexts self.entry }
+        ensures within { YieldsPartsOf self.entry result }
     {
         WStrSplitN {
             left: Remaining::new(self, delimiter),
@@ -124,6 +125,7 @@ impl<'a, E: Utf16Order> WStr<'a, E> {
             (rsplit_by (P.part delimiter) (wstr_text self.entry)) }
         ensures bound { length result ≤ n }
         ensures runs { YieldsTexts self.entry }
+        ensures within { YieldsPartsOf self.entry result }
     {
         WStrRSplitN {
             left: Remaining::new(self, delimiter),

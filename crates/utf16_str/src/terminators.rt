@@ -3,7 +3,7 @@
 ghost use Rattle.std.specs.Prelude.{◌≡◌, ◌^◌, ◌<◌, ℕ, List, length, option_map};
 ghost use Rattle.std.specs.Iterator.{YieldsFirstBy, item_count};
 ghost use Rattle.utf16_str.specs.Matches.{with_terminators, without_empty_last};
-ghost use Rattle.utf16_str.specs.Splits.{YieldsTexts, parts_left, split_by};
+ghost use Rattle.utf16_str.specs.Splits.{YieldsPartsOf, YieldsTexts, parts_left, split_by};
 ghost use Rattle.utf16_str.specs.WStr.{wstr_text};
 
 use crate::WStr;
@@ -90,6 +90,7 @@ impl<'a, E: Utf16Order> WStr<'a, E> {
             ≡ without_empty_last (split_by (P.part terminator) (wstr_text self.entry)) }
         ensures bound { length result < 2 ^ 64 }
         ensures runs { YieldsTexts self.entry }
+        ensures within { YieldsPartsOf self.entry result }
     {
         WStrSplitTerminator {
             left: Remaining::new(self, terminator),
@@ -111,6 +112,7 @@ impl<'a, E: Utf16Order> WStr<'a, E> {
             (split_by (P.part terminator) (wstr_text self.entry)) }
         ensures bound { length result < 2 ^ 64 }
         ensures runs { YieldsTexts self.entry }
+        ensures within { YieldsPartsOf self.entry result }
     {
         WStrSplitInclusive {
             left: Remaining::new(self, terminator),

@@ -3,7 +3,7 @@
 ghost use Rattle.std.specs.Prelude.{◌≡◌, ◌++◌, ◌∷◌, ◌<◌, ◌^◌, All, List, false, length, true, ℕ};
 ghost use Rattle.std.specs.Char.{is_whitespace};
 ghost use Rattle.std.specs.Iterator.{YieldsFirstBy, YieldsLastBy, item_count};
-ghost use Rattle.utf16_str.specs.Splits.{EndsWithAny, YieldsTexts, YieldsTextsBack, words};
+ghost use Rattle.utf16_str.specs.Splits.{EndsWithAny, YieldsPartsOf, YieldsPartsOfBack, YieldsTexts, YieldsTextsBack, words};
 ghost use Rattle.utf16_str.specs.WStr.{wstr_text};
 
 use crate::WStr;
@@ -70,6 +70,8 @@ impl<'a, E: Utf16Order> WStr<'a, E> {
         ensures bound { length result < 2 ^ 64 }
         ensures runs { YieldsTexts self.entry }
         ensures runs_back { YieldsTextsBack self.entry }
+        ensures within { YieldsPartsOf self.entry result }
+        ensures within_back { YieldsPartsOfBack self.entry result }
     {
         WStrSplitWhitespace { rest: self }
     }

@@ -3,6 +3,8 @@ use Rattle.std.specs.Char.{is_ascii_whitespace}
 use Rattle.utf16_str.specs.WStr.{wstr_bytes, wstr_text}
 use Rattle.utf16_str.proofs.PartsCount.{few-chars, few-words}
 use Rattle.utf16_str.proofs.SplitLemmas.{text_runs, text_runs_back}
+use Rattle.utf16_str.proofs.PartWindows.{yields_parts, yields_parts_back}
+use Rattle.utf16_str.proofs.WithinLemmas.{within-words}
 use Rattle.utf16_str.proofs.wstr.WStr.split_ascii_whitespace.Goals as goal
 
 pub returns-clause-bound : goal.returns-clause-bound
@@ -15,3 +17,9 @@ returns-clause-runs g c = text_runs wstr_text
 
 pub returns-clause-runs_back : goal.returns-clause-runs_back
 returns-clause-runs_back g c = text_runs_back wstr_text
+
+pub returns-clause-within : goal.returns-clause-within
+returns-clause-within g c = yields_parts c.args.self _ (within-words is_ascii_whitespace (wstr_text c.args.self))
+
+pub returns-clause-within_back : goal.returns-clause-within_back
+returns-clause-within_back g c = yields_parts_back c.args.self _ (within-words is_ascii_whitespace (wstr_text c.args.self))

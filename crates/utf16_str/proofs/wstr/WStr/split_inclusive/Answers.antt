@@ -1,9 +1,12 @@
-use Rattle.std.proofs.Common.{◌≡◌, ap, arith, false, length, option_map, rules}
-use Rattle.utf16_str.specs.Splits.{parts_left, split_by}
+use Rattle.std.proofs.Common.{◌≡◌, ap, arith, false, length, option_map, rules, sym, ◌∙◌}
+use Rattle.utf16_str.specs.Splits.{joined_with, parts_left, split_by}
 use Rattle.utf16_str.specs.WStr.{wstr_bytes, wstr_text}
 use Rattle.utf16_str.proofs.CountLemmas.{count-parts}
 use Rattle.utf16_str.proofs.MatchLemmas.{length-with}
 use Rattle.utf16_str.proofs.SplitLemmas.{few-parts, text_runs}
+use Rattle.utf16_str.proofs.PartWindows.{yields_parts}
+use Rattle.utf16_str.proofs.JoinLemmas.{join-parts}
+use Rattle.utf16_str.proofs.WithinLemmas.{within-ended}
 use Rattle.utf16_str.proofs.wstr.WStr.split_inclusive.Goals as goal
 
 pub returns-clause-bound : goal.returns-clause-bound
@@ -14,3 +17,10 @@ returns-clause-bound g c =
 
 pub returns-clause-runs : goal.returns-clause-runs
 returns-clause-runs g c = text_runs wstr_text
+
+pub returns-clause-within : goal.returns-clause-within
+returns-clause-within g c =
+    let text = wstr_text c.args.self in
+    let part = g.P.Pattern.part c.new.result.pattern in
+    let made : parts_left part c.new.result.begun (option_map wstr_text c.new.result.rest) ≡ split_by part text = search rules in
+    yields_parts c.args.self _ (within-ended part text _ (sym (join-parts part false text) ∙ ap (joined_with part) (sym made)))

@@ -1,9 +1,12 @@
-use Rattle.std.proofs.Common.{◌≡◌, ap, arith, false, length, option_map, rules}
+use Rattle.std.proofs.Common.{◌≡◌, ap, arith, false, length, option_map, rules, All, subst, sym}
+use Rattle.utf16_str.specs.Matches.{without_empty_last}
 use Rattle.utf16_str.specs.Splits.{parts_left, split_by}
 use Rattle.utf16_str.specs.WStr.{wstr_bytes, wstr_text}
 use Rattle.utf16_str.proofs.CountLemmas.{count-parts}
 use Rattle.utf16_str.proofs.MatchLemmas.{length-without}
 use Rattle.utf16_str.proofs.SplitLemmas.{few-parts, text_runs}
+use Rattle.utf16_str.proofs.PartWindows.{yields_parts}
+use Rattle.utf16_str.proofs.WithinLemmas.{Within, all-without, within-split_by}
 use Rattle.utf16_str.proofs.wstr.WStr.split_terminator.Goals as goal
 
 pub returns-clause-bound : goal.returns-clause-bound
@@ -14,3 +17,10 @@ returns-clause-bound g c =
 
 pub returns-clause-runs : goal.returns-clause-runs
 returns-clause-runs g c = text_runs wstr_text
+
+pub returns-clause-within : goal.returns-clause-within
+returns-clause-within g c =
+    let made : parts_left (g.P.Pattern.part c.new.result.pattern) c.new.result.begun (option_map wstr_text c.new.result.rest) ≡ split_by (g.P.Pattern.part c.args.terminator) (wstr_text c.args.self) = search rules in
+    let text = wstr_text c.args.self in
+    let part = g.P.Pattern.part c.args.terminator in
+    yields_parts c.args.self _ (subst (λ parts. All (Within text) (without_empty_last parts)) (sym made) (all-without (Within text) (split_by part text) (within-split_by part text)))

@@ -1,0 +1,83 @@
+-- Views of substrings of a text lie in a window of its bytes.
+use Rattle.std.proofs.Common.{◌≡◌, ℕ, ◌+◌, ◌-◌, ◌<◌, Bool, true, All, List, ◌++◌, length, drop, take, Option, None, Some, sym, ap, ◌∙◌, subst, arith, append_assoc, option_map, slice_index_or, IfSome}
+use Rattle.std.proofs.Math.Seq.{drop-append_seam, take-append_seam}
+use Rattle.utf16_units.specs.declared.byte_order.Utf16Order.{Ghosts}
+use Rattle.utf16_units.specs.Boundary.{IsBoundary}
+use Rattle.utf16_units.specs.Encoding.{encode, is_utf16, size, text_of}
+use Rattle.utf16_units.proofs.EncodingLemmas.{IsUtf16-from_is_utf16, encode-append, encode-text_of, length-encode, size-append}
+use Rattle.utf16_units.proofs.PartLemmas.{IsBoundary-seam}
+use Rattle.utf16_str.specs.Splits.{LiesIn, YieldsPartsOf, YieldsPartsOfBack}
+use Rattle.utf16_str.specs.Window.{IsWindowOf, bytes_between}
+use Rattle.utf16_str.specs.WStr.{wstr_bytes, wstr_text}
+use Rattle.utf16_str.specs.declared.wstr.WStr.{WStr}
+use Rattle.utf16_str.proofs.SplitLemmas.{text_runs, text_runs_back}
+use Rattle.utf16_str.proofs.WithinLemmas.{Within}
+
+-- the bytes between two others
+middle : (front part back : List ℕ) (i : ℕ) → i ≡ length front → bytes_between (front ++ (part ++ back)) i (i + length part) ≡ part
+middle front part back i at =
+    let long : (i + length part) - i ≡ length part = omega arith in
+    ap (λ n. take n (drop i (front ++ (part ++ back)))) long
+    ∙ ap (λ n. take (length part) (drop n (front ++ (part ++ back)))) at
+    ∙ ap (take (length part)) (drop-append_seam front (part ++ back)) ∙ take-append_seam part back
+
+module _ (big : Bool) (bytes part : List ℕ) (t : is_utf16 big bytes ≡ true) (p : is_utf16 big part ≡ true) (w : Within (text_of big bytes) (text_of big part)) where
+  abbrev start : ℕ
+  start = size w.0
+
+  abbrev end : ℕ
+  end = start + length part
+
+  whole : bytes ≡ encode big w.0 ++ (part ++ encode big w.1)
+  whole =
+      sym (encode-text_of big bytes (IsUtf16-from_is_utf16 big bytes t)) ∙ ap (encode big) w.2
+      ∙ encode-append big w.0 (text_of big part ++ w.1)
+      ∙ ap (λ b. encode big w.0 ++ b) (encode-append big (text_of big part) w.1)
+      ∙ ap (λ b. encode big w.0 ++ (b ++ encode big w.1)) (encode-text_of big part (IsUtf16-from_is_utf16 big part p))
+
+  long : length part ≡ size (text_of big part)
+  long = ap length (sym (encode-text_of big part (IsUtf16-from_is_utf16 big part p))) ∙ length-encode big (text_of big part)
+
+  from : IsBoundary (text_of big bytes) start
+  from = subst (λ t. IsBoundary t start) (sym w.2) (IsBoundary-seam w.0 (text_of big part ++ w.1))
+
+  to : IsBoundary (text_of big bytes) end
+  to =
+      let at : size (w.0 ++ text_of big part) ≡ end = omega (arith, long, size-append w.0 (text_of big part)) in
+      subst (λ t. IsBoundary t end) (sym (w.2 ∙ sym (append_assoc w.0 (text_of big part) w.1)))
+      (subst (IsBoundary ((w.0 ++ text_of big part) ++ w.1)) at (IsBoundary-seam (w.0 ++ text_of big part) w.1))
+
+  pub window_of : (window : ℕ × ℕ) × IsWindowOf (text_of big bytes) (Some window) × (part ≡ bytes_between bytes window.0 window.1)
+  window_of = (
+    (start, end),
+    (omega arith, from, to),
+    sym (ap (λ b. bytes_between b start end) whole ∙ middle (encode big w.0) part (encode big w.1) start (sym (length-encode big w.0))),
+  )
+
+-- what holds of an item that is there
+there : {A : Type 0} (Q : A → Type 0) (o : Option A) (x : A) → option_map (λ y. y) o ≡ Some x → IfSome o Q → Q x
+there Q None x is holds = absurd cc
+there Q (Some y) x is holds =
+    let same : y ≡ x = cc is in
+    subst Q same holds
+
+module _ {E : Type 0} {order : Ghosts E} (whole : WStr E order) (left : List (List ℕ)) (all : All (Within (wstr_text whole)) left) where
+  lies : (part : WStr E order) (k : ℕ) → k < length left → wstr_text part ≡ slice_index_or left k (wstr_text part) → LiesIn whole part
+  lies part k below is =
+      window_of order.BIG (wstr_bytes whole) (wstr_bytes part) whole.well_formed part.well_formed
+      (subst (Within (wstr_text whole)) (sym is) (all k (wstr_text part) below))
+
+  pub yields_parts : YieldsPartsOf whole left
+  yields_parts p seen from k d below =
+      let m = text_runs wstr_text p seen in
+      let same = there (λ x. wstr_text x ≡ slice_index_or p.from k (wstr_text x)) (p.at k) (slice_index_or p.items k d) (p.reads k d (omega (arith, below, p.long))) (m.8 k) in
+      lies (slice_index_or p.items k d) k (omega (arith, below, p.long, m.0, ap length from))
+      (same ∙ ap (λ xs. slice_index_or xs k (wstr_text (slice_index_or p.items k d))) from)
+
+  pub yields_parts_back : YieldsPartsOfBack whole left
+  yields_parts_back p seen from k d below =
+      let m = text_runs_back wstr_text p seen in
+      let last = length p.from - 1 - k in
+      let same = there (λ x. wstr_text x ≡ slice_index_or p.from last (wstr_text x)) (p.at k) (slice_index_or p.items k d) (p.reads k d (omega (arith, below, p.long))) (m.8 k) in
+      lies (slice_index_or p.items k d) last (omega (arith, below, p.long, m.0, ap length from))
+      (same ∙ ap (λ xs. slice_index_or xs last (wstr_text (slice_index_or p.items k d))) from)
