@@ -1,8 +1,8 @@
 #!/usr/bin/env bash
 # Builds the harness: fuzz/build.sh COMPILER PROGRAM [ARGUMENT..]. The compiler gets the further
 # arguments. LIBRARY may name a static library to use instead of the library in crates/dethrux.
-# PEERS=no leaves out ICU and iconv, which another processor's C library may not have. If a tool or
-# a file is missing, one line says so.
+# PEERS=no leaves out ICU and iconv, which another processor's C library may not have, and COUNTS=no
+# the counts of counts.c, which are for x86-64. If a tool or a file is missing, one line says so.
 set -euo pipefail
 cd "$(dirname "$0")"
 archive=${LIBRARY:-../crates/dethrux/out/libdethrux.a}
@@ -25,6 +25,21 @@ else
         refuse 'the headers of ICU are missing: install libicu-dev'
 fi
 
-mkdir -p "$(dirname "$program")"
+made=$(dirname "$program")
+mkdir -p "$made"
+if [ "${COUNTS:-yes}" = no ]; then
+    counts=(-DWITHOUT_COUNTS)
+else
+    counts=("-I$made" counts.c)
+    "$compiler" -fsyntax-only -aux-info "$made/prototypes" -x c ../include/dethrux.h
+    calls=$(sed -nE 's/.*dethrux\.h:.* extern .*[ *](dethrux_[a-z0-9_]+) \(.*/\1/p' \
+        "$made/prototypes" | sort)
+    [ -n "$calls" ] || refuse 'the header has no functions'
+    sed 's/.*/COUNTED(&)/' <<< "$calls" > "$made/calls.inc"
+    for call in $calls; do
+        counts+=("-Wl,--wrap=$call")
+    done
+fi
 "$compiler" -std=gnu11 -O2 -g -Wall -Wextra -Werror -I../include -o "$program" \
-    checks.c coverage.c guarded.c harness.c input.c reference.c "$@" "$archive" "${peers[@]}"
+    checks.c coverage.c guarded.c harness.c input.c reference.c "$@" "${counts[@]}" "$archive" \
+    "${peers[@]}"

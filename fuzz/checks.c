@@ -562,17 +562,17 @@ static void check_feed_any_state(const decoder_calls *calls) {
     }
 }
 
-/* However the stream is cut, the same bytes are written in all. */
-static void check_stream(const decoder_calls *calls) {
-    dethrux_decoder decoder = DETHRUX_DECODER_INIT;
-    size_t written = 0, capacity = 4 + in.capacity % 64;
-    for (size_t at = 0, number = 0; at < in.len; number++) {
+/* However the stream is cut, the same bytes are written in all. Returns the status of its end. */
+static dethrux_status check_cut_stream(const decoder_calls *calls, dethrux_decoder *decoder,
+                                       size_t number, size_t capacity) {
+    size_t written = 0;
+    for (size_t at = 0; at < in.len; number++) {
         size_t end = at + chunk_len(number, in.len - at);
         dethrux_progress got;
         do {
             const uint8_t *from = guarded_input(0, in.text + at, end - at, AT_END);
             uint8_t *to = output_at(capacity, AT_END);
-            got = calls->feed(&decoder, in.order, from, end - at, to, capacity);
+            got = calls->feed(decoder, in.order, from, end - at, to, capacity);
             expect_written(calls->text, written, to, got.written);
             expect_full(&got, capacity);
             at += got.read;
@@ -581,9 +581,21 @@ static void check_stream(const decoder_calls *calls) {
         expect("read so far", at, end);
     }
     uint8_t *to = output_at(calls->finish_max, AT_END);
-    dethrux_progress last = calls->finish(&decoder, in.order, to, calls->finish_max);
+    dethrux_progress last = calls->finish(decoder, in.order, to, calls->finish_max);
     expect_written(calls->text, written, to, last.written);
     expect("written in all", written + last.written, calls->text->out_len);
+    return last.status;
+}
+
+/* A decoder that has ended a stream decodes the same stream again, in other chunks. */
+static void check_stream(const decoder_calls *calls) {
+    dethrux_decoder decoder = DETHRUX_DECODER_INIT;
+    size_t capacity = 4 + in.capacity % 64;
+    for (size_t number = 0; number < 2; number++) {
+        if (check_cut_stream(calls, &decoder, number, capacity + number) != DETHRUX_DONE) {
+            break;
+        }
+    }
 }
 
 static void check_feed(const decoder_calls *calls) {

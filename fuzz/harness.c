@@ -5,12 +5,15 @@
  *   harness --hex DIGITS            reads one input from hexadecimal digits
  *   harness --random SEED SECONDS   makes inputs; the last line is 'N passed, M failed'
  *   harness --seeds DIR SEED COUNT  writes inputs to files that begin a corpus
+ *   harness --counts                prints the counts in the file that FUZZ_COUNTS names
  *
  * A difference, or an access outside of a buffer, is printed with the input as digits for --hex.
  * Then the process aborts; with --random it continues with the other checks.
  *
- * WITHOUT_PEERS leaves ICU and iconv out, which a cross compiler may not have. */
+ * With --random a call that was never made is a failure. WITHOUT_PEERS leaves ICU and iconv out,
+ * and WITHOUT_COUNTS the counts of calls, which a cross compiler may not have. */
 #include "checks.h"
+#include "counts.h"
 #include "guarded.h"
 #include "peers.h"
 
@@ -94,7 +97,7 @@ static int run_random(uint64_t seed, time_t seconds) {
     static uint8_t bytes[INPUT_MAX];
     bool *failed = calloc(CHECK_COUNT, sizeof *failed);
     unsigned long long inputs = 0;
-    size_t failures = 0;
+    size_t failures = 0, idle = 0;
     current.resumes = true;
     printf("seed %llu\n", (unsigned long long)seed);
 #ifndef WITHOUT_PEERS
@@ -103,12 +106,16 @@ static int run_random(uint64_t seed, time_t seconds) {
     for (time_t end = time(NULL) + seconds; time(NULL) < end; inputs++) {
         run_checks(bytes, generate_input(&seed, bytes), failed);
     }
+#ifndef WITHOUT_COUNTS
+    idle = counts_print();
+#endif
     for (size_t i = 0; i < CHECK_COUNT; i++) {
         failures += failed[i];
     }
-    printf("%llu inputs\n%zu passed, %zu failed\n", inputs, CHECK_COUNT - failures, failures);
+    printf("%llu inputs\n", inputs);
+    printf("%zu passed, %zu failed\n", CHECK_COUNT - failures, failures + idle);
     free(failed);
-    return failures != 0;
+    return failures + idle != 0;
 }
 
 static int write_seeds(const char *folder, uint64_t seed, unsigned count) {
@@ -182,6 +189,9 @@ static int run_afl(void) {
 int main(int argc, char **argv) {
     program = argv[0];
     guarded_init();
+#ifndef WITHOUT_COUNTS
+    counts_init();
+#endif
 #ifndef WITHOUT_PEERS
     peers_init();
 #endif
@@ -195,6 +205,11 @@ int main(int argc, char **argv) {
     if (argc == 4 && strcmp(argv[1], "--random") == 0) {
         return run_random(strtoull(argv[2], NULL, 0), (time_t)strtoull(argv[3], NULL, 0));
     }
+#ifndef WITHOUT_COUNTS
+    if (argc == 2 && strcmp(argv[1], "--counts") == 0) {
+        return counts_print() != 0;
+    }
+#endif
     if (argc == 5 && strcmp(argv[1], "--seeds") == 0) {
         return write_seeds(argv[2], strtoull(argv[3], NULL, 0),
                            (unsigned)strtoul(argv[4], NULL, 0));
