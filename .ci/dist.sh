@@ -4,8 +4,8 @@
 # CMake build libraries of this machine that pass the tables of cases, with gcc and clang and
 # without rt. qemu emulates a processor with AVX2 for the library for x86-64-v3, so this needs none.
 # The other platforms are tested by .ci/arm.sh and .ci/windows.sh. If this runs as root, apt-get
-# installs missing tools; a tool that is still missing is a failure. The last line is 'N passed, M
-# failed'.
+# installs missing tools; a tool that is still missing is a failure. The last line is
+# 'N passed, M failed'.
 set -uo pipefail
 top=$(cd "$(dirname "$0")/.." && pwd)
 room=$(mktemp -d)
