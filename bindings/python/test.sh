@@ -3,9 +3,10 @@
 # There it runs the first program of docs/PYTHON.md, the unit tests, CPython's tests of UTF-16 with
 # these codecs, and the tables of cases: with the extension in C, and over ctypes. It installs the
 # wheels and the source distribution that packaging/wheels.sh makes. mypy checks the types. A tool
-# that is missing is a failure, which names its Debian package. The last line is 'N passed, M failed'.
-# PYTHON names another Python, which has its headers. DETHRUX_LIBRARY names the shared library for the package; without it cc makes one of the
-# assembly in dist/. DETHRUX_CALLS is how many calls may not take memory (200000).
+# that is missing is a failure, which names its Debian package. The last line is 'N passed, M
+# failed'. PYTHON names another Python, which has its headers. DETHRUX_LIBRARY names the shared
+# library for the package; without it cc makes one of the assembly in dist/. DETHRUX_CALLS is how
+# many calls may not take memory (200000).
 set -uo pipefail
 here=$(cd "$(dirname "${BASH_SOURCE[0]}")" && pwd)
 top=$(cd "$here/../.." && pwd)
