@@ -20,6 +20,10 @@ pub record Kept (big : Bool) (joined all unread : List ℕ) : Type 0 where
   pub certain : (stop ≡ Done) ⊎ (stop ≡ Incomplete)
   pub rest : unread ≡ drop at joined
 
+-- what was appended is another name's value
+pub joined_as : (new old part by : List ℕ) → by ≡ part → new ≡ old ++ by → new ≡ old ++ part
+joined_as new old part by is wrote = wrote ∙ ap (λ p. old ++ p) is
+
 -- no chunk
 no_leading : EndsLeading [] false
 no_leading points spells = ap ends_leading (spelled-nil points spells.spelled)

@@ -1,8 +1,8 @@
 //! Laws of calls one after another, each given the rest that the call before left, in buffers of
 //! any capacities: together they do what one call does that is given the whole input. The laws hold
 //! for every call that keeps the contract of the function that they name, and so for each call for
-//! C in `dethrux`. For `to_wtf8_partial` and the feeds of a stream to WTF-8 they are `partial_calls`
-//! and `stream_calls` of `call_laws`, in the direction `ToWtf8`.
+//! C in `dethrux`. For `to_wtf8_partial` and the feeds of a stream to WTF-8 they are
+//! `partial_calls` and `stream_calls` of `call_laws`, in the direction `ToWtf8`.
 
 ghost use Rattle.uses_buffers.specs.FormCalls.{Composes};
 ghost use Rattle.uses_buffers.specs.Forms.{Cuts, from_latin1, from_utf32, from_utf32_lossy, from_wtf8, from_wtf8_partial, to_latin1, to_utf32, to_utf32_lossy, to_wtf8};
