@@ -18,6 +18,7 @@ mod ChangedUnits
 mod Cased
 mod ChangedTo
 mod Joined
+mod Appended
 mod Repeated
 mod Written
 mod EmptyPart

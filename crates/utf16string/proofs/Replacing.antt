@@ -1,6 +1,10 @@
 -- A text whose matches are replaced, one after another.
-use Rattle.std.proofs.Common.{◌≡◌, ◌≢◌, ℕ, suc, List, [], ◌∷◌, ◌++◌, None, Some, refl, sym, ap, ap₂, ◌∙◌, append_assoc}
+use Rattle.std.proofs.Common.{◌≡◌, ◌≢◌, ◌≤◌, ℕ, zero, suc, List, [], ◌∷◌, ◌++◌, None, Some, refl, sym, ap, ap₂, ◌∙◌, append-nil, append_assoc, arith, length, length-append}
 use Rattle.utf16string.specs.Replace.{around_match, put_around, replaced_first}
+
+length-zero : (part : List ℕ) → length part ≡ 0 → part ≡ []
+length-zero [] none = refl
+length-zero (c ∷ part) none = absurd (omega (arith, none))
 
 -- the equations of `replaced_first`
 of_none : (part to text : List ℕ) → replaced_first 0 part to text ≡ text
@@ -57,3 +61,50 @@ module _ (to all : List ℕ) (left next : ℕ) (done rest : List ℕ) (ahead : A
 
   pub between-last : rest ≡ [] → done ++ to ≡ all
   between-last none = ap (λ t. done ++ t) (sym (ap₂ (λ n t. replaced_first n [] to t) more none ∙ of_end next to)) ∙ ahead
+
+-- ---- what a string has grown by
+-- the text is as long as it was or longer, and if nothing is to be appended, the capacity is the same
+abbrev pub Grown : List ℕ → List ℕ → List ℕ → ℕ → ℕ → Type 0
+Grown old whole now room new_room = (length old ≤ length now) × (whole ≡ [] → new_room ≡ room)
+
+module _ (old whole now : List ℕ) (grown : length old ≤ length now) (none : whole ≡ []) where
+  -- what is appended is empty, if nothing is to be appended
+  pub no-rest : (rest : List ℕ) → now ++ rest ≡ old ++ whole → rest ≡ []
+  no-rest rest is = length-zero rest (omega (arith, grown, ap length is, length-append now rest, length-append old whole, ap length none))
+
+  pub no-before : (before to more : List ℕ) → ((now ++ before) ++ to) ++ more ≡ old ++ whole → before ≡ []
+  no-before before to more is =
+      length-zero before (omega (arith, grown, ap length is, length-append ((now ++ before) ++ to) more, length-append (now ++ before) to, length-append now before, length-append old whole, ap length none))
+
+  pub no-to : (before to more : List ℕ) → ((now ++ before) ++ to) ++ more ≡ old ++ whole → to ≡ []
+  no-to before to more is =
+      length-zero to (omega (arith, grown, ap length is, length-append ((now ++ before) ++ to) more, length-append (now ++ before) to, length-append now before, length-append old whole, ap length none))
+
+pub longer : (old now next part : List ℕ) → length old ≤ length now → next ≡ now ++ part → length old ≤ length next
+longer old now next part grown is = omega (arith, grown, ap length is, length-append now part)
+
+-- ---- between the characters of a text that becomes empty
+pub between-long : (count : ℕ) (to text : List ℕ) → length text ≤ length (replaced_first count [] to text)
+unfolding replaced_first
+between-long zero to text = omega arith
+between-long (suc count) to [] = omega arith
+between-long (suc count) to (c ∷ text) = omega (arith, length-append to (c ∷ replaced_first count [] to text), between-long count to text)
+
+pub no-text : (count : ℕ) (to text : List ℕ) → replaced_first count [] to text ≡ [] → text ≡ []
+no-text count to text none = length-zero text (omega (arith, between-long count to text, ap length none))
+
+module _ (old whole to : List ℕ) (left next : ℕ) (done rest : List ℕ) (ahead : Ahead [] to (old ++ whole) left done rest) (more : left ≡ suc next) (grown : length old ≤ length done) (none : whole ≡ []) where
+  pub no-char : (c : ℕ) (after : List ℕ) → rest ≡ c ∷ after → ⊥
+  no-char c after is =
+      absurd (omega (
+        arith,
+        ap length (no-to old whole (done ++ to) (omega (arith, grown, length-append done to)) none [] (c ∷ []) (replaced_first next [] to after)
+            (ap (λ t. (t ++ c ∷ []) ++ replaced_first next [] to after) (append-nil (done ++ to)) ∙ between-next to (old ++ whole) left next done rest ahead more c after is)),
+      ))
+
+  no-between : (found : List ℕ) → rest ≡ found → to ≡ []
+  no-between [] is = no-rest old whole done grown none to (between-last to (old ++ whole) left next done rest ahead more is)
+  no-between (c ∷ after) is = absurd (no-char c after is)
+
+  pub none-between : to ≡ []
+  none-between = no-between rest refl

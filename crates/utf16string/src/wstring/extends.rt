@@ -1,9 +1,13 @@
 //! The characters or the texts of an iterator, appended to a string or collected into one.
 
-ghost use Rattle.std.specs.Prelude.{◌≡◌, ◌+◌, ◌<◌, ◌≤◌, [], List, ℕ, Some, length, IfOk, OnErr, OnOk};
+ghost use Rattle.std.specs.Prelude.{◌≡◌, ◌+◌, ◌<◌, ◌≤◌, [], List, ℕ, Some, length, IfOk, IsOk, OnErr, OnOk};
 ghost use Rattle.std.specs.Iterator.{Drains, ExtendsWithItems, IsFinite, YieldsThen};
 ghost use Rattle.std.specs.Iterator.Runs.{WholeRun};
-ghost use Rattle.utf16_units.specs.Encoding.{char_size};
+ghost use Rattle.std.specs.Str.{chars};
+ghost use Rattle.utf16_units.specs.Edit.{push_text};
+ghost use Rattle.utf16_units.specs.Encoding.{char_size, size};
+ghost use Rattle.utf16_str.specs.WStr.{wstr_text};
+ghost use Rattle.utf16string.specs.WString.{IsUnchanged, wstring_bytes, wstring_capacity, wstring_text};
 
 use crate::WString;
 use std::alloc::{AllocError, Allocator};
@@ -103,8 +107,31 @@ impl<E: Utf16Order, A: Allocator> FromIterator<char> for WString<E, A> {
     }
 }
 
+// Appends a text. `Vec` does not promise that it keeps the capacity if nothing is appended, so an
+// empty text does not come to it.
+fn push_view<E: Utf16Order, A: Allocator>(
+    string: &mut WString<E, A>,
+    text: WStr<E>,
+) -> Result<(), AllocError>
+    ensures text { OnOk result (wstring_text string.new
+        ≡ push_text (wstring_text string.old) (wstr_text text.entry)) }
+    ensures len { OnOk result (length (wstring_bytes string.new)
+        ≡ length (wstring_bytes string.old) + size (wstr_text text.entry)) }
+    ensures err { OnErr result (IsUnchanged string.old string.new) }
+    ensures succeeds { length (wstring_bytes string.old) + size (wstr_text text.entry)
+        ≤ wstring_capacity string.old → IsOk result }
+    ensures stays { size (wstr_text text.entry) ≡ 0
+        → wstring_capacity string.new ≡ wstring_capacity string.old }
+    ensures grows { wstring_capacity string.old ≤ wstring_capacity string.new }
+{
+    if text.is_empty() {
+        return Ok(());
+    }
+    string.push_wstr(text)
+}
+
 impl<'x, E: Utf16Order, A: Allocator> Extend<WStr<'x, E>> for WString<E, A> {
-    ghost use Rattle.utf16string.specs.WString.{ExtendsViews};
+    ghost use Rattle.utf16string.specs.WString.{ExtendsViews, StopsAt, wstring_bytes, wstring_capacity};
 
     ghost extend_gives = { ExtendsViews };
 
@@ -112,18 +139,34 @@ impl<'x, E: Utf16Order, A: Allocator> Extend<WStr<'x, E>> for WString<E, A> {
     ///
     /// # Errors
     ///
-    /// `AllocError`, if allocation fails for a text. The texts appended so far stay, and the
-    /// iterator is not advanced further.
-    fn extend<U: IntoIterator<Item = WStr<'x, E>>>(&mut self, iter: U) -> Result<(), AllocError> {
+    /// `AllocError`, if allocation fails for a text, which did not fit. The texts appended so far
+    /// stay, and the iterator is not advanced further.
+    ///
+    /// # Complexity
+    ///
+    /// Allocates only if a text does not fit. The capacity stays if all texts are empty.
+    fn extend<U: IntoIterator<Item = WStr<'x, E>>>(&mut self, iter: U) -> Result<(), AllocError>
+        requires { (it : U.IntoIter) → U.into_iter_gives iter it
+            → U.IntoIter.can_next it × IsFinite (U.IntoIter.remaining it) }
+        ensures ran { ExtendsWithItems U.into_iter_gives U.IntoIter.next_gives ExtendsViews iter
+            self.old self.new result }
+        ensures runs { OnOk result ((it : U.IntoIter) × U.into_iter_gives iter it
+            × WholeRun U.IntoIter.next_gives it (λ p. ExtendsViews self.old p.items self.new)) }
+        ensures err { OnErr result ((it : U.IntoIter) × U.into_iter_gives iter it
+            × StopsAt U.IntoIter.next_gives it wstr_text self.old self.new) }
+        ensures stays { wstring_bytes self.new ≡ wstring_bytes self.old
+            → wstring_capacity self.new ≡ wstring_capacity self.old }
+        ensures grows { wstring_capacity self.old ≤ wstring_capacity self.new }
+    {
         for text in iter {
-            self.push_wstr(text)?;
+            push_view(self, text)?;
         }
         Ok(())
     }
 }
 
 impl<'x, E: Utf16Order, A: Allocator> FromIterator<WStr<'x, E>> for WString<E, A> {
-    ghost use Rattle.utf16string.specs.WString.{view_texts, wstring_text};
+    ghost use Rattle.utf16string.specs.WString.{StopsFrom, view_texts, wstring_bytes, wstring_capacity, wstring_text};
 
     type Alloc = A;
 
@@ -133,19 +176,48 @@ impl<'x, E: Utf16Order, A: Allocator> FromIterator<WStr<'x, E>> for WString<E, A
     ///
     /// # Errors
     ///
-    /// `AllocError`, if allocation fails for a text. The iterator is not advanced further.
-    fn from_iter<U: IntoIterator<Item = WStr<'x, E>>>(
-        alloc: A,
-        iter: U,
-    ) -> Result<Self, AllocError> {
+    /// `AllocError`, if allocation fails for a text. The iterator is not advanced further. Nothing
+    /// is allocated if all texts are empty.
+    fn from_iter<U: IntoIterator<Item = WStr<'x, E>>>(alloc: A, iter: U) -> Result<Self, AllocError>
+        requires { (it : U.IntoIter) → U.into_iter_gives iter it
+            → U.IntoIter.can_next it × IsFinite (U.IntoIter.remaining it) }
+        ensures ran { IfOk result (λ s. (it : U.IntoIter) × (views : List _)
+            × U.into_iter_gives iter it × Drains U.IntoIter.next_gives it views
+            × (wstring_text s ≡ view_texts views)) }
+        ensures err { OnErr result ((it : U.IntoIter) × U.into_iter_gives iter it
+            × StopsFrom U.IntoIter.next_gives it wstr_text) }
+        ensures empty { IfOk result (λ s. wstring_bytes s ≡ [] → wstring_capacity s ≡ 0) }
+    {
         let mut text = Self::new(alloc);
         Extend::extend(&mut text, iter)?;
         Ok(text)
     }
 }
 
+// Appends the characters of a string in UTF-8, like `push_view`.
+fn push_utf8<E: Utf16Order, A: Allocator>(
+    string: &mut WString<E, A>,
+    text: &str,
+) -> Result<(), AllocError>
+    ensures text { OnOk result (wstring_text string.new
+        ≡ push_text (wstring_text string.old) (chars text.now)) }
+    ensures len { OnOk result (length (wstring_bytes string.new)
+        ≡ length (wstring_bytes string.old) + size (chars text.now)) }
+    ensures err { OnErr result (IsUnchanged string.old string.new) }
+    ensures succeeds { length (wstring_bytes string.old) + size (chars text.now)
+        ≤ wstring_capacity string.old → IsOk result }
+    ensures stays { size (chars text.now) ≡ 0
+        → wstring_capacity string.new ≡ wstring_capacity string.old }
+    ensures grows { wstring_capacity string.old ≤ wstring_capacity string.new }
+{
+    if text.is_empty() {
+        return Ok(());
+    }
+    string.push_str(text)
+}
+
 impl<'x, E: Utf16Order, A: Allocator> Extend<&'x str> for WString<E, A> {
-    ghost use Rattle.utf16string.specs.WString.{ExtendsStrs};
+    ghost use Rattle.utf16string.specs.WString.{ExtendsStrs, StopsAt, wstring_bytes, wstring_capacity};
 
     ghost extend_gives = { ExtendsStrs };
 
@@ -153,18 +225,34 @@ impl<'x, E: Utf16Order, A: Allocator> Extend<&'x str> for WString<E, A> {
     ///
     /// # Errors
     ///
-    /// `AllocError`, if allocation fails for a string. The characters of the strings before it
-    /// stay, and the iterator is not advanced further.
-    fn extend<U: IntoIterator<Item = &'x str>>(&mut self, iter: U) -> Result<(), AllocError> {
+    /// `AllocError`, if allocation fails for a string, which did not fit. The characters of the
+    /// strings before it stay, and the iterator is not advanced further.
+    ///
+    /// # Complexity
+    ///
+    /// Allocates only if a string does not fit. The capacity stays if all strings are empty.
+    fn extend<U: IntoIterator<Item = &'x str>>(&mut self, iter: U) -> Result<(), AllocError>
+        requires { (it : U.IntoIter) → U.into_iter_gives iter it
+            → U.IntoIter.can_next it × IsFinite (U.IntoIter.remaining it) }
+        ensures ran { ExtendsWithItems U.into_iter_gives U.IntoIter.next_gives ExtendsStrs iter
+            self.old self.new result }
+        ensures runs { OnOk result ((it : U.IntoIter) × U.into_iter_gives iter it
+            × WholeRun U.IntoIter.next_gives it (λ p. ExtendsStrs self.old p.items self.new)) }
+        ensures err { OnErr result ((it : U.IntoIter) × U.into_iter_gives iter it
+            × StopsAt U.IntoIter.next_gives it (λ string. chars string.now) self.old self.new) }
+        ensures stays { wstring_bytes self.new ≡ wstring_bytes self.old
+            → wstring_capacity self.new ≡ wstring_capacity self.old }
+        ensures grows { wstring_capacity self.old ≤ wstring_capacity self.new }
+    {
         for string in iter {
-            self.push_str(string)?;
+            push_utf8(self, string)?;
         }
         Ok(())
     }
 }
 
 impl<'x, E: Utf16Order, A: Allocator> FromIterator<&'x str> for WString<E, A> {
-    ghost use Rattle.utf16string.specs.WString.{str_texts, wstring_text};
+    ghost use Rattle.utf16string.specs.WString.{StopsFrom, str_texts, wstring_bytes, wstring_capacity, wstring_text};
 
     type Alloc = A;
 
@@ -175,7 +263,17 @@ impl<'x, E: Utf16Order, A: Allocator> FromIterator<&'x str> for WString<E, A> {
     /// # Errors
     ///
     /// `AllocError`, if allocation fails for a string. The iterator is not advanced further.
-    fn from_iter<U: IntoIterator<Item = &'x str>>(alloc: A, iter: U) -> Result<Self, AllocError> {
+    /// Nothing is allocated if all strings are empty.
+    fn from_iter<U: IntoIterator<Item = &'x str>>(alloc: A, iter: U) -> Result<Self, AllocError>
+        requires { (it : U.IntoIter) → U.into_iter_gives iter it
+            → U.IntoIter.can_next it × IsFinite (U.IntoIter.remaining it) }
+        ensures ran { IfOk result (λ s. (it : U.IntoIter) × (strings : List _)
+            × U.into_iter_gives iter it × Drains U.IntoIter.next_gives it strings
+            × (wstring_text s ≡ str_texts strings)) }
+        ensures err { OnErr result ((it : U.IntoIter) × U.into_iter_gives iter it
+            × StopsFrom U.IntoIter.next_gives it (λ string. chars string.now)) }
+        ensures empty { IfOk result (λ s. wstring_bytes s ≡ [] → wstring_capacity s ≡ 0) }
+    {
         let mut text = Self::new(alloc);
         Extend::extend(&mut text, iter)?;
         Ok(text)

@@ -1,10 +1,10 @@
 //! New strings with the matches of a pattern replaced.
 
-ghost use Rattle.std.specs.Prelude.{◌≡◌, ◌≢◌, ◌↔◌, [], IfOk, IsTrue, OnOk, option_map};
+ghost use Rattle.std.specs.Prelude.{◌≡◌, ◌≢◌, [], IfOk, IsOk, OnOk, option_map};
 ghost use Rattle.utf16_units.specs.Edit.{push_text};
 ghost use Rattle.utf16_str.specs.WStr.{wstr_text};
 ghost use Rattle.utf16string.specs.Replace.{around_match, replaced, replaced_first};
-ghost use Rattle.utf16string.specs.WString.{wstring_text};
+ghost use Rattle.utf16string.specs.WString.{wstring_bytes, wstring_capacity, wstring_text};
 
 use crate::WString;
 use std::alloc::{AllocError, Allocator};
@@ -18,12 +18,13 @@ impl<E: Utf16Order, A: Allocator> WString<E, A> {
     ///
     /// # Errors
     ///
-    /// `AllocError`, if allocation fails.
+    /// `AllocError`, if allocation fails. It does not fail if the result is empty.
     ///
     /// # Complexity
     ///
     /// Linear in the lengths of this text, the pattern and the result. Allocates as many bytes as
-    /// this text has, and again only if the result has more.
+    /// this text has, and again only if the result has more. Allocates nothing if the result is
+    /// empty.
     ///
     /// # Source
     ///
@@ -36,6 +37,9 @@ impl<E: Utf16Order, A: Allocator> WString<E, A> {
     ) -> Result<WString<E, B>, AllocError>
         ensures text { IfOk result (λ s.
             wstring_text s ≡ replaced (P.part from) (wstr_text to.entry) (wstring_text self.now)) }
+        ensures nothing { replaced (P.part from) (wstr_text to.entry) (wstring_text self.now) ≡ []
+            → IsOk result }
+        ensures empty { IfOk result (λ s. wstring_bytes s ≡ [] → wstring_capacity s ≡ 0) }
     {
         self.replacen(alloc, from, to, usize::MAX)
     }
@@ -44,7 +48,7 @@ impl<E: Utf16Order, A: Allocator> WString<E, A> {
     ///
     /// # Errors
     ///
-    /// `AllocError`, if allocation fails.
+    /// `AllocError`, if allocation fails. It does not fail if the result is empty.
     ///
     /// # Complexity
     ///
@@ -62,8 +66,11 @@ impl<E: Utf16Order, A: Allocator> WString<E, A> {
     ) -> Result<WString<E, B>, AllocError>
         ensures text { IfOk result (λ s. wstring_text s
             ≡ replaced_first count (P.part from) (wstr_text to.entry) (wstring_text self.now)) }
+        ensures nothing { replaced_first count (P.part from) (wstr_text to.entry)
+            (wstring_text self.now) ≡ [] → IsOk result }
+        ensures empty { IfOk result (λ s. wstring_bytes s ≡ [] → wstring_capacity s ≡ 0) }
     {
-        let mut made = WString::with_capacity(alloc, self.len())?;
+        let mut made = WString::new(alloc);
         push_replaced(&mut made, self.as_wstr(), from, to, count)?;
         Ok(made)
     }
@@ -77,8 +84,12 @@ fn push_replaced<E: Utf16Order, P: Pattern<E> + Copy, A: Allocator>(
     to: WStr<E>,
     count: usize,
 ) -> Result<(), AllocError>
-    ensures { OnOk result (wstring_text made.new ≡ push_text (wstring_text made.old)
+    ensures text { OnOk result (wstring_text made.new ≡ push_text (wstring_text made.old)
         (replaced_first count (P.part from) (wstr_text to.entry) (wstr_text text.entry))) }
+    ensures nothing { replaced_first count (P.part from) (wstr_text to.entry) (wstr_text text.entry)
+        ≡ [] → IsOk result }
+    ensures stays { replaced_first count (P.part from) (wstr_text to.entry) (wstr_text text.entry)
+        ≡ [] → wstring_capacity made.new ≡ wstring_capacity made.old }
 {
     if from.encoded_len() == 0 {
         push_between(made, text, to, count)
@@ -95,18 +106,24 @@ fn push_between<E: Utf16Order, A: Allocator>(
     to: WStr<E>,
     count: usize,
 ) -> Result<(), AllocError>
-    ensures { OnOk result (wstring_text made.new ≡ push_text (wstring_text made.old)
+    ensures text { OnOk result (wstring_text made.new ≡ push_text (wstring_text made.old)
         (replaced_first count [] (wstr_text to.entry) (wstr_text text.entry))) }
+    ensures nothing { replaced_first count [] (wstr_text to.entry) (wstr_text text.entry) ≡ []
+        → IsOk result }
+    ensures stays { replaced_first count [] (wstr_text to.entry) (wstr_text text.entry) ≡ []
+        → wstring_capacity made.new ≡ wstring_capacity made.old }
 {
+    let len = text.len();
+    made.reserve_exact(len)?;
     let mut chars = text.chars();
     for _ in 0..count {
-        made.push_wstr(to)?;
+        push_part(made, to, len)?;
         let Some(c) = chars.next() else {
             return Ok(());
         };
         made.push(c)?;
     }
-    made.push_wstr(chars.as_wstr())
+    push_part(made, chars.as_wstr(), len)
 }
 
 // Appends a text with the first `count` matches of a pattern, which is not empty, replaced.
@@ -118,19 +135,46 @@ fn push_around<E: Utf16Order, P: Pattern<E> + Copy, A: Allocator>(
     count: usize,
 ) -> Result<(), AllocError>
     requires { P.part from ≢ [] }
-    ensures { OnOk result (wstring_text made.new ≡ push_text (wstring_text made.old)
+    ensures text { OnOk result (wstring_text made.new ≡ push_text (wstring_text made.old)
         (replaced_first count (P.part from) (wstr_text to.entry) (wstr_text text.entry))) }
+    ensures nothing { replaced_first count (P.part from) (wstr_text to.entry) (wstr_text text.entry)
+        ≡ [] → IsOk result }
+    ensures stays { replaced_first count (P.part from) (wstr_text to.entry) (wstr_text text.entry)
+        ≡ [] → wstring_capacity made.new ≡ wstring_capacity made.old }
 {
+    let len = text.len();
     let mut rest = text;
     for _ in 0..count {
         let Some((before, after)) = split_around(rest, from) else {
-            return made.push_wstr(rest);
+            return push_part(made, rest, len);
         };
-        made.push_wstr(before)?;
-        made.push_wstr(to)?;
+        push_part(made, before, len)?;
+        push_part(made, to, len)?;
         rest = after;
     }
-    made.push_wstr(rest)
+    push_part(made, rest, len)
+}
+
+// Appends a text. A string without capacity first reserves `len` bytes, unless the text is empty.
+#[inline]
+fn push_part<E: Utf16Order, A: Allocator>(
+    made: &mut WString<E, A>,
+    part: WStr<E>,
+    len: usize,
+) -> Result<(), AllocError>
+    ensures text { OnOk result (wstring_text made.new
+        ≡ push_text (wstring_text made.old) (wstr_text part.entry)) }
+    ensures nothing { wstr_text part.entry ≡ [] → IsOk result }
+    ensures stays { wstr_text part.entry ≡ []
+        → wstring_capacity made.new ≡ wstring_capacity made.old }
+{
+    if part.is_empty() {
+        return Ok(());
+    }
+    if made.capacity() == 0 {
+        made.reserve_exact(len)?;
+    }
+    made.push_wstr(part)
 }
 
 // The text before the first match of a pattern and the text after that match, if there is one.

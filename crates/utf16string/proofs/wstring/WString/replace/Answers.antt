@@ -11,6 +11,9 @@ returns g c =
     let long = length-text _ _ (IsUtf16-from_is_utf16 _ _ c.args.self.now.well_formed) in
     let few = size-double text in
     let bound = c.args.self.now.raw.ok in
+    let all = replaced-all _ _ _ _ text (omega (arith, few, long)) (omega arith) in
     record {
-      text = IfOk-weaker c.replacen.result _ _ (λ s e. e ∙ replaced-all _ _ _ _ text (omega (arith, few, long)) (omega arith)) c.replacen.ensures.text;
+      text = IfOk-weaker c.replacen.result _ _ (λ s e. e ∙ all) c.replacen.ensures.text;
+      nothing = λ none. c.replacen.ensures.nothing (all ∙ none);
+      empty = c.replacen.ensures.empty;
     }

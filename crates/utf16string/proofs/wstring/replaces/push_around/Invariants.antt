@@ -1,13 +1,15 @@
 use Rattle.std.proofs.Common.{◌++◌, ◌-◌}
 use Rattle.utf16_str.specs.WStr.{wstr_text}
 use Rattle.utf16string.specs.Replace.{replaced_first}
-use Rattle.utf16string.specs.WString.{wstring_text}
-use Rattle.utf16string.proofs.Replacing.{Ahead}
+use Rattle.utf16string.specs.WString.{wstring_capacity, wstring_text}
+use Rattle.utf16string.proofs.Replacing.{Ahead, Grown}
 use Rattle.utf16string.proofs.wstring.replaces.push_around.Given as goal
 
 -- what was appended, and the rest with its matches, make the whole
 abbrev pub invariant-loop : goal.invariant-loop
 invariant-loop g l =
     let part = g.P.Pattern.part l.fn.from in
-    Ahead part (wstr_text l.fn.to) (wstring_text l.fn.made ++ replaced_first l.fn.count part (wstr_text l.fn.to) (wstr_text l.fn.text))
+    let whole = replaced_first l.fn.count part (wstr_text l.fn.to) (wstr_text l.fn.text) in
+    Ahead part (wstr_text l.fn.to) (wstring_text l.fn.made ++ whole)
     (l.fn.count - l.counter) (wstring_text l.made) (wstr_text l.rest)
+    × Grown (wstring_text l.fn.made) whole (wstring_text l.made) (wstring_capacity l.fn.made) (wstring_capacity l.made)

@@ -1,4 +1,4 @@
-use Rattle.std.proofs.Common.{◌≡◌, ◌++◌, ◌∙◌, arith, subst, sym}
+use Rattle.std.proofs.Common.{◌≡◌, ◌++◌, ◌∙◌, List, ℕ, ap, subst, sym}
 use Rattle.std.specs.Result.{OnOk}
 use Rattle.utf16_str.specs.WStr.{wstr_text}
 use Rattle.utf16string.specs.Replace.{replaced_first}
@@ -12,5 +12,9 @@ push_around-requires g c none = c.if-encoded_len-eq0.false (c.encoded_len.ensure
 pub returns-then-encoded_len-eq0 : goal.returns-then-encoded_len-eq0
 returns-then-encoded_len-eq0 g c =
     let none = part-empty (g.P.Pattern.part c.args.from) (sym c.encoded_len.ensures ∙ c.if-encoded_len-eq0.true) in
-    subst (λ part. OnOk c.push_between.result (wstring_text c.push_between.new.made ≡ wstring_text c.args.made.now ++ replaced_first c.args.count part (wstr_text c.args.to) (wstr_text c.args.text)))
-    (sym none) c.push_between.ensures
+    let whole : List ℕ → List ℕ = λ part. replaced_first c.args.count part (wstr_text c.args.to) (wstr_text c.args.text) in
+    record {
+      text = subst (λ part. OnOk c.push_between.result (wstring_text c.push_between.new.made ≡ wstring_text c.args.made.now ++ whole part)) (sym none) c.push_between.ensures.text;
+      nothing = λ empty. c.push_between.ensures.nothing (ap whole (sym none) ∙ empty);
+      stays = λ empty. c.push_between.ensures.stays (ap whole (sym none) ∙ empty);
+    }
