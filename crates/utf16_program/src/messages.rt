@@ -21,15 +21,16 @@ pub fn report<W: Write>(program: Program, outcome: &Outcome, to: &mut Watched<W>
     }
 }
 
-// Writes the message of an outcome. If there is none, the writer is not called. The only error is a
-// write that fails; the writer is not called again after that.
+// Writes the message of an outcome. For an outcome without a message the writer is not called. The
+// only error is a write that fails; the writer is not called again after that.
 fn tell<W: Write>(
     program: Program,
     outcome: &Outcome,
     to: &mut Watched<W>,
 ) -> Result<(), DeviceFault>
     ensures line { OnOk result (TellsAll W.contents to.old to.new (line_of program outcome.now)) }
-    ensures err { OnErr result (TellsPrefix W.contents to.old to.new (line_of program outcome.now)) }
+    ensures err { OnErr result
+        (TellsPrefix W.contents to.old to.new (line_of program outcome.now)) }
     ensures quiet { line_of program outcome.now ≡ [] → to.new ≡ to.old }
 {
     let Some((before, name, after)) = parts(program, outcome) else {
@@ -40,10 +41,10 @@ fn tell<W: Write>(
     to.write_all(after)
 }
 
-// The message of an outcome: what is before the name of the program, the name, and what is after it.
+// A message: what is before the name of the program, the name, and what is after it.
 type Parts = (&'static [u8], &'static [u8], &'static [u8]);
 
-// Returns the parts of the message of an outcome, or `None` if there is no message.
+// Returns the message of an outcome, or `None` for an outcome without a message.
 fn parts(program: Program, outcome: &Outcome) -> Option<Parts>
     ensures some { IfSome result (λ parts. line_of program outcome.now
         ≡ parts.0.now ++ (parts.1.now ++ parts.2.now)) }

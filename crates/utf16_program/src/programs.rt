@@ -24,10 +24,10 @@ use std::process::ExitCode;
 use utf16_streams::Watched;
 
 /// Does the job that the only argument names, from a reader to a writer, and reports how it ended:
-/// it writes the message to `errors` and returns the exit status. The status is 0 if the whole input
-/// was converted, or was checked and is well formed; 2 if the arguments name no job; and 1 otherwise.
-/// The arguments are what `env::args` of std returned. If they name no job, nothing is read or
-/// written.
+/// it writes the message to `errors` and returns the exit status. The status is 0 if the whole
+/// input was converted, or was checked and is well formed; 2 if the arguments name no job; and 1
+/// otherwise. The arguments are what `env::args` of std returned. If they name no job, nothing is
+/// read or written.
 pub fn program<R: Read, W: Write, T: Write, A: Allocator>(
     program: Program,
     alloc: A,

@@ -71,8 +71,8 @@ impl<E: Utf16Order> Transcoder for Encoder<E> {
     fn laws(&self) {}
 }
 
-// Encodes the next chunk: writes the UTF-16 that is now certain to the start of a buffer, and returns
-// its length in bytes.
+// Encodes the next chunk: writes the UTF-16 that is now certain to the start of a buffer, and
+// returns its length in bytes.
 fn feed<E: Utf16Order>(stream: &mut Stream, piece: &[u8], to: &mut [u8]) -> usize
     requires undecided { split_tail (stream_pending stream.old)
         ≡ stream_pending stream.old }
