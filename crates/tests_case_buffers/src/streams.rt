@@ -1,4 +1,4 @@
-//! The calls of `utf16_streams`, as cases name them.
+//! The calls of `utf16_streams`, and the check of `utf16_program`, as cases name them.
 mod chunkings;
 mod devices;
 mod fed;
@@ -24,8 +24,12 @@ pub fn call<E: Utf16Order>(run: &mut Run, name: &str) -> bool {
         "filter_auto" => filtered::filter::<E>(run, FilterCall::DecodeAuto),
         "encode_stream" => filtered::filter::<E>(run, FilterCall::Encode),
         "encode_stream_with_bom" => filtered::filter::<E>(run, FilterCall::EncodeWithBom),
-        "filter_each_read" => sweeps::each_call::<E>(run, true),
-        "filter_each_write" => sweeps::each_call::<E>(run, false),
+        "check" => filtered::filter::<E>(run, FilterCall::Check),
+        "check_auto" => filtered::filter::<E>(run, FilterCall::CheckAuto),
+        "filter_each_read" => sweeps::each_call::<E>(run, FilterCall::Decode, true),
+        "filter_each_write" => sweeps::each_call::<E>(run, FilterCall::Decode, false),
+        "check_each_read" => sweeps::each_call::<E>(run, FilterCall::Check, true),
+        "check_each_write" => sweeps::each_call::<E>(run, FilterCall::Check, false),
         _ => return false,
     }
     true

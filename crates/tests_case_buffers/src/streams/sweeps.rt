@@ -9,11 +9,11 @@ const MOST: usize = 1000;
 
 /// For each call of the reader in turn, or of the writer, flushes included, up to the first that is
 /// not made: adds the result, the numbers of reads, writes and flushes, and what was written.
-pub fn each_call<E: Utf16Order>(case: &mut Run, of_reader: bool) {
+pub fn each_call<E: Utf16Order>(case: &mut Run, filter: FilterCall, of_reader: bool) {
     let bytes = case.bytes();
     for at in 1..MOST {
         let odd = if of_reader { (at, 0) } else { (0, at) };
-        let ended = run::<E>(case, &bytes, FilterCall::Decode, odd);
+        let ended = run::<E>(case, &bytes, filter, odd);
         add(&mut case.answer, &ended);
         let made = if of_reader {
             ended.reads
@@ -28,7 +28,7 @@ pub fn each_call<E: Utf16Order>(case: &mut Run, of_reader: bool) {
 
 // Adds how a run ended.
 fn add(answer: &mut Answer, ended: &Ended) {
-    add_result(answer, ended.result);
+    add_result(answer, ended);
     answer.number(ended.reads);
     answer.number(ended.writes);
     answer.number(ended.flushes);
