@@ -407,6 +407,9 @@ cases_of_check() {
         'bytes: 140004, characters: 70001, ill-formed: 0\n' '$P le < letters'
     is 'many blocks from a pipe' 0 "$none" \
         'bytes: 3000000, characters: 1500000, ill-formed: 0\n' 'cat zeros | $P be'
+    is 'an unpaired surrogate after 4 GiB' 1 "$none" \
+        '0x100000000 (4294967296): unpaired leading surrogate D800\nbytes: 4294967300, characters: 2147483649, ill-formed: 1\n' \
+        '(head -c 4294967296 /dev/zero; printf "\\0\\330a\\0") | $P le'
     is 'many unpaired surrogates' 1 "$none" 'bytes: 200000, characters: 0, ill-formed: 100000\n' \
         '$P be < trailing > lines; status=$?; head -c 1024 lines | cmp - front_report; tail -n 1 lines; exit $status'
     # Its report has five megabytes, of which a block's lines are in memory at a time.
