@@ -1,10 +1,11 @@
 //! Strings made from views in another byte order, and from characters.
 
-ghost use Rattle.std.specs.Prelude.{◌≡◌, [], ◌++◌, List, ℕ, IfOk, IsOk, OnErr, OnOk, reverse};
+ghost use Rattle.std.specs.Prelude.{◌≡◌, ◌==◌, ◌≤◌, [], ◌++◌, List, ℕ, IfOk, IsOk, OnErr, OnOk, reverse};
+ghost use Rattle.std.specs.List.{flat_map, slice_split};
 ghost use Rattle.utf16_units.specs.Edit.{push_text};
 ghost use Rattle.utf16string.specs.Encoding.{Encodes};
 ghost use Rattle.utf16string.specs.WStr.{wstr_text};
-ghost use Rattle.utf16string.specs.WString.{wstring_bytes, wstring_text};
+ghost use Rattle.utf16string.specs.WString.{wstring_bytes, wstring_capacity, wstring_text};
 
 use std::alloc::{AllocError, Allocator};
 use utf16string::{Utf16Order, WStr, WString};
@@ -45,4 +46,30 @@ pub fn push_any<E: Utf16Order, F: Utf16Order, A: Allocator>(
         × (wstring_text string.new ≡ push_text (wstring_text string.old) front)) }
 {
     string.extend(text.chars())
+}
+
+/// Appends the fields of a line, without the commas. If allocation fails, the fields before one that
+/// did not fit are appended, and the capacity is at least what it was.
+pub fn push_fields<E: Utf16Order, A: Allocator>(
+    string: &mut WString<E, A>,
+    line: WStr<E>,
+) -> Result<(), AllocError>
+    ensures text { OnOk result (wstring_text string.new ≡ push_text (wstring_text string.old)
+        (flat_map (λ field. field) (slice_split (λ c. c == 44) (wstr_text line.entry)))) }
+    ensures stays { wstring_bytes string.new ≡ wstring_bytes string.old
+        → wstring_capacity string.new ≡ wstring_capacity string.old }
+    ensures grows { wstring_capacity string.old ≤ wstring_capacity string.new }
+{
+    Extend::extend(string, line.split(','))
+}
+
+/// Returns a text without commas. It does not fail, and takes no memory, if the text is empty or has
+/// only commas.
+pub fn without_commas<E: Utf16Order, A: Allocator>(
+    alloc: A,
+    text: WStr<E>,
+) -> Result<WString<E, A>, AllocError>
+    ensures { IfOk result (λ s. wstring_bytes s ≡ [] → wstring_capacity s ≡ 0) }
+{
+    FromIterator::from_iter(alloc, text.split(','))
 }

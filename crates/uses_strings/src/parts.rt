@@ -6,6 +6,7 @@ ghost use Rattle.utf16_units.specs.Boundary.{IsBoundary, text_between, text_from
 ghost use Rattle.utf16_units.specs.Delimited.{Lacks};
 ghost use Rattle.utf16_units.specs.Encoding.{Encodes, size};
 ghost use Rattle.utf16string.specs.Offsets.{char_offsets};
+ghost use Rattle.utf16string.specs.Splits.{LiesIn};
 ghost use Rattle.utf16string.specs.WStr.{wstr_bytes, wstr_text};
 ghost use Rattle.utf16string.specs.WString.{wstring_text};
 
@@ -152,13 +153,14 @@ pub fn is_name<E: Utf16Order>(text: WStr<E>, name: &str) -> bool
     text.eq_str(name)
 }
 
-/// Returns the fields of a line, separated by commas.
+/// Returns the fields of a line, separated by commas. Each is a window of the line's bytes.
 pub fn fields<'a, E: Utf16Order, A: Allocator>(
     alloc: A,
     line: WStr<'a, E>,
 ) -> Result<Vec<WStr<'a, E>, A>, AllocError>
-    ensures { IfOk result (λ fields.
+    ensures texts { IfOk result (λ fields.
         map wstr_text fields.items ≡ slice_split (λ c. c == 44) (wstr_text line.entry)) }
+    ensures within { IfOk result (λ fields. All (LiesIn line.entry) fields.items) }
 {
     line.split(',').collect(alloc)
 }
