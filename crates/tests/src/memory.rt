@@ -2,6 +2,7 @@
 
 mod calls;
 mod edits;
+mod places;
 mod streams;
 mod strings;
 
@@ -45,9 +46,9 @@ enum Needs {
 // The most allocations of a call whose result grows while it is made.
 const MANY: u64 = 24;
 
-// Numbers of characters around powers of two.
-const AROUND_POWERS: [usize; 12] = [
-    511, 512, 513, 1_023, 1_024, 1_025, 4_095, 4_096, 4_097, 65_535, 65_536, 65_537,
+// Numbers of characters around powers of two, and powers of ten.
+const POWERS: [usize; 14] = [
+    511, 512, 513, 1_000, 1_023, 1_024, 1_025, 4_095, 4_096, 4_097, 10_000, 65_535, 65_536, 65_537,
 ];
 
 // A call, what grows, what it needs memory for, and the most allocations that it makes.
@@ -101,6 +102,31 @@ const COPIED: [Row; 7] = [
     (Call::Repeat, Grows::Nothing, Needs::Twice, 1),
     (Call::Drain, Grows::Nothing, Needs::Utf16, 1),
     (Call::CloneByTrait, Grows::Nothing, Needs::Utf16, 1),
+];
+
+// Calls at the middle or the end of a string, and with numbers that are not even.
+const PUT_INSIDE: [Row; 5] = [
+    (Call::InsertStrInside, Grows::Utf16, Needs::Utf16, 1),
+    (Call::ReplaceRangeInside, Grows::Utf16, Needs::Utf16, 1),
+    (Call::ReplaceRangeAtEnd, Grows::Utf16, Needs::Utf16, 1),
+    (Call::ReserveCount, Grows::Utf16, Needs::Utf16, 1),
+    (Call::ReserveExactCount, Grows::Utf16, Needs::Utf16, 1),
+];
+
+// Calls with other counts than in `COPIED`, with a pattern that is as long as the text, and at the
+// middle.
+const COPIED_INSIDE: [Row; 5] = [
+    (Call::ReplacenSeven, Grows::Nothing, Needs::Utf16, 1),
+    (Call::ReplacenCount, Grows::Nothing, Needs::Utf16, 1),
+    (Call::ReplaceText, Grows::Nothing, Needs::Utf16, 1),
+    (Call::RepeatCount, Grows::Nothing, Needs::Utf16, 1),
+    (Call::DrainInside, Grows::Nothing, Needs::Utf16, 1),
+];
+
+// Calls that take much spare capacity from a string.
+const SHRUNK: [Row; 2] = [
+    (Call::ShrinkToFitMuch, Grows::Nothing, Needs::Utf16, 1),
+    (Call::ShrinkToMuch, Grows::Nothing, Needs::Twice, 1),
 ];
 
 // Edits.
@@ -223,6 +249,9 @@ fn all_requested<E: Utf16Order>(rt: &(impl Abort + AllocGlobal), chars: &str, co
     each_requested(rt, &GROWN, &text);
     each_requested(rt, &PUT, &text);
     each_requested(rt, &COPIED, &text);
+    each_requested(rt, &PUT_INSIDE, &text);
+    each_requested(rt, &COPIED_INSIDE, &text);
+    each_requested(rt, &SHRUNK, &text);
     each_requested(rt, &EDITED, &text);
     each_requested(rt, &DECODED, &text);
     each_requested(rt, &FILTERED, &text);
@@ -235,7 +264,7 @@ fn at_each_length<E: Utf16Order>(rt: &(impl Abort + AllocGlobal), chars: &str) {
     for count in (301..5_000).step_by(97) {
         all_requested::<E>(rt, chars, count);
     }
-    for count in AROUND_POWERS {
+    for count in POWERS {
         all_requested::<E>(rt, chars, count);
     }
 }
@@ -288,6 +317,7 @@ fn all_grow_seldom<E: Utf16Order>(rt: &(impl Abort + AllocGlobal), chars: &str) 
         each_grows_seldom(rt, &GROWN, &text);
         each_grows_seldom(rt, &PUT, &text);
         each_grows_seldom(rt, &COPIED, &text);
+        each_grows_seldom(rt, &PUT_INSIDE, &text);
         each_grows_seldom(rt, &EDITED, &text);
         each_grows_seldom(rt, &DECODED, &text);
         each_grows_seldom(rt, &FILTERED, &text);

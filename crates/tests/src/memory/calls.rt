@@ -1,6 +1,7 @@
 //! The calls that allocate, and the values on which they are made.
 
 use crate::memory::edits::edit;
+use crate::memory::places::{copied_inside, put_inside, shrunk};
 use crate::memory::streams::stream;
 use crate::memory::strings::{copied, put};
 use std::alloc::{AllocError, Global};
@@ -45,6 +46,18 @@ pub enum Call {
     Repeat,
     Drain,
     CloneByTrait,
+    InsertStrInside,
+    ReplaceRangeInside,
+    ReplaceRangeAtEnd,
+    ReserveCount,
+    ReserveExactCount,
+    ReplacenSeven,
+    ReplacenCount,
+    ReplaceText,
+    RepeatCount,
+    DrainInside,
+    ShrinkToFitMuch,
+    ShrinkToMuch,
     EditPush,
     EditPushText,
     EditInsert,
@@ -71,6 +84,7 @@ pub struct Text<E: Utf16Order> {
     pub count: usize,
     /// The first of them.
     pub first: char,
+    pub letter: WString<E>,
     pub utf16: WString<E>,
     pub utf8: String,
 }
@@ -82,9 +96,13 @@ impl<E: Utf16Order> Text<E> {
         for _ in 0..count {
             utf8.push_str(chars)?;
         }
+        let first = chars.chars().next().unwrap_or('a');
+        let mut letter = WString::new(alloc);
+        letter.push(first)?;
         Ok(Text {
             count,
-            first: chars.chars().next().unwrap_or('a'),
+            first,
+            letter,
             utf16: WString::from_str(alloc, utf8.as_str())?,
             utf8,
         })
@@ -219,6 +237,15 @@ fn others<'a, E: Utf16Order>(
         return done;
     }
     if let Some(done) = copied(heap, call, text, held) {
+        return done;
+    }
+    if let Some(done) = put_inside(call, text, held) {
+        return done;
+    }
+    if let Some(done) = copied_inside(heap, call, text, held) {
+        return done;
+    }
+    if let Some(done) = shrunk(heap, call, text, held) {
         return done;
     }
     match edit(heap, call, text, held) {

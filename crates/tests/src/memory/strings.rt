@@ -53,8 +53,8 @@ pub fn copied<'a, E: Utf16Order>(
     })
 }
 
-// Returns the first character of a text as a view.
-fn first_of<E: Utf16Order>(text: &Text<E>) -> WStr<'_, E> {
+/// Returns the first character of a text as a view.
+pub fn first_of<E: Utf16Order>(text: &Text<E>) -> WStr<'_, E> {
     let view = text.utf16.as_wstr();
     match view.matches(text.first).next() {
         Some(first) => first,
