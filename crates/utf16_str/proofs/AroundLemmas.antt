@@ -1,7 +1,6 @@
--- The last character of a text, and the substrings on either side of a delimiter.
-use Rattle.std.proofs.Common.{◌≡◌, ◌≢◌, ℕ, ◌<◌, Bool, true, false, cond, List, [], ◌∷◌, ◌++◌, length, refl, ap, ◌∙◌, arith}
-use Rattle.std.proofs.lemmas.List.Splits.{length-slice_split, slice_split-cons_yes}
-use Rattle.std.specs.List.{onto_first, slice_split}
+-- The last character of a text.
+use Rattle.std.proofs.Common.{◌≡◌, ◌≢◌, ℕ, List, [], ◌∷◌, ◌++◌, ap, refl, reverse, sym, ◌∙◌}
+use Rattle.std.proofs.lemmas.List.{reverse-append}
 
 -- a text is empty, or has a last character
 pub record HasLast (text : List ℕ) : Type 0 where
@@ -21,22 +20,9 @@ pub no_last : (front : List ℕ) (c : ℕ) → [] ≡ front ++ c ∷ [] → ⊥
 no_last [] c e = absurd cc
 no_last (d ∷ front) c e = absurd cc
 
--- ---- the substrings on either side of a delimiter
-onto-append : (c : ℕ) (parts more : List (List ℕ)) → 0 < length parts → onto_first c (parts ++ more) ≡ onto_first c parts ++ more
-onto-append c [] more some = absurd (omega (arith, some))
-onto-append c (part ∷ parts) more some = refl
-
-module _ (p : ℕ → Bool) where
-  around-next : (test : Bool) (d : ℕ) (whole front back : List (List ℕ)) → whole ≡ front ++ back → 0 < length front
-      → cond test ([] ∷ whole) (onto_first d whole) ≡ cond test ([] ∷ front) (onto_first d front) ++ back
-  around-next true d whole front back is some = ap (λ ps. [] ∷ ps) is
-  around-next false d whole front back is some = ap (onto_first d) is ∙ onto-append d front back some
-
-  pub split-around : (front : List ℕ) (c : ℕ) (back : List ℕ) → p c ≡ true → slice_split p (front ++ c ∷ back) ≡ slice_split p front ++ slice_split p back
-  split-around [] c back test = slice_split-cons_yes p c back test
-  split-around (d ∷ front) c back test =
-      around-next (p d) d (slice_split p (front ++ c ∷ back)) (slice_split p front) (slice_split p back) (split-around front c back test)
-      (omega (arith, length-slice_split p front))
-
-  pub some-parts : (text : List ℕ) → 0 < length (slice_split p text)
-  some-parts text = omega (arith, length-slice_split p text)
+-- a text has one last character
+pub one_end : (front : List ℕ) (c : ℕ) (other : List ℕ) (d : ℕ) → front ++ c ∷ [] ≡ other ++ d ∷ [] → c ≡ d
+one_end front c other d e =
+    let turned : reverse (front ++ c ∷ []) ≡ reverse (other ++ d ∷ []) = ap reverse e in
+    let whole : c ∷ reverse front ≡ d ∷ reverse other = sym (reverse-append front (c ∷ [])) ∙ turned ∙ reverse-append other (d ∷ []) in
+    cc

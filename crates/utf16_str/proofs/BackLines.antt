@@ -4,7 +4,8 @@ use Rattle.std.specs.List.{slice_split}
 use Rattle.std.specs.Str.Lines.{lines, lines_of_parts, strip_carriage_return}
 use Rattle.utf16_units.specs.Delimited.{Lacks}
 use Rattle.utf16_str.specs.Splits.{EndsWithAny}
-use Rattle.utf16_str.proofs.AroundLemmas.{last_of, some-parts, split-around}
+use Rattle.utf16_str.proofs.AroundLemmas.{last_of}
+use Rattle.utf16_str.proofs.PredicateAround.{some-parts, split-around}
 use Rattle.utf16_str.proofs.LineLemmas.{lines-first, lines-last, lines_of_parts-cons}
 
 lines-append : (parts more : List (List ℕ)) → 0 < length more → lines_of_parts (parts ++ more) ≡ map strip_carriage_return parts ++ lines_of_parts more

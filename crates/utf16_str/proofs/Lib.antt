@@ -29,9 +29,6 @@ mod NextLemmas
 mod BackNext
 mod AroundLemmas
 mod BackLines
-mod WhiteAfter
-mod BackWords
-mod LastWord
 mod TrimMatches
 mod PredicatePassed
 mod PredicateBytes
@@ -40,7 +37,6 @@ mod PredicateTrims
 mod PredicateCuts
 mod PredicateAround
 mod PredicateSplitRuns
-mod AsciiWordLemmas
 mod PartsCount
 mod Utf8Size
 pub mod PredicateRestated

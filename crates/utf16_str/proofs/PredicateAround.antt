@@ -17,3 +17,6 @@ split-around p [] c back passes = slice_split-cons_yes p c back passes
 split-around p (d ∷ front) c back passes =
     around-next (p d) d (slice_split p (front ++ c ∷ back)) (slice_split p front) (slice_split p back) (split-around p front c back passes)
     (omega (arith, length-slice_split p front))
+
+pub some-parts : (p : ℕ → Bool) (text : List ℕ) → 0 < length (slice_split p text)
+some-parts p text = omega (arith, length-slice_split p text)

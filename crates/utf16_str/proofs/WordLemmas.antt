@@ -1,92 +1,91 @@
--- The words of a text, one by one.
-use Rattle.std.proofs.Common.{◌≡◌, ◌≢◌, ℕ, ◌≤◌, All, Bool, true, false, cond, List, [], ◌∷◌, ◌++◌, length, refl, sym, ap, ◌∙◌, arith, append-nil, append_assoc, nat_lt}
+-- The words of a text between the characters that pass a test, one by one from either end, and a
+-- predicate that gives the answers of the test.
+use Rattle.std.proofs.Common.{◌≡◌, ◌≢◌, ℕ, All, Bool, true, false, cond, List, [], ◌∷◌, ◌++◌, length, refl, sym, ap, ◌∙◌, arith, append-nil, nat_lt}
 use Rattle.std.proofs.lemmas.Bool.{false≢true}
-use Rattle.std.proofs.lemmas.List.Elements.{All-nil, All-push}
-use Rattle.std.proofs.lemmas.List.Sums.{count_by-le-length, length-filter}
+use Rattle.std.proofs.lemmas.List.Elements.{All-head, All-tail, All-weaker, filter-append}
 use Rattle.std.proofs.lemmas.List.Splits.{slice_split-cons_yes, slice_split_at, slice_split_none}
-use Rattle.std.specs.Char.{is_whitespace}
 use Rattle.std.specs.List.{filter, slice_split}
-use Rattle.std.specs.Str.{skip_leading_whitespace}
-use Rattle.utf16_str.specs.Splits.{words}
+use Rattle.utf16_str.specs.Predicates.{AnswersBy, IsCutWith, IsLastCutWith, IsTrimmedEndWith, IsTrimmedStartWith, SaysOfEach}
+use Rattle.utf16_str.specs.Splits.{words_by}
+use Rattle.utf16_str.proofs.PredicateAround.{split-around}
 
 abbrev pub not_empty : List ℕ → Bool
 not_empty word = nat_lt 0 (length word)
 
--- ---- white space before a word
-words-white : (c : ℕ) (rest : List ℕ) → is_whitespace c ≡ true → words (c ∷ rest) ≡ words rest
-words-white c rest white = ap (filter not_empty) (slice_split-cons_yes is_whitespace c rest white)
-
-skipped : (white : Bool) (c : ℕ) (text : List ℕ) → is_whitespace c ≡ white → words (skip_leading_whitespace text) ≡ words text
-    → words (cond white (skip_leading_whitespace text) (c ∷ text)) ≡ words (c ∷ text)
-skipped true c text is same = same ∙ sym (words-white c text is)
-skipped false c text is same = refl
-
-words-skip : (text : List ℕ) → words (skip_leading_whitespace text) ≡ words text
-words-skip [] = refl
-words-skip (c ∷ text) = skipped (is_whitespace c) c text refl (words-skip text)
-
--- what is left does not begin with white space
-stopped : (white : Bool) (c d : ℕ) (text more : List ℕ) → is_whitespace c ≡ white → (skip_leading_whitespace text ≡ d ∷ more → is_whitespace d ≡ false)
-    → cond white (skip_leading_whitespace text) (c ∷ text) ≡ d ∷ more → is_whitespace d ≡ false
-stopped true c d text more is later e = later e
-stopped false c d text more is later e =
-    let same : c ≡ d = cc in
-    sym (ap is_whitespace same) ∙ is
-
-skip-stops : (text : List ℕ) (c : ℕ) (more : List ℕ) → skip_leading_whitespace text ≡ c ∷ more → is_whitespace c ≡ false
-skip-stops [] c more e = absurd (cc e)
-skip-stops (d ∷ text) c more e = stopped (is_whitespace d) d c text more refl (skip-stops text c more) e
-
--- ---- the first word
-pub kept : (word : List ℕ) (parts : List (List ℕ)) → word ≢ [] → filter not_empty (word ∷ parts) ≡ word ∷ filter not_empty parts
+kept : (word : List ℕ) (parts : List (List ℕ)) → word ≢ [] → filter not_empty (word ∷ parts) ≡ word ∷ filter not_empty parts
 kept [] parts some = absurd (some refl)
 kept (c ∷ word) parts some =
     let filled : nat_lt 0 (length (c ∷ word)) ≡ true = grind arith in
     ap (λ b. cond b ((c ∷ word) ∷ filter not_empty parts) (filter not_empty parts)) filled
 
--- a text begins with white space, if it has any characters
-abbrev pub BeginsWhite : List ℕ → Type 0
-BeginsWhite text = (c : ℕ) (more : List ℕ) → text ≡ c ∷ more → is_whitespace c ≡ true
+module _ (p : ℕ → Bool) where
+  abbrev words : List ℕ → List (List ℕ)
+  words text = words_by p text
 
-module _ (text word after : List ℕ) (split : skip_leading_whitespace text ≡ word ++ after) (lacks : All (λ c. is_whitespace c ≡ false) word) (white : BeginsWhite after) where
-  first : (rest : List ℕ) → after ≡ rest → word ≢ [] → words (word ++ rest) ≡ word ∷ words rest
-  first [] is some = ap words (append-nil word) ∙ ap (filter not_empty) (slice_split_none is_whitespace word lacks) ∙ kept word [] some
-  first (c ∷ more) is some =
-      ap (filter not_empty) (slice_split_at is_whitespace word c more lacks (white c more is)) ∙ kept word (slice_split is_whitespace more) some
-      ∙ ap (λ ws. word ∷ ws) (sym (words-white c more (white c more is)))
+  words-spaces : (front rest : List ℕ) → All (λ c. p c ≡ true) front → words (front ++ rest) ≡ words rest
+  words-spaces [] rest all = refl
+  words-spaces (c ∷ front) rest all =
+      ap (filter not_empty) (slice_split-cons_yes p c (front ++ rest) (All-head (λ d. p d ≡ true) c front all))
+      ∙ words-spaces front rest (All-tail (λ d. p d ≡ true) c front all)
 
-  pub words-first : word ≢ [] → words text ≡ word ∷ words after
-  words-first some = sym (words-skip text) ∙ ap words split ∙ first after refl some
+  words-around : (front : List ℕ) (c : ℕ) (back : List ℕ) → p c ≡ true → words (front ++ c ∷ back) ≡ words front ++ words back
+  words-around front c back passes =
+      ap (filter not_empty) (split-around p front c back passes) ∙ filter-append not_empty (slice_split p front) (slice_split p back)
 
-  -- without a first word nothing is left
-  ended : (rest : List ℕ) → after ≡ rest → word ≡ [] → after ≡ []
-  ended [] is none = is
-  ended (c ∷ more) is none =
-      let begins : skip_leading_whitespace text ≡ c ∷ more = split ∙ ap (λ w. w ++ after) none ∙ is in
-      absurd (false≢true (sym (skip-stops text c more begins) ∙ white c more is))
+  words-trailing : (text back : List ℕ) → All (λ c. p c ≡ true) back → words (text ++ back) ≡ words text
+  words-trailing text [] all = ap words (append-nil text)
+  words-trailing text (c ∷ back) all =
+      words-around text c back (All-head (λ d. p d ≡ true) c back all)
+      ∙ ap (λ ws. words text ++ ws) (ap words (sym (append-nil back)) ∙ words-spaces back [] (All-tail (λ d. p d ≡ true) c back all))
+      ∙ append-nil (words text)
 
-  pub words-none : word ≡ [] → (words text ≡ []) × (words after ≡ [])
-  words-none none =
-      let nothing = ended after refl none in
-      (sym (words-skip text) ∙ ap words (split ∙ ap (λ w. w ++ after) none ∙ nothing), ap words nothing)
+module _ (p : ℕ → Bool) (says : ℕ → Bool → Type 0) (answers : AnswersBy says p) where
+  passed : (text : List ℕ) → SaysOfEach says true text → All (λ c. p c ≡ true) text
+  passed text each = All-weaker (λ c. says c true) (λ c. p c ≡ true) (λ c is. sym (answers c true is)) text each
 
--- there are at most as many words as substrings
-pub length-words : (text : List ℕ) → length (words text) ≤ length (slice_split is_whitespace text)
-length-words text =
-    omega (arith, length-filter not_empty (slice_split is_whitespace text), count_by-le-length not_empty (slice_split is_whitespace text))
+  missed : (text : List ℕ) → SaysOfEach says false text → All (λ c. p c ≡ false) text
+  missed text each = All-weaker (λ c. says c false) (λ c. p c ≡ false) (λ c is. sym (answers c false is)) text each
 
--- ---- a loop over the characters of a word
-pub record IsWordSoFar (text rest : List ℕ) : Type 0 where
-  pub word : List ℕ
-  pub split : text ≡ word ++ rest
-  pub lacks : All (λ c. is_whitespace c ≡ false) word
+  words-one : (word : List ℕ) → SaysOfEach says false word → word ≢ [] → words p word ≡ word ∷ []
+  words-one word lacks some = ap (filter not_empty) (slice_split_none p word (missed word lacks)) ∙ kept word [] some
 
-pub word-start : (text : List ℕ) → IsWordSoFar text text
-word-start text = record { word = []; split = refl; lacks = All-nil (λ c. is_whitespace c ≡ false) }
+  module _ (text trimmed : List ℕ) (start : IsTrimmedStartWith says text trimmed) where
+    from-start : words p text ≡ words p trimmed
+    from-start = ap (words p) start.split ∙ words-spaces p start.front trimmed (passed start.front start.trimmed)
 
-pub word-step : (text rest : List ℕ) (c : ℕ) (more : List ℕ) → IsWordSoFar text rest → rest ≡ c ∷ more → is_whitespace c ≡ false → IsWordSoFar text more
-word-step text rest c more so_far is other = record {
-  word = so_far.word ++ c ∷ [];
-  split = so_far.split ∙ ap (λ t. so_far.word ++ t) is ∙ sym (append_assoc so_far.word (c ∷ []) more);
-  lacks = All-push (λ d. is_whitespace d ≡ false) so_far.word c so_far.lacks other;
-}
+    pub first-none : trimmed ≡ [] → words p text ≡ []
+    first-none none = from-start ∙ ap (words p) none
+
+    pub first-only : SaysOfEach says false trimmed → trimmed ≢ [] → words p text ≡ trimmed ∷ []
+    first-only lacks some = from-start ∙ words-one trimmed lacks some
+
+    module _ (word after : List ℕ) (cut : IsCutWith says trimmed word after) where
+      pub first-some : word ≢ []
+      first-some none =
+          false≢true (answers _ _ (start.stops cut.delimiter after (cut.split ∙ ap (λ w. w ++ cut.delimiter ∷ after) none)) ∙ sym (answers _ _ cut.here))
+
+      pub first-cut : words p text ≡ word ∷ words p after
+      first-cut =
+          from-start ∙ ap (words p) cut.split
+          ∙ ap (filter not_empty) (slice_split_at p word cut.delimiter after (missed word cut.before) (sym (answers _ _ cut.here)))
+          ∙ kept word (slice_split p after) first-some
+
+  module _ (text trimmed : List ℕ) (end : IsTrimmedEndWith says text trimmed) where
+    from-end : words p text ≡ words p trimmed
+    from-end = ap (words p) end.split ∙ words-trailing p trimmed end.back (passed end.back end.trimmed)
+
+    pub last-none : trimmed ≡ [] → words p text ≡ []
+    last-none none = from-end ∙ ap (words p) none
+
+    pub last-only : SaysOfEach says false trimmed → trimmed ≢ [] → words p text ≡ trimmed ∷ []
+    last-only lacks some = from-end ∙ words-one trimmed lacks some
+
+    module _ (before word : List ℕ) (cut : IsLastCutWith says trimmed before word) where
+      pub last-some : word ≢ []
+      last-some none =
+          false≢true (answers _ _ (end.stops before cut.delimiter (cut.split ∙ ap (λ w. before ++ cut.delimiter ∷ w) none)) ∙ sym (answers _ _ cut.here))
+
+      pub last-cut : words p text ≡ words p before ++ word ∷ []
+      last-cut =
+          from-end ∙ ap (words p) cut.split ∙ words-around p before cut.delimiter word (sym (answers _ _ cut.here))
+          ∙ ap (λ ws. words p before ++ ws) (words-one word cut.after last-some)

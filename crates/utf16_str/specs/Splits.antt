@@ -93,10 +93,14 @@ abbrev pub lines_left : Option (List ℕ) → List (List ℕ)
 lines_left None = []
 lines_left (Some rest) = lines rest
 
--- the words of a text, as in the documentation of `str::split_whitespace`: the substrings of the
--- text split at each white space, without those that are empty
+-- the substrings of a text split at each character that passes a test, without those that are empty
+abbrev pub words_by : (ℕ → Bool) → List ℕ → List (List ℕ)
+words_by p text = filter (λ word. nat_lt 0 (length word)) (slice_split p text)
+
+-- the words of a text, as in the documentation of `str::split_whitespace`: white space is between
+-- them
 abbrev pub words : List ℕ → List (List ℕ)
-words text = filter (λ word. nat_lt 0 (length word)) (slice_split is_whitespace text)
+words text = words_by is_whitespace text
 
 -- a text is empty, or its last character has a property
 abbrev pub EndsWithAny : (ℕ → Type 0) → List ℕ → Type 0

@@ -1,7 +1,7 @@
 //! The white space of ASCII at the ends of a text, and the words between it. It is U+0009, U+000A,
 //! U+000C, U+000D and U+0020, as in `char::is_ascii_whitespace`.
 
-ghost use Rattle.std.specs.Prelude.{◌≡◌, ◌≢◌, ◌++◌, ◌-◌, ◌∷◌, ◌<◌, ◌^◌, [], List, drop, length, take, ℕ};
+ghost use Rattle.std.specs.Prelude.{◌≡◌, ◌-◌, ◌<◌, ◌^◌, List, drop, length, take, ℕ};
 ghost use Rattle.std.specs.Char.{is_ascii_whitespace};
 ghost use Rattle.std.specs.Iterator.{YieldsFirstBy, YieldsLastBy, item_count};
 ghost use Rattle.utf16_str.specs.AsciiWords.{SaysIsAsciiWhitespace, ascii_words};
@@ -35,7 +35,7 @@ impl<'a, E: Utf16Order> Iterator for WStrSplitAsciiWhitespace<'a, E> {
     ghost remaining = { item_count (λ rest. rest) };
 
     fn next(&mut self) -> Option<WStr<'a, E>> {
-        let (word, after) = self.rest.split_first_ascii_word();
+        let (word, after) = self.rest.split_first_word_by(&is_space);
         self.rest = after;
         if word.is_empty() {
             return None;
@@ -48,7 +48,7 @@ impl<'a, E: Utf16Order> DoubleEndedIterator for WStrSplitAsciiWhitespace<'a, E> 
     ghost next_back_gives = { YieldsLastBy wstr_text (λ rest. rest) };
 
     fn next_back(&mut self) -> Option<WStr<'a, E>> {
-        let (before, word) = self.rest.split_last_ascii_word();
+        let (before, word) = self.rest.split_last_word_by(&is_space);
         self.rest = before;
         if word.is_empty() {
             return None;
@@ -136,36 +136,6 @@ impl<'a, E: Utf16Order> WStr<'a, E> {
         ensures within_back { YieldsPartsOfBack self.entry result }
     {
         WStrSplitAsciiWhitespace { rest: self }
-    }
-
-    // Returns the first word, and a text that has the other words. If there are no words, both are
-    // empty.
-    fn split_first_ascii_word(self) -> (Self, Self)
-        ensures some { wstr_text result.0 ≢ [] → ascii_words (wstr_text self.entry)
-            ≡ wstr_text result.0 ∷ ascii_words (wstr_text result.1) }
-        ensures none { wstr_text result.0 ≡ [] → (ascii_words (wstr_text self.entry) ≡ [])
-            × (ascii_words (wstr_text result.1) ≡ []) }
-    {
-        let trimmed = self.trim_ascii_start();
-        match trimmed.cut_by(&is_space) {
-            Some(cut) => cut,
-            None => trimmed.split_at(trimmed.len()),
-        }
-    }
-
-    // Returns a text that has the other words, and the last word. If there are no words, both are
-    // empty.
-    fn split_last_ascii_word(self) -> (Self, Self)
-        ensures some { wstr_text result.1 ≢ [] → ascii_words (wstr_text self.entry)
-            ≡ ascii_words (wstr_text result.0) ++ wstr_text result.1 ∷ [] }
-        ensures none { wstr_text result.1 ≡ [] → (ascii_words (wstr_text self.entry) ≡ [])
-            × (ascii_words (wstr_text result.0) ≡ []) }
-    {
-        let trimmed = self.trim_ascii_end();
-        match trimmed.cut_last_by(&is_space) {
-            Some(cut) => cut,
-            None => trimmed.split_at(0),
-        }
     }
 }
 

@@ -1,9 +1,10 @@
 //! The words of a text: what is between white space.
 
-ghost use Rattle.std.specs.Prelude.{◌≡◌, ◌++◌, ◌∷◌, ◌<◌, ◌^◌, All, List, false, length, true, ℕ};
+ghost use Rattle.std.specs.Prelude.{◌≡◌, ◌≢◌, ◌++◌, ◌∷◌, ◌<◌, ◌^◌, [], Bool, List, length, ℕ};
 ghost use Rattle.std.specs.Char.{is_whitespace};
 ghost use Rattle.std.specs.Iterator.{YieldsFirstBy, YieldsLastBy, item_count};
-ghost use Rattle.utf16_str.specs.Splits.{EndsWithAny, YieldsPartsOf, YieldsPartsOfBack, YieldsTexts, YieldsTextsBack, words};
+ghost use Rattle.utf16_str.specs.Predicates.{AnswersBy};
+ghost use Rattle.utf16_str.specs.Splits.{YieldsPartsOf, YieldsPartsOfBack, YieldsTexts, YieldsTextsBack, words, words_by};
 ghost use Rattle.utf16_str.specs.WStr.{wstr_text};
 
 use crate::WStr;
@@ -32,7 +33,7 @@ impl<'a, E: Utf16Order> Iterator for WStrSplitWhitespace<'a, E> {
     ghost remaining = { item_count (λ rest. rest) };
 
     fn next(&mut self) -> Option<WStr<'a, E>> {
-        let (word, after) = self.rest.trim_start().split_word();
+        let (word, after) = self.rest.split_first_word_by(&is_space);
         self.rest = after;
         if word.is_empty() {
             return None;
@@ -45,7 +46,7 @@ impl<'a, E: Utf16Order> DoubleEndedIterator for WStrSplitWhitespace<'a, E> {
     ghost next_back_gives = { YieldsLastBy wstr_text (λ rest. rest) };
 
     fn next_back(&mut self) -> Option<WStr<'a, E>> {
-        let (before, word) = self.rest.trim_end().split_last_word();
+        let (before, word) = self.rest.split_last_word_by(&is_space);
         self.rest = before;
         if word.is_empty() {
             return None;
@@ -76,36 +77,46 @@ impl<'a, E: Utf16Order> WStr<'a, E> {
         WStrSplitWhitespace { rest: self }
     }
 
-    // The text before its first white space, and the text from there on.
-    fn split_word(self) -> (WStr<'a, E>, WStr<'a, E>)
-        ensures joined { wstr_text self.entry ≡ wstr_text result.0 ++ wstr_text result.1 }
-        ensures word { All (λ c. is_whitespace c ≡ false) (wstr_text result.0) }
-        ensures rest { (c : ℕ) (more : List ℕ) → wstr_text result.1 ≡ c ∷ more
-            → is_whitespace c ≡ true }
+    // Returns the first word between characters for which a test is true, and a text that has the
+    // other words. If there are no words, both are empty.
+    pub(crate) fn split_first_word_by<F: Fn(char) -> bool>(self, is_space: &F) -> (Self, Self)
+        requires { F.IsAlwaysCallable is_space.now }
+        ensures some { (p : ℕ → Bool) → AnswersBy (F.post is_space.now) p
+            → wstr_text result.0 ≢ [] → words_by p (wstr_text self.entry)
+            ≡ wstr_text result.0 ∷ words_by p (wstr_text result.1) }
+        ensures none { (p : ℕ → Bool) → AnswersBy (F.post is_space.now) p
+            → wstr_text result.0 ≡ [] → (words_by p (wstr_text self.entry) ≡ [])
+            × (words_by p (wstr_text result.1) ≡ []) }
     {
-        let mut rest = self;
-        while let Some((c, more)) = rest.split_first() {
-            if c.is_whitespace() {
-                return self.split_at(self.len() - rest.len());
-            }
-            rest = more;
+        let trimmed = self.trim_start_by(is_space);
+        match trimmed.cut_by(is_space) {
+            Some(cut) => cut,
+            None => trimmed.split_at(trimmed.len()),
         }
-        (self, rest)
     }
 
-    // The text up to its last white space, and the text after that.
-    fn split_last_word(self) -> (WStr<'a, E>, WStr<'a, E>)
-        ensures joined { wstr_text self.entry ≡ wstr_text result.0 ++ wstr_text result.1 }
-        ensures word { All (λ c. is_whitespace c ≡ false) (wstr_text result.1) }
-        ensures rest { EndsWithAny (λ c. is_whitespace c ≡ true) (wstr_text result.0) }
+    // Returns a text that has the other words, and the last word. If there are no words, both are
+    // empty.
+    pub(crate) fn split_last_word_by<F: Fn(char) -> bool>(self, is_space: &F) -> (Self, Self)
+        requires { F.IsAlwaysCallable is_space.now }
+        ensures some { (p : ℕ → Bool) → AnswersBy (F.post is_space.now) p
+            → wstr_text result.1 ≢ [] → words_by p (wstr_text self.entry)
+            ≡ words_by p (wstr_text result.0) ++ wstr_text result.1 ∷ [] }
+        ensures none { (p : ℕ → Bool) → AnswersBy (F.post is_space.now) p
+            → wstr_text result.1 ≡ [] → (words_by p (wstr_text self.entry) ≡ [])
+            × (words_by p (wstr_text result.0) ≡ []) }
     {
-        let mut rest = self;
-        while let Some((c, front)) = rest.split_last() {
-            if c.is_whitespace() {
-                return self.split_at(rest.len());
-            }
-            rest = front;
+        let trimmed = self.trim_end_by(is_space);
+        match trimmed.cut_last_by(is_space) {
+            Some(cut) => cut,
+            None => trimmed.split_at(0),
         }
-        (rest, self)
     }
+}
+
+// Whether a character is white space.
+fn is_space(c: char) -> bool
+    ensures { result ≡ is_whitespace c }
+{
+    c.is_whitespace()
 }

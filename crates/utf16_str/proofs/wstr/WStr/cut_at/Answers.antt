@@ -1,4 +1,4 @@
-use Rattle.std.proofs.Common.{sym, ◌∙◌}
+use Rattle.std.proofs.Common.{◌∙◌}
 use Rattle.utf16_str.specs.WStr.{wstr_text}
 use Rattle.utf16_str.proofs.PredicateCuts.{cut-around}
 use Rattle.utf16_str.proofs.wstr.WStr.cut_at.Goals as goal

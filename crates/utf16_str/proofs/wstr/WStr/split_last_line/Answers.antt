@@ -3,8 +3,7 @@ use Rattle.utf16_units.specs.Encoding.{size}
 use Rattle.utf16_units.proofs.EncodingLemmas.{size-append, size-nil}
 use Rattle.utf16_str.specs.WStr.{wstr_text}
 use Rattle.utf16_str.proofs.AffixLemmas.{IsCutBetween, cut_between}
-use Rattle.utf16_str.proofs.AroundLemmas.{no_last}
-use Rattle.utf16_str.proofs.LastWord.{one_end}
+use Rattle.utf16_str.proofs.AroundLemmas.{no_last, one_end}
 use Rattle.utf16_str.proofs.wstr.WStr.split_last_line.Given.{Over}
 use Rattle.utf16_str.proofs.wstr.WStr.split_last_line.Goals as goal
 use Rattle.utf16_str.proofs.wstr.WStr.split_last_line.Goals.{After-len-2}

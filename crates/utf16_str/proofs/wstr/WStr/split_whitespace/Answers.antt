@@ -1,15 +1,16 @@
 use Rattle.std.proofs.Common.{arith}
 use Rattle.std.specs.Char.{is_whitespace}
 use Rattle.utf16_str.specs.WStr.{wstr_bytes, wstr_text}
-use Rattle.utf16_str.proofs.SplitLemmas.{parts-bound, text_runs, text_runs_back}
-use Rattle.utf16_str.proofs.WordLemmas.{length-words}
+use Rattle.utf16_str.proofs.SplitLemmas.{text_runs, text_runs_back}
+use Rattle.utf16_str.proofs.PartsCount.{few-chars, few-words}
 use Rattle.utf16_str.proofs.PartWindows.{yields_parts, yields_parts_back}
 use Rattle.utf16_str.proofs.WithinLemmas.{within-words}
 use Rattle.utf16_str.proofs.wstr.WStr.split_whitespace.Goals as goal
 
 pub returns-clause-bound : goal.returns-clause-bound
 returns-clause-bound g c =
-    omega (arith, length-words (wstr_text c.args.self), parts-bound g.E.Utf16Order.BIG (wstr_bytes c.args.self) is_whitespace c.args.self.well_formed (omega arith))
+    let few = few-chars g.E.Utf16Order.BIG (wstr_bytes c.args.self) c.args.self.well_formed in
+    omega (arith, few-words is_whitespace (wstr_text c.args.self))
 
 pub returns-clause-runs : goal.returns-clause-runs
 returns-clause-runs g c = text_runs wstr_text

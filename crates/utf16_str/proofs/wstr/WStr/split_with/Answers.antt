@@ -1,5 +1,5 @@
 use Rattle.std.proofs.Common.{arith, refl}
-use Rattle.utf16_str.specs.WStr.{wstr_bytes, wstr_text}
+use Rattle.utf16_str.specs.WStr.{wstr_bytes}
 use Rattle.utf16_str.proofs.PredicateSplitRuns.{split_runs, split_runs_back}
 use Rattle.utf16_str.proofs.PartsCount.{few-chars}
 use Rattle.utf16_str.proofs.wstr.WStr.split_with.Goals as goal
