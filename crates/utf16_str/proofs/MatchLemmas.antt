@@ -1,5 +1,5 @@
 -- What is made of the substrings between occurrences of a part, one by one.
-use Rattle.std.proofs.Common.{◌≡◌, ℕ, zero, suc, ◌+◌, ◌-◌, ◌<◌, ◌≤◌, cond, eqb, false, List, [], ◌∷◌, ◌++◌, length, refl, ap, arith}
+use Rattle.std.proofs.Common.{◌≡◌, ℕ, zero, suc, ◌+◌, ◌-◌, ◌<◌, ◌≤◌, cond, eqb, false, List, [], ◌∷◌, ◌++◌, length, refl, ap, ap₂, arith, sym, ◌∙◌}
 use Rattle.utf16_units.specs.Encoding.{size}
 use Rattle.utf16_str.specs.Matches.{limited, match_offsets, rmatch_offsets, with_terminators, without_empty_last}
 
@@ -76,6 +76,21 @@ module _ (part : List ℕ) where
       → rmatch_offsets part end (text ∷ parts) ≡ (end - size text - size part, part) ∷ rmatch_offsets part (end - size text - size part) parts
   roffsets-more end text [] some = absurd (omega (arith, some))
   roffsets-more end text (next ∷ parts) some = refl
+
+  -- an iterator that yields an occurrence yields the first one
+  pub offsets-step : (offset : ℕ) (text found : List ℕ) (parts : List (List ℕ)) (at next : ℕ) → 0 < length parts → at ≡ offset + size text → found ≡ part
+      → next ≡ offset + size text + size part → match_offsets part offset (text ∷ parts) ≡ (at, found) ∷ match_offsets part next parts
+  offsets-step offset text found parts at next some here is past =
+      offsets-more offset text parts some
+      ∙ ap₂ (λ i t. (i, t) ∷ match_offsets part (offset + size text + size part) parts) (sym here) (sym is)
+      ∙ ap (λ n. (at, found) ∷ match_offsets part n parts) (sym past)
+
+  pub roffsets-step : (end : ℕ) (text found : List ℕ) (parts : List (List ℕ)) (at next : ℕ) → 0 < length parts → at ≡ end - size text - size part → found ≡ part
+      → next ≡ end - size text - size part → rmatch_offsets part end (text ∷ parts) ≡ (at, found) ∷ rmatch_offsets part next parts
+  roffsets-step end text found parts at next some here is past =
+      roffsets-more end text parts some
+      ∙ ap₂ (λ i t. (i, t) ∷ rmatch_offsets part (end - size text - size part) parts) (sym here) (sym is)
+      ∙ ap (λ n. (at, found) ∷ rmatch_offsets part n parts) (sym past)
 
   pub length-offsets : (offset : ℕ) (parts : List (List ℕ)) → length (match_offsets part offset parts) ≤ length parts
   length-offsets offset [] = omega arith

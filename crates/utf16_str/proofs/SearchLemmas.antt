@@ -1,9 +1,10 @@
 -- What a search in the bytes of a text says of its characters.
-use Rattle.std.proofs.Common.{◌≡◌, ℕ, ◌+◌, Bool, List, ◌++◌, Option, None, Some, IfSome, sym, ◌∙◌, IsTrue, ◌↔◌}
+use Rattle.std.proofs.Common.{◌≡◌, ℕ, ◌+◌, All, Bool, List, ◌++◌, Option, None, Some, IfSome, refl, sym, ◌∙◌, IsTrue, ◌↔◌}
+use Rattle.std.specs.Char.{IsScalar}
 use Rattle.std.specs.Option.{is_some}
 use Rattle.std.proofs.lemmas.Bool.{false≢true}
 use Rattle.utf16_units.specs.Boundary.{OccursIn, text_from, text_to}
-use Rattle.utf16_units.specs.Encoding.{Encodes, size}
+use Rattle.utf16_units.specs.Encoding.{Encodes, encode, size}
 use Rattle.utf16_bytes.specs.Occurrence.{IsFirst, IsLast, IsOccurrence}
 use Rattle.utf16_bytes.proofs.OccurrenceLemmas.{occurrence_in_text, text_around}
 use Rattle.utf16_bytes.proofs.PatternLemmas.{between_parts}
@@ -28,6 +29,11 @@ module _ (big : Bool) (text part bytes part_bytes : List ℕ) (e : Encodes big t
   pub last_in_text : (r : Option ℕ) → IsLast InBytes r → IsLast InText r
   last_in_text None none = λ i o. none i (into i o)
   last_in_text (Some at) found = (out at found.0, λ i less o. found.1 i less (into i o))
+
+-- the same for the encoding of a part
+pub first_of_part : (big : Bool) (text part bytes : List ℕ) → Encodes big text bytes → All IsScalar part → (r : Option ℕ)
+    → IsFirst (λ at. IsOccurrence big bytes (encode big part) at) r → IsFirst (λ at. OccursIn text at part) r
+first_of_part big text part bytes e scalars = first_in_text big text part bytes (encode big part) e (record { scalars = scalars; spelled = refl })
 
 -- so the text is what is before the part, the part, and what is after it
 abbrev pub IsAround : List ℕ → List ℕ → ℕ → Type 0

@@ -1,4 +1,4 @@
-use Rattle.std.proofs.Common.{◌≡◌, ◌∙◌, ◌+◌, ◌++◌, ◌∷◌, None, ap, arith, option_map, sym}
+use Rattle.std.proofs.Common.{◌≡◌, ◌∙◌, ◌+◌, ◌++◌, None, ap, arith, option_map, sym}
 use Rattle.utf16_units.specs.Boundary.{text_from}
 use Rattle.utf16_units.specs.Encoding.{size}
 use Rattle.utf16_units.proofs.EncodingLemmas.{size-append}
@@ -6,7 +6,7 @@ use Rattle.utf16_str.specs.Matches.{left_size, left_text, match_offsets}
 use Rattle.utf16_str.specs.Splits.{parts_left}
 use Rattle.utf16_str.specs.WStr.{wstr_text}
 use Rattle.utf16_str.proofs.AffixLemmas.{IsCutBetween, cut_between}
-use Rattle.utf16_str.proofs.MatchLemmas.{offsets-more}
+use Rattle.utf16_str.proofs.MatchLemmas.{offsets-step}
 use Rattle.utf16_str.proofs.NextLemmas.{closing-some, left-some, mapped-some, size-left}
 use Rattle.utf16_str.proofs.SplitLemmas.{progress-part}
 use Rattle.utf16_str.proofs.matches.WStrMatchIndicesIterator.next.Given.{Over}
@@ -37,31 +37,24 @@ pub overflow_add-offset : goal.overflow_add-offset
 overflow_add-offset g c = omega (arith, c.self.invariant, sizes g c, long g c, c.len.ensures.size)
 
 pub overflow_add-self : goal.overflow_add-self
-overflow_add-self g c =
-    let at = (goal.at.overflow_add-self g c).After-len in
-    omega (arith, c.self.invariant, sizes g at, c.len-2.ensures.size)
+overflow_add-self g c = omega (arith, c.self.invariant, sizes g (goal.at.overflow_add-self g c).After-len, c.len-2.ensures.size)
 
 pub invariant_of-self-2 : goal.invariant_of-self-2
-invariant_of-self-2 g c =
-    let at = (goal.at.invariant_of-self-2 g c).After-len in
-    omega (arith, c.self.invariant, sizes g at, c.len-2.ensures.size)
+invariant_of-self-2 g c = omega (arith, c.self.invariant, sizes g (goal.at.invariant_of-self-2 g c).After-len, c.len-2.ensures.size)
 
 pub returns-clause-steps : goal.returns-clause-steps
 returns-clause-steps g c =
     let at = (goal.at.returns-clause-steps g c).After-len in
     let part = g.P.Pattern.part c.next_part.new.self.pattern in
     let offset = c.self.inside.offset in
-    let more = parts_left part c.next_part.new.self.begun (option_map wstr_text c.next_part.new.self.rest) in
     let again : c.len-3.result ≡ c.len.result = c.len-3.ensures.size ∙ sym c.len.ensures.size in
     let found : wstr_text c.split_at.result.1 ≡ part = c.split_at.ensures.back ∙ ap (text_from (wstr_text c.in_ok-part.closed)) again ∙ (cut g at).from in
-    let past : offset + size (wstr_text c.in_ok-part.part) + size part ≡ offset + c.len-2.result = omega (arith, long g at, c.len-2.ensures.size) in
     sym c.self.view_is
     ∙ ap (λ p. match_offsets (g.P.Pattern.part p) offset (parts_left (g.P.Pattern.part c.self.inside.left.pattern) c.self.inside.left.begun (option_map wstr_text c.self.inside.left.rest))) (sym c.in_ok-part.ensures.pattern)
     ∙ ap (match_offsets part offset) c.in_ok-part.ensures.parts
-    ∙ offsets-more part offset (wstr_text c.in_ok-part.part) more (left-some part c.next_part.new.self.begun (option_map wstr_text c.next_part.new.self.rest) (some g at))
-    ∙ ap (λ n. (offset + n, part) ∷ match_offsets part (offset + size (wstr_text c.in_ok-part.part) + size part) more) (sym c.len.ensures.size)
-    ∙ ap (λ t. (offset + c.len.result, t) ∷ match_offsets part (offset + size (wstr_text c.in_ok-part.part) + size part) more) (sym found)
-    ∙ ap (λ n. (offset + c.len.result, wstr_text c.split_at.result.1) ∷ match_offsets part n more) past
+    ∙ offsets-step part offset (wstr_text c.in_ok-part.part) (wstr_text c.split_at.result.1) _ _ _
+    (left-some part c.next_part.new.self.begun (option_map wstr_text c.next_part.new.self.rest) (some g at))
+    (ap (λ n. offset + n) c.len.ensures.size) found (omega (arith, long g at, c.len-2.ensures.size))
 
 pub returns-clause-goes : goal.returns-clause-goes
 returns-clause-goes g c = progress-part _ (λ _. tt) _ _ _ _ (returns-clause-steps g c)

@@ -1,7 +1,6 @@
 use Rattle.std.proofs.Common.{◌≡◌, ◌↔◌, List, ℕ, None, Some, refl, subst, sym}
 use Rattle.std.specs.Option.{IsNone, is_some}
 use Rattle.utf16_units.specs.Boundary.{OccursIn, text_to}
-use Rattle.utf16_units.specs.Encoding.{encode}
 use Rattle.utf16_units.proofs.EncodingLemmas.{IsUtf16-from_Encodes}
 use Rattle.utf16_bytes.specs.Occurrence.{IsFirst}
 use Rattle.utf16_str.specs.Found.{has_part}
@@ -9,30 +8,19 @@ use Rattle.utf16_str.specs.Splits.{IsBeforeFirst, LacksPart}
 use Rattle.utf16_str.specs.WStr.{wstr_text}
 use Rattle.utf16_str.proofs.FirstLemmas.{before_first, lacks_part, lacks_part-not}
 use Rattle.utf16_str.proofs.FoundLemmas.{around_part, found_is, has-there, without_part}
-use Rattle.utf16_str.proofs.SearchLemmas.{first_in_text}
+use Rattle.utf16_str.proofs.SearchLemmas.{first_of_part}
 use Rattle.utf16_str.proofs.wstr.WStr.split_once.Given.{Over}
 use Rattle.utf16_str.proofs.wstr.WStr.split_once.Goals as goal
 use Rattle.utf16_str.proofs.wstr.WStr.split_once.Goals.{In_err-at, In_ok-at}
 
 in_text : (g : Over) (c : In_ok-at g) → IsFirst (λ i. OccursIn (wstr_text c.args.self) i (g.P.Pattern.part c.args.delimiter)) (Some c.in_ok-at.at)
-in_text g c =
-    let big = g.E.Utf16Order.BIG in
-    let part = g.P.Pattern.part c.args.delimiter in
-    first_in_text big (wstr_text c.args.self) part c.as_bytes.result.now (encode big part) c.as_bytes.ensures.encoding
-    (record { scalars = c.in_ok-at.ensures.scalars; spelled = refl }) (Some c.in_ok-at.at) c.in_ok-at.ensures.first
+in_text g c = first_of_part _ _ (g.P.Pattern.part c.args.delimiter) _ c.as_bytes.ensures.encoding c.in_ok-at.ensures.scalars (Some c.in_ok-at.at) c.in_ok-at.ensures.first
 
 not_in_text : (g : Over) (c : In_err-at g) → IsFirst (λ i. OccursIn (wstr_text c.args.self) i (g.P.Pattern.part c.args.delimiter)) None
-not_in_text g c =
-    let big = g.E.Utf16Order.BIG in
-    let part = g.P.Pattern.part c.args.delimiter in
-    first_in_text big (wstr_text c.args.self) part c.as_bytes.result.now (encode big part) c.as_bytes.ensures.encoding
-    (record { scalars = c.in_err-at.ensures.scalars; spelled = refl }) None c.in_err-at.ensures.first
+not_in_text g c = first_of_part _ _ (g.P.Pattern.part c.args.delimiter) _ c.as_bytes.ensures.encoding c.in_err-at.ensures.scalars None c.in_err-at.ensures.first
 
 first : (g : Over) (c : In_ok-at g) (front : List ℕ) → front ≡ text_to (wstr_text c.args.self) c.in_ok-at.at → IsBeforeFirst (g.P.Pattern.part c.args.delimiter) (wstr_text c.args.self) front
-first g c front is =
-    let part = g.P.Pattern.part c.args.delimiter in
-    let text = wstr_text c.args.self in
-    subst (IsBeforeFirst part text) (sym is) (before_first part text _ (in_text g c))
+first g c front is = subst (IsBeforeFirst _ _) (sym is) (before_first _ _ _ (in_text g c))
 
 pub next_in-requires : goal.next_in-requires
 next_in-requires g c = IsUtf16-from_Encodes _ _ _ c.as_bytes.ensures.encoding
@@ -49,9 +37,8 @@ returns-in_err-at-clause-none g c =
 
 pub returns-in_err-at-clause-value : goal.returns-in_err-at-clause-value
 returns-in_err-at-clause-value g c =
-    let text = wstr_text c.args.self in
-    let part = g.P.Pattern.part c.args.delimiter in
-    subst (λ o. is_some o ≡ has_part part text) (sym c.from_residual.ensures) (found_is text part None (not_in_text g (goal.at.returns-in_err-at-clause-value g c).In_err-at))
+    subst (λ o. is_some o ≡ has_part (g.P.Pattern.part c.args.delimiter) (wstr_text c.args.self)) (sym c.from_residual.ensures)
+    (found_is _ _ None (not_in_text g (goal.at.returns-in_err-at-clause-value g c).In_err-at))
 
 pub returns-in_err-at-clause-whole : goal.returns-in_err-at-clause-whole
 returns-in_err-at-clause-whole g c = λ _. without_part _ _ (lacks_part _ _ (not_in_text g (goal.at.returns-in_err-at-clause-whole g c).In_err-at))
