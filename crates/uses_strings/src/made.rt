@@ -1,6 +1,6 @@
 //! Strings made from views in another byte order, and from characters.
 
-ghost use Rattle.std.specs.Prelude.{◌≡◌, ◌==◌, ◌≤◌, [], ◌++◌, List, ℕ, IfOk, IsOk, OnErr, OnOk, reverse};
+ghost use Rattle.std.specs.Prelude.{◌≡◌, ◌==◌, ◌≤◌, [], ◌++◌, List, ℕ, IfOk, IsOk, OnErr, OnOk, reverse, take};
 ghost use Rattle.std.specs.List.{flat_map, slice_split};
 ghost use Rattle.utf16_units.specs.Edit.{push_text};
 ghost use Rattle.utf16string.specs.Encoding.{Encodes};
@@ -56,6 +56,9 @@ pub fn push_fields<E: Utf16Order, A: Allocator>(
 ) -> Result<(), AllocError>
     ensures text { OnOk result (wstring_text string.new ≡ push_text (wstring_text string.old)
         (flat_map (λ field. field) (slice_split (λ c. c == 44) (wstr_text line.entry)))) }
+    ensures err { OnErr result ((n : ℕ) × (wstring_text string.new
+        ≡ push_text (wstring_text string.old) (flat_map (λ field. field)
+        (take n (slice_split (λ c. c == 44) (wstr_text line.entry)))))) }
     ensures stays { wstring_bytes string.new ≡ wstring_bytes string.old
         → wstring_capacity string.new ≡ wstring_capacity string.old }
     ensures grows { wstring_capacity string.old ≤ wstring_capacity string.new }
@@ -63,8 +66,7 @@ pub fn push_fields<E: Utf16Order, A: Allocator>(
     Extend::extend(string, line.split(','))
 }
 
-/// Returns a text without commas. It does not fail, and takes no memory, if the text is empty or has
-/// only commas.
+/// Returns a text without commas. An empty result takes no memory.
 pub fn without_commas<E: Utf16Order, A: Allocator>(
     alloc: A,
     text: WStr<E>,
