@@ -11,7 +11,7 @@ ghost use Rattle.utf16_units.specs.Encoding.{encode, size};
 
 use crate::text::{SLACK, write_text};
 use std::alloc::{AllocError, Allocator};
-use utf16_units::ladder::{FEW_TEXT, PIECE_LEN, SHORT_TEXT};
+use utf16_units::ladder::{FEW_TEXT, PIECE_LEN, SHORT_TEXT, Strategy, strategy_for};
 use utf16_units::{Utf16Order, utf16_len};
 
 /// Appends a text in UTF-16 to `raw`. It does not fail, because the capacity suffices.
@@ -32,10 +32,10 @@ pub fn extend_utf16<E: Utf16Order, A: Allocator>(
     ensures ok { IsOk result }
     ensures grows { vec_capacity raw.old ≤ vec_capacity raw.new }
 {
-    if s.len() <= SHORT_TEXT {
-        append_short::<E, A>(raw, s)
-    } else {
-        extend_long::<E, A>(raw, s)
+    match strategy_for(s.len()) {
+        Strategy::Chars => append_few::<E, A>(raw, s),
+        Strategy::Short => append_short::<E, A>(raw, s),
+        Strategy::Blocks => extend_long::<E, A>(raw, s),
     }
 }
 
@@ -58,37 +58,32 @@ pub fn append_utf16<E: Utf16Order, A: Allocator>(
     ensures succeeds { vec_len raw.old + size (chars s.now) ≤ vec_capacity raw.old → IsOk result }
     ensures grows { vec_capacity raw.old ≤ vec_capacity raw.new }
 {
-    if s.len() <= SHORT_TEXT {
-        return append_short::<E, A>(raw, s);
+    match strategy_for(s.len()) {
+        Strategy::Chars => append_few::<E, A>(raw, s),
+        Strategy::Short => append_short::<E, A>(raw, s),
+        Strategy::Blocks => {
+            raw.reserve(utf16_len(s))?;
+            extend_long::<E, A>(raw, s)
+        }
     }
-    raw.reserve(utf16_len(s))?;
-    extend_long::<E, A>(raw, s)
 }
 
-// Appends a short text, which is converted before the length of its UTF-16 is known.
+// Appends a few characters.
 #[inline(always)]
-fn append_short<E: Utf16Order, A: Allocator>(
-    raw: &mut Vec<u8, A>,
-    s: &str,
-) -> Result<(), AllocError>
-    requires { length s.now ≤ SHORT_TEXT }
+fn append_few<E: Utf16Order, A: Allocator>(raw: &mut Vec<u8, A>, s: &str) -> Result<(), AllocError>
+    requires { length s.now ≤ FEW_TEXT }
     ensures items { OnOk result (raw.new.items ≡ raw.old.items ++ encode E.BIG (chars s.now)) }
     ensures err { OnErr result (VecUnchanged raw.old raw.new
         × (vec_capacity raw.new ≡ vec_capacity raw.old)) }
     ensures succeeds { vec_len raw.old + size (chars s.now) ≤ vec_capacity raw.old → IsOk result }
     ensures grows { vec_capacity raw.old ≤ vec_capacity raw.new }
 {
-    if s.len() < FEW_TEXT {
-        append_by::<E, A>(raw, s, &mut [0; 2 * FEW_TEXT + SLACK])
-    } else {
-        append_at_once::<E, A>(raw, s)
-    }
+    append_by::<E, A>(raw, s, &mut [0; 2 * FEW_TEXT + SLACK])
 }
 
-// Appends a short text of any length. Kept out of line so that a few characters do not pay for its
-// buffer.
+// Appends a short text. Kept out of line so that a few characters do not pay for its buffer.
 #[inline(never)]
-fn append_at_once<E: Utf16Order, A: Allocator>(
+fn append_short<E: Utf16Order, A: Allocator>(
     raw: &mut Vec<u8, A>,
     s: &str,
 ) -> Result<(), AllocError>

@@ -56,20 +56,6 @@ two-bytes before unit high =
     ap length (units-cons before unit [] ∙ ap (λ bs. unit_utf8 before unit ++ bs) (units-nil unit) ∙ append-nil (unit_utf8 before unit)
     ∙ unit-leading before unit (omega (arith, bounds.0)) (omega (arith, bounds.1)))
 
--- if little of the first part of the buffer is left, little is left of all of it
-little-left : (space len part size at end : ℕ) → space ≤ 128 → part ≡ min len (size / 2 * 3 + 128) → 2 * end ≤ 3 * at → at % 2 ≡ 0 → at ≤ size → part < end + space → len < end + space
-little-left space len part size at end most is short even within full = ⊎_elim
-    (λ (less : len < size / 2 * 3 + 128). omega (arith, is, less, full))
-    (λ (more : size / 2 * 3 + 128 ≤ len). absurd (omega (arith, is, most, more, short, even, within, full)))
-    (cases_lt len (size / 2 * 3 + 128))
-
-pub little-behind : (space size end : ℕ) (to new : List ℕ) (room at written : ℕ) → space ≤ 128 → room ≡ min (length to) (size / 2 * 3 + 128) → length new ≡ length (take room to)
-    → 2 * end ≤ 3 * at → at % 2 ≡ 0 → at ≤ size → end ≤ written + 2 → length new < end + space → length (new ++ drop room to) < written + (space + 2)
-little-behind space size end to new room at written most is long short even within near full =
-    let part = length-take room to in
-    let less = little-left space (length to) (length new) size at end most (omega (arith, long, part, is)) short even within full in
-    omega (arith, less, near, length-append new (drop room to), length-drop room to, long, part, is)
-
 -- if the next block is not paired, neither are the block and one more unit
 pub stops-more : (big : Bool) (raw : List ℕ) (at : ℕ) (leading : Bool) → leading ≡ false → (size : ℕ) → size % 2 ≡ 0 → BlocksStopAt size big raw at leading
     → BlocksStopAt (size + 2) big raw at false

@@ -1,6 +1,7 @@
 mod UnitLemmas
 mod AddedLemmas
 mod ListLemmas
+mod SpaceLemmas
 mod StoreLemmas
 mod PlaceLemmas
 mod WordLemmas

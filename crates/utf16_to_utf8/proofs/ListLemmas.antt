@@ -61,9 +61,3 @@ three_from fronts thirds i x y z long lt a b d =
 pub same_lanes : (lanes : List ℕ) → map (λ (n : ℕ). n) lanes ≡ lanes
 same_lanes [] = refl
 same_lanes (n ∷ lanes) = ap (λ ns. n ∷ ns) (same_lanes lanes)
-
--- ---- the steps of a writer: what was written and what is left to add are all
-
-pub wrote_all : (done all : List ℕ) (last : ℕ) (left : List ℕ) → left ≡ [] → done ++ units_utf8 last left ≡ all → done ≡ all
-wrote_all done all last left none e =
-    sym (append-nil done) ∙ ap (λ bs. done ++ bs) (sym (units-nil last)) ∙ ap (λ us. done ++ units_utf8 last us) (sym none) ∙ e

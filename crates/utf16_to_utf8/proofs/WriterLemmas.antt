@@ -1,14 +1,11 @@
 -- A step of the writer of a text: a block was written.
 use Rattle.std.proofs.Common.{◌≡◌, ℕ, ◌+◌, ◌*◌, ◌≤◌, ◌++◌, Bool, List, length, take, drop, slice_index, sym, ap, ◌∙◌, arith}
-use Rattle.std.proofs.lemmas.List.{drop_all}
 use Rattle.utf16_units.specs.Encoding.{units_of}
 use Rattle.utf16_units.proofs.UnitsUpTo.{units_of-behind}
 use Rattle.utf16_to_utf8.specs.Cursor.{Reached}
 use Rattle.utf16_to_utf8.specs.Utf8.{units_utf8}
 use Rattle.utf16_to_utf8.specs.declared.runs.Cursor.{Cursor}
 use Rattle.utf16_to_utf8.proofs.BlockLemmas.{wrote_units}
-use Rattle.utf16_to_utf8.proofs.ListLemmas.{wrote_all}
-use Rattle.utf16_to_utf8.proofs.TextLemmas.{no_units}
 
 -- the next n + 1 units were written
 pub reached-next : (n : ℕ) (big : Bool) (raw out new units : List ℕ) (from to : Cursor) → Reached big raw out from
@@ -27,8 +24,3 @@ reached-next n big raw out new units from to reached more long next at end last 
       written = rw (at, last) (wrote_units n done _ _ units left before long wrote
           (ap (λ us. done ++ units_utf8 before (us ++ left)) next ∙ ap (λ us. done ++ units_utf8 before us) (sym (units_of-behind big raw from.at (2 * (n + 1)) (omega arith) more)) ∙ reached.written));
     }
-
--- if all was read, all was written
-pub reached-all : (big : Bool) (raw out : List ℕ) (cursor : Cursor) → Reached big raw out cursor → length raw ≤ cursor.at → take cursor.end out ≡ units_utf8 0 (units_of big raw)
-reached-all big raw out cursor reached all =
-    wrote_all (take cursor.end out) (units_utf8 0 (units_of big raw)) (slice_index cursor.previous 7) (units_of big (drop cursor.at raw)) (no_units big (drop_all cursor.at raw all)) reached.written

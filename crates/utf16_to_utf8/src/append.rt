@@ -10,7 +10,7 @@ use crate::lens::utf8_len;
 use crate::write::{SLACK, write_utf8};
 use std::alloc::{AllocError, Allocator};
 use utf16_units::ends::first_char;
-use utf16_units::ladder::{FEW_TEXT, PIECE_LEN, SHORT_TEXT};
+use utf16_units::ladder::{FEW_TEXT, PIECE_LEN, SHORT_TEXT, Strategy, strategy_for};
 use utf16_units::{Utf16Order, is_trailing_surrogate};
 
 /// Returns a text, in UTF-8, as a new `String`.
@@ -26,7 +26,7 @@ use utf16_units::{Utf16Order, is_trailing_surrogate};
 ///
 /// # Complexity
 ///
-/// One pass over a text of at most 128 bytes, else two. Allocates once, for as many bytes as the
+/// One pass over a text of at most 192 bytes, else two. Allocates once, for as many bytes as the
 /// characters take, but at least eight, and not at all for the empty text.
 pub fn to_utf8<E: Utf16Order, A: Allocator>(raw: &[u8], alloc: A) -> Result<String<A>, AllocError>
     requires { IsUtf16 E.BIG raw.now }
@@ -87,7 +87,7 @@ fn make_piece<E: Utf16Order, A: Allocator>(
 ///
 /// # Complexity
 ///
-/// One pass if the text has 8 to 128 bytes, or if `to` has spare capacity of three bytes per code
+/// One pass if the text has 8 to 192 bytes, or if `to` has spare capacity of three bytes per code
 /// unit, else two. Allocates once, and not at all if the spare capacity suffices.
 #[inline]
 pub fn append_utf8<E: Utf16Order, A: Allocator>(
@@ -103,14 +103,16 @@ pub fn append_utf8<E: Utf16Order, A: Allocator>(
     ensures succeeds { string_len to.old + length (utf8_of E.BIG raw.now) ≤ string_capacity to.old
         → IsOk result }
 {
-    if raw.len() >= FEW_TEXT && raw.len() <= SHORT_TEXT {
-        return write_short::<E, A>(raw, to);
-    }
-    reserve_utf8::<E, A>(raw, to)?;
-    if raw.len() < FEW_TEXT {
-        write_few::<E, A>(raw, to)
-    } else {
-        write_pieces::<E, A>(raw, to)
+    match strategy_for(raw.len()) {
+        Strategy::Chars => {
+            reserve_utf8::<E, A>(raw, to)?;
+            write_few::<E, A>(raw, to)
+        }
+        Strategy::Short => write_short::<E, A>(raw, to),
+        Strategy::Blocks => {
+            reserve_utf8::<E, A>(raw, to)?;
+            write_pieces::<E, A>(raw, to)
+        }
     }
 }
 

@@ -12,9 +12,7 @@ use crate::blocks::{eight_are_basic, folded, lanes_below, lanes_from};
 use crate::groups::{absences, endings, narrow, outers, thirds, wide};
 use crate::lanes::previous_eight;
 use crate::pack::{ascii_bits, write_ascii, write_kept, write_pairs, write_threes};
-use crate::padded::moved_front;
 use crate::runs::Cursor;
-use crate::write::SLACK;
 use std::simd::prelude::*;
 use utf16_units::Utf16Order;
 use utf16_units::blocks::units8;
@@ -122,19 +120,6 @@ fn write_any_eight(
     write_kept(out, at, outers(units), endings, absences(units, surrogates))
 }
 
-// Writes the next eight units.
-#[inline(always)]
-pub(crate) fn write_next_eight<E: Utf16Order>(raw: &[u8], out: &mut [u8], from: Cursor) -> Cursor
-    requires space { from.end + 32 ≤ length out.old }
-    requires more { from.at + 16 ≤ length raw.now }
-    requires reached { Reached E.BIG raw.now out.old from }
-    ensures reached { Reached E.BIG raw.now out.new result }
-    ensures at { result.at ≡ from.at + 16 }
-{
-    let units = units8::<E>(u8x16::from_slice(&raw[from.at..]));
-    write_known_eight::<E>(raw, out, from, units, !eight_are_basic(units))
-}
-
 // Writes the next eight units, of which some are surrogates or none.
 #[inline(always)]
 pub(crate) fn write_known_eight<E: Utf16Order>(
@@ -185,20 +170,4 @@ pub(crate) fn write_padded<E: Utf16Order>(
     let units = units8::<E>(padded);
     let end = write_eight_units(out, at, previous, units, !eight_are_basic(units));
     end - (8 - len / 2)
-}
-
-// Writes the last units of a text, which are fewer than eight.
-#[inline(always)]
-pub(crate) fn write_last_units<E: Utf16Order>(raw: &[u8], out: &mut [u8], from: Cursor) -> usize
-    requires even { length raw.now % 2 ≡ 0 }
-    requires many { 16 ≤ length raw.now }
-    requires few { length raw.now ≤ from.at + 16 }
-    requires space { length raw.now / 2 * 3 + SLACK ≤ length out.old }
-    requires reached { Reached E.BIG raw.now out.old from }
-    ensures bytes { take result out.new ≡ units_utf8 0 (units_of E.BIG raw.now) }
-    ensures written_to { result ≤ length out.old }
-{
-    let len = raw.len() - from.at;
-    let last = u8x16::from_slice(&raw[raw.len() - 16..]);
-    write_padded::<E>(moved_front(last, len), len, out, from.end, from.previous)
 }

@@ -4,6 +4,7 @@
 
 mod append;
 mod blocks;
+mod chars;
 mod eights;
 mod few;
 mod groups;
@@ -14,12 +15,12 @@ mod pack;
 mod padded;
 mod places;
 mod runs;
-mod short;
 mod word_places;
 mod write;
 mod writers;
 
 pub use crate::append::{append_utf8, to_utf8};
+pub use crate::chars::{put, put_char};
 pub use crate::eights::write_eights;
 pub use crate::few::write_eight_ascii;
 pub use crate::lens::utf8_len;

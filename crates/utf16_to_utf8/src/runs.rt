@@ -53,6 +53,23 @@ pub(crate) struct Tested {
     pub(crate) leading: bool,
 }
 
+// The beginning of a text, of which nothing is validated and written yet.
+#[inline(always)]
+pub(crate) fn beginning<E: Utf16Order>(_raw: &[u8], _out: &[u8]) -> Tested
+    ensures at { result.cursor.at ≡ 0 }
+    ensures reached { Reached E.BIG _raw.now _out.now result.cursor }
+    ensures paired { PairedTo E.BIG _raw.now result.cursor.at result.leading }
+{
+    Tested {
+        cursor: Cursor {
+            at: 0,
+            end: 0,
+            previous: u16x8::splat(0),
+        },
+        leading: false,
+    }
+}
+
 // Writes the blocks at the start whose surrogates are paired, as far as they fit.
 #[inline(never)]
 pub(crate) fn write_paired<E: Utf16Order>(raw: &[u8], out: &mut [u8]) -> Tested
@@ -61,12 +78,10 @@ pub(crate) fn write_paired<E: Utf16Order>(raw: &[u8], out: &mut [u8]) -> Tested
     ensures stop { BlocksStopAt 64 E.BIG raw.now result.cursor.at result.leading
         ⊎ (length out.new < result.cursor.end + SLACK) }
 {
-    let mut cursor = Cursor {
-        at: 0,
-        end: 0,
-        previous: u16x8::splat(0),
-    };
-    let mut leading = false;
+    let Tested {
+        mut cursor,
+        mut leading,
+    } = beginning::<E>(raw, out);
     if raw.len() < 64 || out.len() < SLACK {
         return Tested { cursor, leading };
     }
@@ -102,23 +117,6 @@ fn write_plain<E: Utf16Order>(raw: &[u8], out: &mut [u8], from: Cursor) -> Curso
             break;
         }
         let next = write_known::<E>(raw, out, run.cursor, run.units, kind);
-        run = write_ascii_run::<E>(raw, out, next);
-    }
-    run.cursor
-}
-
-// Writes all blocks, as `out` has room for them.
-#[inline(always)]
-pub(crate) fn write_all<E: Utf16Order>(raw: &[u8], out: &mut [u8], from: Cursor) -> Cursor
-    requires many { 64 ≤ length raw.now }
-    requires space { length raw.now / 2 * 3 + SLACK ≤ length out.old }
-    requires reached { Reached E.BIG raw.now out.old from }
-    ensures reached { Reached E.BIG raw.now out.new result }
-    ensures all { length raw.now < result.at + 64 }
-{
-    let mut run = write_ascii_run::<E>(raw, out, from);
-    while !run.ended {
-        let next = write_known::<E>(raw, out, run.cursor, run.units, kind_of(run.units));
         run = write_ascii_run::<E>(raw, out, next);
     }
     run.cursor

@@ -1,20 +1,17 @@
 //! Writes a text into a buffer, in UTF-8.
 //!
-//! Fewer than four units are written one by one, four to seven as one vector from two reads that
-//! overlap, more by blocks. Copying a short text to a padded block on the stack takes longer than
-//! the text does.
+//! A text that is known to be well formed goes through the writers that validate. Writers without
+//! the tests would take four hundred lines of code and proof.
 
-ghost use Rattle.std.specs.Prelude.{◌≡◌, ◌+◌, ◌*◌, ◌/◌, ◌%◌, ◌<◌, ◌≤◌, ◌⊎◌, ◌++◌, ℕ, drop, false, length, slice_index, take};
-ghost use Rattle.utf16_units.specs.Encoding.{IsUtf16, units_of, utf8_of};
+ghost use Rattle.std.specs.Prelude.{◌≡◌, ◌+◌, ◌*◌, ◌/◌, ◌%◌, ◌<◌, ◌≤◌, ◌⊎◌, ℕ, drop, false, length, take};
+ghost use Rattle.utf16_units.specs.Encoding.{IsUtf16, utf8_of};
 ghost use Rattle.utf16_units.specs.Lanes.{BlocksStopAt, PairedTo};
-ghost use Rattle.utf16_to_utf8.specs.Utf8.{units_utf8};
 ghost use Rattle.utf16_to_utf8.specs.Cursor.{Reached};
 
-use crate::few::{write_last_units, write_next_eight, write_padded};
-use crate::padded::few_bytes;
-use crate::runs::{Cursor, Tested, write_all, write_paired};
-use crate::short::write_each;
-use std::simd::prelude::*;
+use crate::chars::write_chars;
+use crate::eights::write_rest;
+use crate::runs::{Tested, beginning, write_paired};
+use utf16_units::ladder::{Strategy, strategy_for};
 use utf16_units::{Moved, Utf16Order};
 
 /// The number of bytes that `write_utf8` needs beyond three per code unit.
@@ -42,7 +39,28 @@ pub fn write_utf8<E: Utf16Order>(raw: &[u8], to: &mut [u8]) -> usize
         ≡ drop (length raw.now / 2 * 3 + SLACK) to.old }
 {
     let room = raw.len() / 2 * 3 + SLACK;
-    write_units::<E>(raw, &mut to[..room])
+    write_whole::<E>(raw, &mut to[..room])
+}
+
+// Writes a text. All bytes after those written may be overwritten.
+#[inline(always)]
+fn write_whole<E: Utf16Order>(raw: &[u8], out: &mut [u8]) -> usize
+    requires well_formed { IsUtf16 E.BIG raw.now }
+    requires space { length raw.now / 2 * 3 + SLACK ≤ length out.old }
+    ensures utf8 { take result out.new ≡ utf8_of E.BIG raw.now }
+    ensures fits { result ≤ length out.new }
+{
+    match strategy_for(raw.len()) {
+        Strategy::Chars => write_chars::<E>(raw, out),
+        Strategy::Short => {
+            let start = beginning::<E>(raw, out);
+            write_rest::<E>(raw, out, start).written
+        }
+        Strategy::Blocks => {
+            let blocks = write_paired::<E>(raw, out);
+            write_rest::<E>(raw, out, blocks).written
+        }
+    }
 }
 
 /// Writes the blocks of thirty-two code units at the start of `raw` to the start of `to`, in UTF-8,
@@ -101,63 +119,4 @@ pub(crate) fn whole_chars<E: Utf16Order>(raw: &[u8], out: &[u8], done: Tested) -
         read: cursor.at,
         written: cursor.end,
     }
-}
-
-// Writes the UTF-8 that the units add.
-fn write_units<E: Utf16Order>(raw: &[u8], out: &mut [u8]) -> usize
-    requires even { length raw.now % 2 ≡ 0 }
-    requires space { length raw.now / 2 * 3 + SLACK ≤ length out.old }
-    ensures bytes { take result out.new ≡ units_utf8 0 (units_of E.BIG raw.now) }
-    ensures written_to { result ≤ length out.old }
-{
-    if raw.len() < 8 {
-        return write_each::<E>(raw, out, 0, 0);
-    }
-    if raw.len() < 16 {
-        return write_padded::<E>(few_bytes(raw), raw.len(), out, 0, u16x8::splat(0));
-    }
-    write_many::<E>(raw, out)
-}
-
-// Writes the UTF-8 that eight units or more add.
-#[inline(never)]
-fn write_many<E: Utf16Order>(raw: &[u8], out: &mut [u8]) -> usize
-    requires even { length raw.now % 2 ≡ 0 }
-    requires many { 16 ≤ length raw.now }
-    requires space { length raw.now / 2 * 3 + SLACK ≤ length out.old }
-    ensures bytes { take result out.new ≡ units_utf8 0 (units_of E.BIG raw.now) }
-    ensures written_to { result ≤ length out.old }
-{
-    let mut cursor = Cursor {
-        at: 0,
-        end: 0,
-        previous: u16x8::splat(0),
-    };
-    if raw.len() >= 64 {
-        cursor = write_all::<E>(raw, out, cursor);
-    }
-    if cursor.at == raw.len() {
-        return cursor.end;
-    }
-    write_rest::<E>(raw, out, cursor)
-}
-
-// Writes the units after the last block, eight at a time.
-#[inline(always)]
-fn write_rest<E: Utf16Order>(raw: &[u8], out: &mut [u8], from: Cursor) -> usize
-    requires even { length raw.now % 2 ≡ 0 }
-    requires many { 16 ≤ length raw.now }
-    requires space { length raw.now / 2 * 3 + SLACK ≤ length out.old }
-    requires reached { Reached E.BIG raw.now out.old from }
-    ensures bytes { take result out.new ≡ units_utf8 0 (units_of E.BIG raw.now) }
-    ensures written_to { result ≤ length out.old }
-{
-    let mut cursor = from;
-    while raw.len() - cursor.at >= 16 {
-        cursor = write_next_eight::<E>(raw, out, cursor);
-    }
-    if cursor.at == raw.len() {
-        return cursor.end;
-    }
-    write_last_units::<E>(raw, out, cursor)
 }

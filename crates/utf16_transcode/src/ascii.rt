@@ -9,9 +9,9 @@ ghost use Rattle.utf16_units.specs.Encoding.{units_of};
 ghost use Rattle.utf16_units.specs.Lanes.{HasLanes};
 ghost use Rattle.utf16_transcode.specs.Wrote.{DecodesTo, TranscodesToUtf8};
 
-use crate::progress::put;
 use crate::replacement::REPLACEMENT;
 use std::simd::prelude::*;
+use utf16_to_utf8::put;
 use utf16_units::blocks::units32;
 use utf16_units::{Moved, Utf16Order, first_char_len};
 

@@ -2,7 +2,8 @@
 //!
 //! A short text is written by its kind: ASCII eight code units at a time, fewer than eight code
 //! units one by one, and others eight at a time, validated while they are written. Only longer
-//! texts, and those that may not fit, take the steps of long texts.
+//! texts, and those that may not fit, take the steps of long texts. `ladder.rt` of `utf16_units`
+//! says which texts are short.
 
 ghost use Rattle.std.specs.Prelude.{◌≡◌, ◌≢◌, ◌+◌, ◌-◌, ◌*◌, ◌/◌, ◌<◌, ◌≤◌, ◌++◌, IfSome, None, length, slice_index, take};
 ghost use Rattle.std.specs.Char.{encode_utf8, len_utf8};
@@ -13,16 +14,13 @@ ghost use Rattle.utf16_transcode.specs.Wrote.{Puts, TranscodesToUtf8, Wrote};
 ghost use Rattle.utf16_transcode.specs.Stops.{BeginsWith, IsIllFormedUtf16, StopsDecoding};
 
 use crate::direction::Direction;
-use crate::progress::{Progress, put};
+use crate::progress::Progress;
 use crate::transcoding::transcode;
 use std::marker::PhantomData;
-use utf16_to_utf8::{SLACK, write_blocks, write_eight_ascii, write_eights, write_utf8};
+use utf16_to_utf8::{SLACK, put_char, write_blocks, write_eight_ascii, write_eights, write_utf8};
 use utf16_units::ends::first_char;
+use utf16_units::ladder::{Strategy, strategy_for};
 use utf16_units::{Moved, Utf16Order, first_char_len, utf16_len, validate_raw_utf16};
-
-// The length in bytes below which an input is written eight code units at a time. Longer ones take
-// less time in blocks.
-const SHORT_LEN: usize = 192;
 
 /// Writes UTF-16 in UTF-8 to the start of a buffer, up to the first ill-formed sequence or as far
 /// as whole characters fit. Any bytes are allowed. Bytes of the buffer after the written ones may
@@ -76,9 +74,15 @@ impl<E: Utf16Order> Direction for ToUtf8<E> {
 
     #[inline(always)]
     fn begin(input: &[u8], to: &mut [u8]) -> Moved {
-        let ascii = write_ascii_start::<E>(input, to);
-        let few = write_few_units::<E>(input, to, ascii);
-        write_short_rest::<E>(input, to, few)
+        let nothing = Moved {
+            read: 0,
+            written: 0,
+        };
+        match strategy_for(input.len()) {
+            Strategy::Chars => write_few_units::<E>(input, to, nothing),
+            Strategy::Short => write_short::<E>(input, to, nothing),
+            Strategy::Blocks => nothing,
+        }
     }
 
     #[inline(always)]
@@ -113,19 +117,19 @@ impl<E: Utf16Order> Direction for ToUtf8<E> {
     }
 }
 
-// Writes the ASCII at the start of a short input of eight code units or more.
+// Writes a short input: the ASCII at its start, and then the rest, up to an ill-formed sequence or
+// as far as it surely fits.
 #[inline(always)]
-fn write_ascii_start<E: Utf16Order>(raw: &[u8], to: &mut [u8]) -> Moved
+fn write_short<E: Utf16Order>(raw: &[u8], to: &mut [u8], from: Moved) -> Moved
+    requires { Wrote (TranscodesToUtf8 E.BIG) raw.now to.old from.read from.written }
     ensures { Wrote (TranscodesToUtf8 E.BIG) raw.now to.new result.read result.written }
 {
-    let nothing = Moved {
-        read: 0,
-        written: 0,
-    };
-    if raw.len() < 16 || raw.len() >= SHORT_LEN {
-        return nothing;
+    let ascii = write_ascii_from::<E>(raw, to, from);
+    let few = write_few_units::<E>(raw, to, ascii);
+    if raw.len() - few.read < 8 {
+        return few;
     }
-    write_ascii_from::<E>(raw, to, nothing)
+    write_eights_from::<E>(raw, to, few)
 }
 
 // Writes the ASCII that follows what was written, eight code units at a time. These write no bytes
@@ -198,19 +202,6 @@ fn write_few_units<E: Utf16Order>(raw: &[u8], to: &mut [u8], from: Moved) -> Mov
         read += 2;
     }
     Moved { read, written }
-}
-
-// Writes the rest of a short input eight code units at a time, up to an ill-formed sequence or as
-// far as it surely fits.
-#[inline(always)]
-fn write_short_rest<E: Utf16Order>(raw: &[u8], to: &mut [u8], from: Moved) -> Moved
-    requires { Wrote (TranscodesToUtf8 E.BIG) raw.now to.old from.read from.written }
-    ensures { Wrote (TranscodesToUtf8 E.BIG) raw.now to.new result.read result.written }
-{
-    if raw.len() >= SHORT_LEN || raw.len() - from.read < 8 {
-        return from;
-    }
-    write_eights_from::<E>(raw, to, from)
 }
 
 // Writes what follows what was written, eight code units at a time. Not inlined, so that ASCII does
@@ -292,29 +283,4 @@ fn write_char_at(c: char, to: &mut [u8], at: usize) -> Option<usize>
         return None;
     }
     Some(put_char(c, to, at))
-}
-
-// Writes a character that fits in UTF-8 at `at`, and returns where it ends. Unlike
-// `char::encode_utf8`, its contract says which bytes are unchanged.
-#[inline(always)]
-fn put_char(c: char, to: &mut [u8], at: usize) -> usize
-    requires { at + len_utf8 c ≤ length to.old }
-    ensures end { result ≡ at + len_utf8 c }
-    ensures within { result ≤ length to.new }
-    ensures bytes { take result to.new ≡ take at to.old ++ encode_utf8 c }
-{
-    let code = c as u32;
-    let last = (0x80 + code % 64) as u8;
-    if code < 0x80 {
-        put(&[code as u8], to, at)
-    } else if code < 0x800 {
-        put(&[(0xC0 + code / 64) as u8, last], to, at)
-    } else if code < 0x1_0000 {
-        let middle = (0x80 + code / 64 % 64) as u8;
-        put(&[(0xE0 + code / 4096) as u8, middle, last], to, at)
-    } else {
-        let (second, third) = (0x80 + code / 4096 % 64, 0x80 + code / 64 % 64);
-        let first = 0xF0 + code / 262144;
-        put(&[first as u8, second as u8, third as u8, last], to, at)
-    }
 }

@@ -18,11 +18,11 @@ use crate::ascii::write_lossy_ascii_blocks;
 use crate::decode::ToUtf8;
 use crate::lossy_direction::LossyDirection;
 use crate::lossy_transcoding::{transcode_lossy, transcode_partial};
-use crate::progress::{Progress, put};
+use crate::progress::Progress;
 use crate::replacement::REPLACEMENT;
 use crate::stream::FEED_SLACK;
 use crate::well_formed::write_well_formed;
-use utf16_to_utf8::{SLACK, write_utf8};
+use utf16_to_utf8::{SLACK, put, write_utf8};
 use utf16_units::{Moved, Utf16Order};
 
 // The shortest run of ASCII with ill-formed sequences, in bytes, that is written without a copy.

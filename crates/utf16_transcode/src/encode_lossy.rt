@@ -13,9 +13,10 @@ use crate::encode::FromUtf8;
 use crate::items::{ITEM_LEN, write_items};
 use crate::lossy_direction::LossyDirection;
 use crate::lossy_transcoding::{transcode_lossy, transcode_partial};
-use crate::progress::{Progress, put};
+use crate::progress::Progress;
 use crate::replacement::REPLACEMENT_UNIT;
 use utf16_from_utf8::write_blocks;
+use utf16_to_utf8::put;
 use utf16_units::{Moved, Utf16Order, utf16_len};
 
 // The length of U+FFFD in bytes of UTF-16.

@@ -31,10 +31,11 @@ pub use crate::encode_lossy::{from_utf8_lossy, from_utf8_lossy_len, from_utf8_pa
 pub use crate::encode_stream::{feed_utf8, finish_utf8};
 pub use crate::lossy_direction::LossyDirection;
 pub use crate::lossy_transcoding::{transcode_lossy, transcode_partial};
-pub use crate::progress::{Progress, Stop, put};
+pub use crate::progress::{Progress, Stop};
 pub use crate::replacement::REPLACEMENT;
 pub use crate::sizes::{from_utf8_len, to_utf8_lossy_len};
 pub use crate::stream::{CHUNK_LEN, FEED_SLACK, SHORT_CHUNK, Stream};
 pub use crate::transcoding::transcode;
 pub use crate::well_formed::{make_well_formed, write_well_formed};
+pub use utf16_to_utf8::put;
 pub use utf16_units::Moved;

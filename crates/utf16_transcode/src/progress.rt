@@ -1,7 +1,5 @@
 //! How much a call read and wrote, and why it stopped.
 
-ghost use Rattle.std.specs.Prelude.{◌≡◌, ◌+◌, ◌≤◌, ◌++◌, length, take, drop};
-
 /// Why a call stopped.
 #[derive(Clone, Copy, Debug, PartialEq, Eq)]
 pub enum Stop {
@@ -29,21 +27,4 @@ pub struct Progress<S = Stop> {
     pub written: usize,
     /// Why the call stopped.
     pub stop: S,
-}
-
-/// Writes bytes at `at`, and returns where they end.
-///
-/// # Precondition
-///
-/// `at` plus the number of bytes is at most the length of the buffer.
-#[inline(always)]
-pub fn put(bytes: &[u8], to: &mut [u8], at: usize) -> usize
-    requires { at + length bytes.now ≤ length to.old }
-    ensures written_to { result ≡ at + length bytes.now }
-    ensures bytes { take result to.new ≡ take at to.old ++ bytes.now }
-    ensures rest { drop result to.new ≡ drop result to.old }
-{
-    let end = at + bytes.len();
-    to[at..end].copy_from_slice(bytes);
-    end
 }

@@ -13,11 +13,10 @@ ghost use Rattle.utf16_transcode.specs.Stops.{BeginsWith, Stops, StopsHere};
 ghost use Rattle.utf16_transcode.specs.Wrote.{Gives, Puts, Wrote};
 
 use crate::direction::{BLOCK_LEN, BLOCK_ROOM, Direction};
-use crate::progress::{Progress, Stop, put};
+use crate::progress::{Progress, Stop};
+use utf16_to_utf8::put;
 use utf16_units::Moved;
-
-// The number of bytes below which a piece is written character by character.
-const VERY_FEW: usize = 8;
+use utf16_units::ladder::FEW_TEXT;
 
 /// Writes the longest valid prefix in the second encoding to the start of a buffer, as far as whole
 /// characters fit.
@@ -135,7 +134,7 @@ fn write_validated_tail<D: Direction>(rest: &[u8], to: &mut [u8], at: usize) -> 
     ensures { Puts (Gives D.IsValid D.other) rest.now to.old to.new at result.read result.written }
 {
     D::laws();
-    if rest.len() < VERY_FEW {
+    if rest.len() < FEW_TEXT {
         return write_chars::<D>(rest, to, at);
     }
     let len = rest.len().min(2 * BLOCK_LEN);
@@ -174,7 +173,7 @@ fn write_near_end<D: Direction>(rest: &[u8], to: &mut [u8], at: usize) -> Moved
     ensures { Puts (Gives D.IsValid D.other) rest.now to.old to.new at result.read result.written }
 {
     D::laws();
-    if to.len() - at < 3 * VERY_FEW {
+    if to.len() - at < 3 * FEW_TEXT {
         return write_chars::<D>(rest, to, at);
     }
     let mut buf = [0; BLOCK_ROOM];

@@ -10,8 +10,8 @@ ghost use Rattle.utf16_units.specs.Split.{lossy_chars, lossy_text, split_items, 
 ghost use Rattle.utf16_transcode.specs.Unpaired.{unpaired};
 
 use crate::decode::valid_up_to;
-use crate::progress::put;
 use crate::replacement::REPLACEMENT_UNIT;
+use utf16_to_utf8::put;
 use utf16_units::laws::are_bytes;
 use utf16_units::{Utf16Order, first_char_len, is_leading_surrogate};
 

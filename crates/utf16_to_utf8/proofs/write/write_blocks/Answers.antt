@@ -1,7 +1,7 @@
 use Rattle.std.proofs.Common.{◌<◌, ◌+◌, ⊎_elim, inl, inr, ap, arith, drop, length, length-take-le, refl, sym, ◌∙◌}
 use Rattle.std.proofs.lemmas.List.{take-append-le}
 use Rattle.utf16_units.specs.Lanes.{BlocksStopAt}
-use Rattle.utf16_to_utf8.proofs.LeadingLemmas.{little-behind}
+use Rattle.utf16_to_utf8.proofs.SpaceLemmas.{little-behind}
 use Rattle.utf16_to_utf8.proofs.write.write_blocks.Goals as goal
 
 pub returns-clause-utf8 : goal.returns-clause-utf8

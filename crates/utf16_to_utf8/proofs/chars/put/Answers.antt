@@ -1,6 +1,6 @@
 use Rattle.std.proofs.Common.{◌+◌, ◌-◌, ◌++◌, length, take, refl, ap, ◌∙◌, rules}
 use Rattle.std.proofs.lemmas.Slice.{drop-put_mid, take-put_mid}
-use Rattle.utf16_transcode.proofs.progress.put.Goals as goal
+use Rattle.utf16_to_utf8.proofs.chars.put.Goals as goal
 
 pub returns-clause-written_to : goal.returns-clause-written_to
 returns-clause-written_to c = refl

@@ -1,6 +1,6 @@
 use Rattle.std.proofs.Common.{◌++◌, take, sym, ap, ◌∙◌, arith}
 use Rattle.utf16_units.proofs.Utf8Lemmas.{four_bytes, three_bytes, two_bytes}
-use Rattle.utf16_transcode.proofs.decode.put_char.Goals as goal
+use Rattle.utf16_to_utf8.proofs.chars.put_char.Goals as goal
 
 pub returns-then-code-lt2048-clause-bytes : goal.returns-then-code-lt2048-clause-bytes
 returns-then-code-lt2048-clause-bytes c =
