@@ -17,13 +17,21 @@ pub(crate) fn is_big_endian(byte_order: u32) -> bool
     byte_order == BIG_ENDIAN
 }
 
-// Makes a call in the byte order that a caller in C passes.
+// Makes a call in the byte order that a caller in C passes. With `=> made`, the result is made of the
+// call's in each branch, which takes six instructions less: short texts notice it.
 macro_rules! in_order {
     ($byte_order:expr, $call:ident($($argument:expr),*)) => {
         if $crate::byte_order::is_big_endian($byte_order) {
             $call::<$crate::byte_order::BE>($($argument),*)
         } else {
             $call::<$crate::byte_order::LE>($($argument),*)
+        }
+    };
+    ($byte_order:expr, $call:ident($($argument:expr),*) => $made:ident) => {
+        if $crate::byte_order::is_big_endian($byte_order) {
+            $made($call::<$crate::byte_order::BE>($($argument),*))
+        } else {
+            $made($call::<$crate::byte_order::LE>($($argument),*))
         }
     };
     ($byte_order:expr, $stream:ident.$call:ident::<$direction:ident>($($argument:expr),*)) => {

@@ -30,7 +30,7 @@ pub extern "C" fn dethrux_from_utf8(byte_order: u32, utf8: &[u8], to: &mut [u8])
         → stop_of result.status result.error_len ≢ NoSpace }
     ensures numbers { AreNumbers result.status result.error_len }
 {
-    progress_of(in_order!(byte_order, from_utf8(utf8, to)))
+    in_order!(byte_order, from_utf8(utf8, to) => progress_of)
 }
 
 /// Converts any bytes as UTF-8 to UTF-16, as far as whole characters fit, and replaces each maximal

@@ -37,7 +37,7 @@ pub extern "C" fn dethrux_to_utf8(byte_order: u32, utf16: &[u8], to: &mut [u8]) 
         → stop_of result.status result.error_len ≢ NoSpace }
     ensures numbers { AreNumbers result.status result.error_len }
 {
-    progress_of(in_order!(byte_order, to_utf8(utf16, to)))
+    in_order!(byte_order, to_utf8(utf16, to) => progress_of)
 }
 
 /// Converts UTF-16 to UTF-8 like `dethrux_to_utf8`, and replaces each unpaired surrogate, and an

@@ -18,7 +18,7 @@ impl<'a, E: Utf16Order> WStr<'a, E> {
     ///
     /// # Complexity
     ///
-    /// One pass over a text of at most 192 bytes, else two. Allocates once, for as many bytes as
+    /// One pass over a text of fewer than 192 bytes, else two. Allocates once, for as many bytes as
     /// the characters take, but at least eight, and not at all for the empty text.
     #[inline]
     pub fn to_utf8<A: Allocator>(&self, alloc: A) -> Result<String<A>, AllocError>
@@ -36,7 +36,7 @@ impl<'a, E: Utf16Order> WStr<'a, E> {
     ///
     /// # Complexity
     ///
-    /// One pass if the view has 8 to 192 bytes, or if `to` has spare capacity of three bytes per
+    /// One pass if the view has 8 to 190 bytes, or if `to` has spare capacity of three bytes per
     /// code unit, else two. Allocates once, and not at all if the spare capacity suffices.
     #[inline]
     pub fn push_utf8<A: Allocator>(self, to: &mut String<A>) -> Result<(), AllocError>

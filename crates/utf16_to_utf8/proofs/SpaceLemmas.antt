@@ -1,11 +1,11 @@
 -- How much space a text in UTF-8 takes and leaves.
-use Rattle.std.proofs.Common.{◌≡◌, ℕ, ◌+◌, ◌*◌, ◌/◌, ◌%◌, ◌<◌, ◌≤◌, ◌++◌, Bool, List, ⊎_elim, ap, arith, drop, length, length-append, length-drop, length-take, length-take-le, sym, take, ◌∙◌}
+use Rattle.std.proofs.Common.{◌≡◌, ℕ, ◌+◌, ◌*◌, ◌/◌, ◌%◌, ◌<◌, ◌≤◌, ◌⊎◌, ◌++◌, Bool, List, ⊎_elim, ap, arith, drop, encode_utf8_all, length, length-append, length-drop, length-take, length-take-le, subst, sym, take, take-append-drop, take_all, ◌∙◌}
 use Rattle.std.proofs.lemmas.Bool.{cases_lt}
 use Rattle.std.specs.Prelude.{min}
 use Rattle.utf16_units.specs.Encoding.{IsUtf16, text_of, utf8_of}
 use Rattle.utf16_units.proofs.BackChar.{size-even}
-use Rattle.utf16_units.proofs.EncodingLemmas.{length-text}
-use Rattle.utf16_units.proofs.PieceLemmas.{encodes-le-size}
+use Rattle.utf16_units.proofs.EncodingLemmas.{IsUtf16-rest, length-text, text_of-append}
+use Rattle.utf16_units.proofs.PieceLemmas.{encodes-le-size, utf8-append}
 
 -- a text takes at most three bytes for each of its code units
 pub few-bytes : (big : Bool) (raw out : List ℕ) (read written : ℕ) → IsUtf16 big (take read raw) → read ≤ length raw → written ≤ length out
@@ -16,6 +16,28 @@ few-bytes big raw out read written text within fits utf8 =
     let front = length-take-le read raw within in
     let wrote = sym (length-take-le written out fits) ∙ ap length utf8 in
     (omega (arith, encodes-le-size chars, size, front, wrote), omega (arith, size-even chars, size, front))
+
+-- the UTF-8 of a text is that of a well-formed beginning, and then that of the rest
+pub utf8-rest : (big : Bool) (raw : List ℕ) (read : ℕ) → IsUtf16 big raw → IsUtf16 big (take read raw)
+    → IsUtf16 big (drop read raw) × (utf8_of big raw ≡ utf8_of big (take read raw) ++ utf8_of big (drop read raw))
+utf8-rest big raw read text front =
+    let head = take read raw in
+    let rest = drop read raw in
+    let whole = take-append-drop read raw in (
+      IsUtf16-rest big head rest front (subst (IsUtf16 big) (sym whole) text),
+      ap (utf8_of big) (sym whole) ∙ ap encode_utf8_all (text_of-append big head rest front) ∙ utf8-append (text_of big head) (text_of big rest),
+    )
+
+-- with space for all of it, the whole text is read
+pub all-read : (big : Bool) (raw out : List ℕ) (read written : ℕ) → IsUtf16 big (take read raw) → read ≤ length raw → written ≤ length out
+    → take written out ≡ utf8_of big (take read raw) → length raw / 2 * 3 + 128 ≤ length out → (read ≡ length raw) ⊎ (length out < written + 34)
+    → take written out ≡ utf8_of big raw
+all-read big raw out read written text within fits utf8 space whole =
+    let bound = few-bytes big raw out read written text within fits utf8 in
+    ⊎_elim
+    (λ (all : read ≡ length raw). utf8 ∙ ap (utf8_of big) (take_all read raw (omega (arith, all))))
+    (λ (few : length out < written + 34). absurd (omega (arith, few, bound.0, within, space)))
+    whole
 
 -- if little of the first part of the buffer is left, little is left of all of it
 pub little-left : (space len part size at end : ℕ) → space ≤ 128 → part ≡ min len (size / 2 * 3 + 128) → 2 * end ≤ 3 * at → at % 2 ≡ 0 → at ≤ size → part < end + space → len < end + space

@@ -26,7 +26,7 @@ use utf16_units::{Utf16Order, is_trailing_surrogate};
 ///
 /// # Complexity
 ///
-/// One pass over a text of at most 192 bytes, else two. Allocates once, for as many bytes as the
+/// One pass over a text of fewer than 192 bytes, else two. Allocates once, for as many bytes as the
 /// characters take, but at least eight, and not at all for the empty text.
 pub fn to_utf8<E: Utf16Order, A: Allocator>(raw: &[u8], alloc: A) -> Result<String<A>, AllocError>
     requires { IsUtf16 E.BIG raw.now }
@@ -49,7 +49,7 @@ fn make_text<E: Utf16Order, A: Allocator>(raw: &[u8], alloc: A) -> Result<String
     requires { IsUtf16 E.BIG raw.now }
     ensures { IfOk result (λ s. string_bytes s ≡ utf8_of E.BIG raw.now) }
 {
-    if raw.len() <= SHORT_TEXT {
+    if raw.len() < SHORT_TEXT {
         return make_piece::<E, A>(raw, &mut [0; SHORT_TEXT / 2 * 3 + SLACK], alloc);
     }
     let mut utf8 = String::with_capacity(alloc, utf8_len::<E>(raw))?;
@@ -87,7 +87,7 @@ fn make_piece<E: Utf16Order, A: Allocator>(
 ///
 /// # Complexity
 ///
-/// One pass if the text has 8 to 192 bytes, or if `to` has spare capacity of three bytes per code
+/// One pass if the text has 8 to 190 bytes, or if `to` has spare capacity of three bytes per code
 /// unit, else two. Allocates once, and not at all if the spare capacity suffices.
 #[inline]
 pub fn append_utf8<E: Utf16Order, A: Allocator>(

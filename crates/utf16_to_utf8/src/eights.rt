@@ -11,7 +11,7 @@ ghost use Rattle.utf16_to_utf8.specs.Cursor.{Reached};
 use crate::blocks::eight_are_basic;
 use crate::few::{write_known_eight, write_padded};
 use crate::padded::last_bytes;
-use crate::runs::{Tested, beginning};
+use crate::runs::{Cursor, Tested};
 use crate::write::{SLACK, whole_chars};
 use std::simd::prelude::*;
 use utf16_units::blocks::units8;
@@ -33,7 +33,8 @@ use utf16_units::{Moved, Utf16Order};
 /// # Complexity
 ///
 /// One pass over the bytes read.
-#[inline(always)]
+// Not inlined, so that a caller's ASCII does not pay for its registers.
+#[inline(never)]
 pub fn write_eights<E: Utf16Order>(raw: &[u8], to: &mut [u8]) -> Moved
     requires some { 8 ≤ length raw.now }
     ensures within { result.read ≤ length raw.now }
@@ -49,28 +50,7 @@ pub fn write_eights<E: Utf16Order>(raw: &[u8], to: &mut [u8]) -> Moved
 {
     let room = to.len().min(raw.len() / 2 * 3 + SLACK);
     let out = &mut to[..room];
-    let start = beginning::<E>(raw, out);
-    write_rest::<E>(raw, out, start)
-}
-
-// Writes the text after what is validated and written, eight units at a time, as long as their
-// surrogates are paired and they fit. Returns how far whole characters are read and written.
-#[inline(always)]
-pub(crate) fn write_rest<E: Utf16Order>(raw: &[u8], out: &mut [u8], from: Tested) -> Moved
-    requires some { 8 ≤ length raw.now }
-    requires few { length raw.now < 16 → from.cursor.at ≡ 0 }
-    requires reached { Reached E.BIG raw.now out.old from.cursor }
-    requires paired { PairedTo E.BIG raw.now from.cursor.at from.leading }
-    ensures within { result.read ≤ length raw.now }
-    ensures fits { result.written ≤ length out.new }
-    ensures well_formed { IsUtf16 E.BIG (take result.read raw.now) }
-    ensures utf8 { take result.written out.new ≡ utf8_of E.BIG (take result.read raw.now) }
-    ensures stop { BlocksStopAt 18 E.BIG raw.now result.read false
-        ⊎ (length out.new < result.written + 34) }
-    ensures whole { IsUtf16 E.BIG raw.now → (result.read ≡ length raw.now)
-        ⊎ (length out.new < result.written + 34) }
-{
-    let done = write_paired_eights::<E>(raw, out, from);
+    let done = write_paired_eights::<E>(raw, out);
     match write_paired_last::<E>(raw, out, done) {
         Some(end) => Moved {
             read: raw.len(),
@@ -80,19 +60,24 @@ pub(crate) fn write_rest<E: Utf16Order>(raw: &[u8], out: &mut [u8], from: Tested
     }
 }
 
-// Writes the next groups of eight units whose surrogates are paired, as far as they fit.
+// Writes the groups of eight units at the start whose surrogates are paired, as far as they fit.
 #[inline(always)]
-fn write_paired_eights<E: Utf16Order>(raw: &[u8], out: &mut [u8], from: Tested) -> Tested
-    requires few { length raw.now < 16 → from.cursor.at ≡ 0 }
-    requires reached { Reached E.BIG raw.now out.old from.cursor }
-    requires paired { PairedTo E.BIG raw.now from.cursor.at from.leading }
+fn write_paired_eights<E: Utf16Order>(raw: &[u8], out: &mut [u8]) -> Tested
     ensures reached { Reached E.BIG raw.now out.new result.cursor }
     ensures paired { PairedTo E.BIG raw.now result.cursor.at result.leading }
     ensures stop { BlocksStopAt 16 E.BIG raw.now result.cursor.at result.leading
         ⊎ (length out.new < result.cursor.end + 32) }
     ensures few { length raw.now < 16 → result.cursor.at ≡ 0 }
 {
-    let mut done = from;
+    let cursor = Cursor {
+        at: 0,
+        end: 0,
+        previous: u16x8::splat(0),
+    };
+    let mut done = Tested {
+        cursor,
+        leading: false,
+    };
     while raw.len() - done.cursor.at >= 16 {
         if out.len() - done.cursor.end < 32 {
             break;

@@ -53,23 +53,6 @@ pub(crate) struct Tested {
     pub(crate) leading: bool,
 }
 
-// The beginning of a text, of which nothing is validated and written yet.
-#[inline(always)]
-pub(crate) fn beginning<E: Utf16Order>(_raw: &[u8], _out: &[u8]) -> Tested
-    ensures at { result.cursor.at ≡ 0 }
-    ensures reached { Reached E.BIG _raw.now _out.now result.cursor }
-    ensures paired { PairedTo E.BIG _raw.now result.cursor.at result.leading }
-{
-    Tested {
-        cursor: Cursor {
-            at: 0,
-            end: 0,
-            previous: u16x8::splat(0),
-        },
-        leading: false,
-    }
-}
-
 // Writes the blocks at the start whose surrogates are paired, as far as they fit.
 #[inline(never)]
 pub(crate) fn write_paired<E: Utf16Order>(raw: &[u8], out: &mut [u8]) -> Tested
@@ -78,10 +61,12 @@ pub(crate) fn write_paired<E: Utf16Order>(raw: &[u8], out: &mut [u8]) -> Tested
     ensures stop { BlocksStopAt 64 E.BIG raw.now result.cursor.at result.leading
         ⊎ (length out.new < result.cursor.end + SLACK) }
 {
-    let Tested {
-        mut cursor,
-        mut leading,
-    } = beginning::<E>(raw, out);
+    let mut cursor = Cursor {
+        at: 0,
+        end: 0,
+        previous: u16x8::splat(0),
+    };
+    let mut leading = false;
     if raw.len() < 64 || out.len() < SLACK {
         return Tested { cursor, leading };
     }

@@ -9,9 +9,9 @@ ghost use Rattle.utf16_units.specs.Lanes.{BlocksStopAt, PairedTo};
 ghost use Rattle.utf16_to_utf8.specs.Cursor.{Reached};
 
 use crate::chars::write_chars;
-use crate::eights::write_rest;
-use crate::runs::{Tested, beginning, write_paired};
-use utf16_units::ladder::{Strategy, strategy_for};
+use crate::eights::write_eights;
+use crate::runs::{Tested, write_paired};
+use utf16_units::ladder::{FEW_TEXT, Strategy, strategy_for};
 use utf16_units::{Moved, Utf16Order};
 
 /// The number of bytes that `write_utf8` needs beyond three per code unit.
@@ -50,17 +50,25 @@ fn write_whole<E: Utf16Order>(raw: &[u8], out: &mut [u8]) -> usize
     ensures utf8 { take result out.new ≡ utf8_of E.BIG raw.now }
     ensures fits { result ≤ length out.new }
 {
-    match strategy_for(raw.len()) {
-        Strategy::Chars => write_chars::<E>(raw, out),
-        Strategy::Short => {
-            let start = beginning::<E>(raw, out);
-            write_rest::<E>(raw, out, start).written
-        }
-        Strategy::Blocks => {
-            let blocks = write_paired::<E>(raw, out);
-            write_rest::<E>(raw, out, blocks).written
-        }
+    let Strategy::Blocks = strategy_for(raw.len()) else {
+        return write_short::<E>(raw, out);
+    };
+    let blocks = write_blocks::<E>(raw, out);
+    blocks.written + write_short::<E>(&raw[blocks.read..], &mut out[blocks.written..])
+}
+
+// Writes a short text, or what blocks leave of a longer one.
+#[inline(always)]
+fn write_short<E: Utf16Order>(raw: &[u8], out: &mut [u8]) -> usize
+    requires well_formed { IsUtf16 E.BIG raw.now }
+    requires space { length raw.now / 2 * 3 + SLACK ≤ length out.old }
+    ensures utf8 { take result out.new ≡ utf8_of E.BIG raw.now }
+    ensures fits { result ≤ length out.new }
+{
+    if raw.len() < FEW_TEXT {
+        return write_chars::<E>(raw, out);
     }
+    write_eights::<E>(raw, out).written
 }
 
 /// Writes the blocks of thirty-two code units at the start of `raw` to the start of `to`, in UTF-8,

@@ -74,15 +74,9 @@ impl<E: Utf16Order> Direction for ToUtf8<E> {
 
     #[inline(always)]
     fn begin(input: &[u8], to: &mut [u8]) -> Moved {
-        let nothing = Moved {
-            read: 0,
-            written: 0,
-        };
-        match strategy_for(input.len()) {
-            Strategy::Chars => write_few_units::<E>(input, to, nothing),
-            Strategy::Short => write_short::<E>(input, to, nothing),
-            Strategy::Blocks => nothing,
-        }
+        let ascii = write_ascii_start::<E>(input, to);
+        let few = write_few_units::<E>(input, to, ascii);
+        write_short_rest::<E>(input, to, few)
     }
 
     #[inline(always)]
@@ -117,19 +111,22 @@ impl<E: Utf16Order> Direction for ToUtf8<E> {
     }
 }
 
-// Writes a short input: the ASCII at its start, and then the rest, up to an ill-formed sequence or
-// as far as it surely fits.
+// Writes the ASCII at the start of a short input of eight code units or more.
 #[inline(always)]
-fn write_short<E: Utf16Order>(raw: &[u8], to: &mut [u8], from: Moved) -> Moved
-    requires { Wrote (TranscodesToUtf8 E.BIG) raw.now to.old from.read from.written }
+fn write_ascii_start<E: Utf16Order>(raw: &[u8], to: &mut [u8]) -> Moved
     ensures { Wrote (TranscodesToUtf8 E.BIG) raw.now to.new result.read result.written }
 {
-    let ascii = write_ascii_from::<E>(raw, to, from);
-    let few = write_few_units::<E>(raw, to, ascii);
-    if raw.len() - few.read < 8 {
-        return few;
+    let nothing = Moved {
+        read: 0,
+        written: 0,
+    };
+    if raw.len() < 16 {
+        return nothing;
     }
-    write_eights_from::<E>(raw, to, few)
+    let Strategy::Short = strategy_for(raw.len()) else {
+        return nothing;
+    };
+    write_ascii_from::<E>(raw, to, nothing)
 }
 
 // Writes the ASCII that follows what was written, eight code units at a time. These write no bytes
@@ -204,9 +201,24 @@ fn write_few_units<E: Utf16Order>(raw: &[u8], to: &mut [u8], from: Moved) -> Mov
     Moved { read, written }
 }
 
-// Writes what follows what was written, eight code units at a time. Not inlined, so that ASCII does
-// not pay for its registers.
-#[inline(never)]
+// Writes the rest of a short input eight code units at a time, up to an ill-formed sequence or as
+// far as it surely fits. It leaves a rest of fewer than four code units.
+#[inline(always)]
+fn write_short_rest<E: Utf16Order>(raw: &[u8], to: &mut [u8], from: Moved) -> Moved
+    requires { Wrote (TranscodesToUtf8 E.BIG) raw.now to.old from.read from.written }
+    ensures { Wrote (TranscodesToUtf8 E.BIG) raw.now to.new result.read result.written }
+{
+    let Strategy::Short = strategy_for(raw.len()) else {
+        return from;
+    };
+    if raw.len() - from.read < 8 {
+        return from;
+    }
+    write_eights_from::<E>(raw, to, from)
+}
+
+// Writes what follows what was written, eight code units at a time.
+#[inline(always)]
 fn write_eights_from<E: Utf16Order>(raw: &[u8], to: &mut [u8], from: Moved) -> Moved
     requires many { from.read + 8 ≤ length raw.now }
     requires wrote { Wrote (TranscodesToUtf8 E.BIG) raw.now to.old from.read from.written }

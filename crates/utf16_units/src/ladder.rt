@@ -9,7 +9,7 @@ ghost use Rattle.utf16_units.specs.declared.ladder.Strategy.TheVariants.{Blocks,
 /// The length in bytes below which a text is converted character by character.
 pub const FEW_TEXT: usize = 8;
 
-/// The most bytes of a text that is converted vector by vector.
+/// The length in bytes from which a text is converted block by block.
 pub const SHORT_TEXT: usize = 192;
 
 /// The most bytes of a piece of a longer text.
@@ -34,12 +34,12 @@ pub enum Strategy {
 #[inline(always)]
 pub fn strategy_for(len: usize) -> Strategy
     ensures chars { (result ≡ Chars) ↔ (len < FEW_TEXT) }
-    ensures short { (result ≡ Short) ↔ ((FEW_TEXT ≤ len) × (len ≤ SHORT_TEXT)) }
-    ensures blocks { (result ≡ Blocks) ↔ (SHORT_TEXT < len) }
+    ensures short { (result ≡ Short) ↔ ((FEW_TEXT ≤ len) × (len < SHORT_TEXT)) }
+    ensures blocks { (result ≡ Blocks) ↔ (SHORT_TEXT ≤ len) }
 {
     if len < FEW_TEXT {
         Strategy::Chars
-    } else if len <= SHORT_TEXT {
+    } else if len < SHORT_TEXT {
         Strategy::Short
     } else {
         Strategy::Blocks

@@ -28,7 +28,7 @@ impl<E: Utf16Order, A: Allocator> WString<E, A> {
     ///
     /// # Complexity
     ///
-    /// One pass over a text of 8 to 192 bytes, else two. Allocates once, for as many bytes as the
+    /// One pass over a text of 8 to 191 bytes, else two. Allocates once, for as many bytes as the
     /// string takes, and not at all for the empty text.
     #[inline]
     pub fn from_str(alloc: A, s: &str) -> Result<Self, AllocError>
@@ -90,7 +90,7 @@ impl<E: Utf16Order, A: Allocator> WString<E, A> {
     ///
     /// # Complexity
     ///
-    /// One pass over a text of at most 192 bytes, else two. Allocates at most once, and not at all
+    /// One pass over a text of fewer than 192 bytes, else two. Allocates at most once, and not at all
     /// if the text fits in the capacity.
     pub fn push_str(&mut self, string: &str) -> Result<(), AllocError>
         ensures text { OnOk result (wstring_text self.new
