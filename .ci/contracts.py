@@ -1,6 +1,6 @@
 # Reads the contracts in the sources of the crates: functions, types and traits, with their clauses
-# and their documentation. .ci/promises looks up what the documents name, .ci/clauses lists the
-# public ones, and docs/html/build.py makes a page of each crate.
+# and their documentation. .ci/promises looks up what the documents name, and docs/html/build.py
+# makes a page of each crate.
 import glob
 import os
 import re
@@ -52,15 +52,12 @@ class Item:
         self.modules = path.split("/src/")[1][: -len(".rt")].split("/")
         self.scope = {crate, trait or owner, *self.modules}
         self.clauses = defaultdict(str)
-        # The names in `clauses`, in order and by kind, and "" for each clause without a name.
-        self.names = defaultdict(list)
         self.written = []
         self.is_type = False
-        # The lines of the documentation, and its first sentence.
-        self.docs, self.doc = [], ""
+        # The lines of the documentation.
+        self.docs = []
 
     def add(self, clause):
-        self.names[clause.kind].append(clause.name)
         self.clauses[clause.name] += clause.text
         self.written.append(clause)
 
@@ -121,7 +118,7 @@ class Crate:
                 doc = []
 
     def add_item(self, item, doc):
-        item.docs, item.doc = doc, first_sentence(doc)
+        item.docs = doc
         self.items.append(item)
         return item
 
@@ -170,7 +167,7 @@ class Crate:
         What an impl of a trait only repeats is where the trait is.
         """
         for it in self.items:
-            is_own = it.name != it.trait and (not it.trait or it.clauses or it.doc)
+            is_own = it.name != it.trait and (not it.trait or it.clauses or it.docs)
             if is_own and it.is_public and self.exports(it):
                 yield it
 

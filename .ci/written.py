@@ -1,5 +1,5 @@
 # A document that a script writes, in sections that begin with a heading: writes it, or compares it
-# with what it should be. .ci/clauses and .ci/numbers are such scripts.
+# with what it should be. .ci/numbers is such a script.
 import os
 import re
 import sys

@@ -31,8 +31,8 @@ def write_list(crates):
     )
     text = (
         "# The crates\n\nEach public item of the library for Rattle, with its contract. "
-        "[CLAUSES](../tree/docs/CLAUSES.html) says what the names of clauses mean, and "
-        "[CALLING](../tree/docs/CALLING.html) how to prove a caller.\n\n"
+        "[CALLING](../tree/docs/CALLING.html) says what the names of clauses mean, and how to "
+        "prove a caller.\n\n"
         f"| Crate | About |\n|---|---|\n{rows}"
     )
     write("rattle/index.html", "The crates", markdown(text))
