@@ -51,7 +51,7 @@ lines() {
     done < "$here/crates.txt"
 }
 
-# Prints a checksum of the files of a copy, but for its builds.
+# Prints a checksum of the files of a copy, except its builds.
 sum() {
     (cd "$1" && find . -path ./out -prune -o -type f ! -name VENDORED -print0 | LC_ALL=C sort -z |
         xargs -0 sha256sum) | sha256sum | cut -d ' ' -f 1

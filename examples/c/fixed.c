@@ -238,7 +238,7 @@ static bool spell(dethrux_byte_order order, const uint8_t *bytes, const uint16_t
 }
 
 /* A strict or lossy call, and in the machine's byte order the one on code units, into a buffer for
- * so many bytes. */
+ * this many bytes. */
 static bool encodes(bool lossy, dethrux_byte_order order, size_t capacity) {
     uint16_t wanted[2 * MOST], native[2 * MOST + 8];
     uint8_t to[ROOM];
@@ -283,7 +283,7 @@ static void from_utf32(const char *name) {
     }
 }
 
-/* All bytes of Latin-1, from one on, into a buffer for so many bytes. */
+/* All bytes of Latin-1, from one on, into a buffer for this many bytes. */
 static bool widens(dethrux_byte_order order, unsigned first, size_t len, size_t capacity) {
     uint8_t latin1[MOST], to[ROOM];
     uint16_t wanted[MOST], native[MOST + 4];
@@ -325,7 +325,7 @@ static void from_latin1(void) {
 /* A character of each size, of which most of a text consists. */
 static const uint32_t fillers[] = {'a', 0xE9, 0x416, 0x4E2D, 0x1F600};
 
-/* Characters at a limit, unpaired surrogates, and numbers that are no characters. */
+/* Characters at a limit, unpaired surrogates, and numbers that are not characters. */
 static const struct {
     const char *name;
     uint32_t c;

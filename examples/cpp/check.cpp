@@ -313,7 +313,7 @@ static void to_wstring(const row &from) {
                                              && is_same(dethrux::to_wstring_lossy(units), wide));
 }
 
-// What is no character stops a strict call, and a lossy one replaces it.
+// What is not a character stops a strict call, and a lossy one replaces it.
 static void no_characters() {
     for (char32_t other : {0xD800u, 0xDFFFu, 0x110000u, 0x80000061u, 0xFFFFFFFFu}) {
         const std::u32string text = {U'a', other, U'b'};
