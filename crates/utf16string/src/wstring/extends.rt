@@ -108,7 +108,7 @@ impl<E: Utf16Order, A: Allocator> FromIterator<char> for WString<E, A> {
 }
 
 // Appends a text. `Vec` does not promise that it keeps the capacity if nothing is appended, so an
-// empty text does not come to it.
+// empty text is not passed to it.
 fn push_view<E: Utf16Order, A: Allocator>(
     string: &mut WString<E, A>,
     text: WStr<E>,
