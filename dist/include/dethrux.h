@@ -16,8 +16,8 @@
  *
  * @par Proofs
  * Proved for all inputs of up to PTRDIFF_MAX bytes: each result is as described, and no call reads
- * or writes outside the buffers that it is given. The proofs do not cover the caller, so this is
- * trusted:
+ * or writes outside the buffers that it is given. What is said about time is measured, not proved.
+ * The proofs do not cover the caller, so this is trusted:
  * - A pointer with a length of n points to n bytes that may be read during the call (for `to`, with
  *   a capacity of n, written).
  * - `decoder` points to a decoder, and `encoder` to an encoder.
@@ -700,8 +700,9 @@ DETHRUX_NODISCARD dethrux_progress dethrux_from_wtf8(
  * - DETHRUX_ILL_FORMED: an ill-formed sequence follows `read`
  * - DETHRUX_INCOMPLETE: at most DETHRUX_WTF8_PENDING_MAX bytes follow `read`: put them before the
  *   next chunk, and at the end of the stream pass them to dethrux_from_wtf8
- * - DETHRUX_NO_SPACE: the next character or surrogate does not fit: call again with the rest; with
- *   a capacity of 4 or more, something was written
+ * - DETHRUX_NO_SPACE: the next character or surrogate does not fit, even if it is a leading
+ *   surrogate at the end: call again with the rest; with a capacity of 4 or more, something was
+ *   written
  * @ingroup dethrux_wtf8
  */
 DETHRUX_NODISCARD dethrux_progress dethrux_from_wtf8_partial(
@@ -835,7 +836,8 @@ DETHRUX_NODISCARD uint64_t dethrux_shard_offset(uint64_t len, uint64_t count, ui
  * cuts neither a code unit nor a surrogate pair, and a pattern of odd length occurs only at the end
  * of a text of odd length. The empty pattern occurs at each boundary.
  *
- * The text and the pattern may be any bytes. For all of them the time is linear in both lengths.
+ * The text and the pattern may be any bytes. The time is linear in both lengths, as measured with
+ * the most expensive inputs that are known; this is not proved.
  *
  * @param pattern what is searched for, in the same byte order
  * @return the offset, 0 for the empty pattern, or DETHRUX_NOT_FOUND if the pattern occurs nowhere
@@ -885,8 +887,8 @@ size_t dethrux_make_well_formed(dethrux_byte_order byte_order, uint8_t *utf16, s
  * Compares two texts by their scalar values, each in its byte order.
  *
  * An unpaired surrogate, and an incomplete character at the end, counts as U+FFFD; a text is
- * greater than each of its prefixes. UTF-8, and so what dethrux_to_utf8_lossy writes, has the same
- * order by bytes.
+ * greater than each of its prefixes. What dethrux_to_utf8_lossy writes has the same order by bytes:
+ * tests compare both orders, but this is not proved.
  *
  * @return -1, 0 or 1 if the first is less than, equal to or greater than the second
  * @ingroup dethrux_properties
