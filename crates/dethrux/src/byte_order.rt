@@ -17,8 +17,8 @@ pub(crate) fn is_big_endian(byte_order: u32) -> bool
     byte_order == BIG_ENDIAN
 }
 
-// Makes a call in the byte order that a caller in C passes. With `=> made`, the result is made of the
-// call's in each branch, which takes six instructions less: short texts notice it.
+// Makes a call in the byte order that a caller in C passes. With `=> made`, the result is made of
+// the call's in each branch, which takes six instructions less: short texts notice it.
 macro_rules! in_order {
     ($byte_order:expr, $call:ident($($argument:expr),*)) => {
         if $crate::byte_order::is_big_endian($byte_order) {

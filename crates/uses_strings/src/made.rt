@@ -48,8 +48,8 @@ pub fn push_any<E: Utf16Order, F: Utf16Order, A: Allocator>(
     string.extend(text.chars())
 }
 
-/// Appends the fields of a line, without the commas. If allocation fails, the fields before one that
-/// did not fit are appended, and the capacity is at least what it was.
+/// Appends the fields of a line, without the commas. If allocation fails, the fields before one
+/// that did not fit are appended, and the capacity is at least what it was.
 pub fn push_fields<E: Utf16Order, A: Allocator>(
     string: &mut WString<E, A>,
     line: WStr<E>,

@@ -90,8 +90,8 @@ impl<E: Utf16Order, A: Allocator> WString<E, A> {
     ///
     /// # Complexity
     ///
-    /// One pass over a text of fewer than 192 bytes, else two. Allocates at most once, and not at all
-    /// if the text fits in the capacity.
+    /// One pass over a text of fewer than 192 bytes, else two. Allocates at most once, and not at
+    /// all if the text fits in the capacity.
     pub fn push_str(&mut self, string: &str) -> Result<(), AllocError>
         ensures text { OnOk result (wstring_text self.new
             ≡ push_text (wstring_text self.old) (chars string.now)) }
