@@ -5,7 +5,7 @@
 # library is built over the libraries that rt ci has just proved, and with --library FILE it is not
 # built: FILE is tested. With --headers c it is not built either, and only what tests the headers
 # runs, up to the first failure, or with --headers c++ what tests the one for C++: examples/slips
-# runs this for each wrong line that it plants in a header.
+# runs this for a wrong line in a header that no shorter test finds.
 set -uo pipefail
 here=$(cd "$(dirname "$0")" && pwd)
 top=$here/../..
