@@ -19,6 +19,7 @@ import sys
 import tempfile
 import threading
 import unittest
+import weakref
 from pathlib import Path
 
 import dethrux
@@ -978,6 +979,27 @@ class Interpreters(unittest.TestCase):
         # The module has let go of what it kept; the tuple of statuses was another one before.
         self.assertEqual(gone, [before[0] - 1, before[1] - 1, before[2], before[3] - 1])
         self.assertEqual(list(map(sys.getrefcount, handlers)), counts)
+
+    def test_a_module_in_a_cycle(self):
+        """A module is collected together with what it keeps, if that refers to the module."""
+        for place in range(4):
+            other = self.other()
+
+            class Kept:
+                pass
+
+            def validate():
+                pass
+
+            types = [type("Type", (), {}) for _ in range(2)]
+            kept = (*types, Kept(), validate)
+            other.set_up(_library.handle(), *types, (kept[2],))
+            other.take(validate)
+            kept[place].module = other
+            gone = weakref.ref(kept[place])
+            del other, types, kept, validate
+            gc.collect()
+            self.assertIsNone(gone(), place)
 
     def test_another_handler_under_the_name_surrogatepass(self):
         """Only CPython's is known, and a module may be set up when another one is there."""
