@@ -1,7 +1,7 @@
 #!/bin/sh
-# Builds the library and its competitors, makes the texts, runs all benchmarks, and writes the
-# tables (run.md) and the chart (chart.svg) to bench/out. The library is built from dist/; `here v3`
-# is its code for processors with AVX2. If SIMDUTF names a folder with simdutf.cpp and simdutf.h,
+# Builds the library and its competitors, makes the texts, runs all benchmarks, writes what they
+# measured to bench/out/lines.tsv, and prints the rows in which a competitor is faster. The library
+# is built from dist/; `here v3` is its code for processors with AVX2. If SIMDUTF names a folder with simdutf.cpp and simdutf.h,
 # simdutf's kernels are also timed: westmere, haswell if the processor has AVX2, and icelake if it has
 # AVX-512.
 set -eu
@@ -76,5 +76,5 @@ done
 out/calls out > out/lines.tsv
 out/programs out ../crates/utf16_cat/out/utf16_cat ../crates/utf16_enc/out/utf16_enc 1024 >> out/lines.tsv
 rm out/*.made
-awk -v chart=out/chart.svg -f report.awk out/lines.tsv | tee out/run.md
+./publish.py --behind
 ! grep "^differs" out/lines.tsv >&2

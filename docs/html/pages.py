@@ -18,7 +18,6 @@ from contracts import DEFINED, WORD, imports, read  # noqa: E402
 # The tool that renders Markdown as GitHub does; without it only manual pages can be made.
 MARKDOWN = "cmark-gfm"
 DOCUMENTS = ("*.md", "docs/*.md", "*/README.md", "bindings/*/README.md", "bindings/*/*/README.md")
-DOCUMENTS += ("bench/results/*.md",)
 PICTURES = {".svg", ".png"}
 # Folders that tools write.
 MADE = {"out", "target", "build", "dist", "__pycache__"}
