@@ -42,7 +42,7 @@ FIRST = (
     ("docs/PYTHON.md", "Python"),
     ("docs/RUST.md", "Rust"),
     ("docs/JS.md", "JavaScript"),
-    ("docs/CALLING.md", "Rattle"),
+    ("docs/RATTLE.md", "Rattle"),
     ("docs/RECIPES.md", "Recipes"),
     ("docs/PROMISES.md", "Promises"),
 )
