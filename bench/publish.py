@@ -152,10 +152,22 @@ def sort():
             yield *what, cells[at], "Rust's String", cells[4], by
 
 
+def rust():
+    task, ours = "", []
+    for columns, cells in tables("rust"):
+        if cells[0]:
+            task, ours = cells[0], cells[2:]
+            continue
+        for column, own, by in zip(columns[2:], ours, cells[2:]):
+            (text, _, short), (number, unit) = column.partition("."), own.split(" ")
+            size = "32 bytes" if short else "64 KiB"
+            yield task, "le", text, size, unit, "", number, cells[1], "", by
+
+
 def measured():
     """The rows of all scripts that were run, by their keys."""
     found = {}
-    for it in (run, real, fixed, walks, worst, python, retain, sort):
+    for it in (run, real, fixed, walks, worst, python, retain, sort, rust):
         name = "lines.tsv" if it is run else f"{it.__name__}.md"
         for row in it() if os.path.exists(f"out/{name}") else ():
             row = {"script": it.__name__, **dict(zip(COLUMNS[4:], row))}
