@@ -22,7 +22,7 @@ cp -R "$top/bindings/rust/dethrux" "$room/crate"
 cp "$top"/{LICENSE-APACHE,LICENSE-MIT,THIRD-PARTY.md} "$room/crate/"
 mkdir "$room/crate/dist"
 cp -R "$top"/dist/{src,include} "$room/crate/dist/"
-cargo package --quiet --offline --allow-dirty --no-verify --target-dir "$room/target" \
+cargo package --quiet --allow-dirty --no-verify --target-dir "$room/target" \
     --manifest-path "$room/crate/Cargo.toml" >&2
 mv "$room/target/package/$name" "$folder/"
 echo "$folder/$name"

@@ -1,11 +1,11 @@
 #!/usr/bin/env bash
 # Times the Rust strings next to encoding_rs, widestring and std, and prints a table. It needs
 # cargo, the library (crates/dethrux/out/libdethrux.a), and the Debian packages
-# librust-encoding-rs-dev, librust-widestring-dev and librust-byteorder-dev.
+# librust-NAME-dev of the crates below.
 set -euo pipefail
 here=$(cd "$(dirname "$0")" && pwd)
 registry=/usr/share/cargo/registry
-for crate in byteorder encoding_rs widestring; do
+for crate in byteorder cc encoding_rs pkg-config widestring; do
     compgen -G "$registry/$crate-*" > /dev/null && continue
     echo "bench: missing: the Rust crate $crate (Debian: librust-${crate//_/-}-dev)" >&2
     exit 1
