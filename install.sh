@@ -40,196 +40,93 @@ case $libdir in
         ;;
 esac
 root=${DESTDIR-}${prefix%/}
+# The files that were installed and the folders that were made, which end with a '/'.
 manifest=share/dethrux/install_manifest.txt
-# The paths that are installed, the folders that are made, and the lines of the old manifest.
-installed=()
-made=()
+# The manifest that was there before, and what goes into the new one.
 listed=()
+declare -A installed=()
 
 # Makes a folder below the root, and records each folder that did not exist.
 make_folder() {
     [ ! -d "$root/$1" ] || return 0
     [[ $1 != */* ]] || make_folder "${1%/*}"
     mkdir -m 755 -- "$root/$1"
-    made+=("$1/")
+    installed[$1/]=1
 }
 
-# Records a path and prints it.
-record() {
-    installed+=("$1")
-    echo "$root/$1"
-}
-
-# Installs a file with these permissions.
+# Installs a file or a symbolic link of a folder, and prints its path.
 put() {
-    make_folder "${3%/*}"
-    install -m "$1" -- "$2" "$root/$3"
-    record "$3"
-}
-
-# Installs a symbolic link.
-put_link() {
-    ln -sfn -- "$1" "$root/$2"
-    record "$2"
-}
-
-# Installs a template of dist/, with the relative path from its folder up to PREFIX.
-put_filled() {
-    local from=$1 to=$2 up
-    up=$(sed 's/[^/]\+/../g' <<< "${to%/*}")
-    make_folder "${to%/*}"
-    sed -e "s|@VERSION@|$version|g" -e "s|@SOVERSION@|${version%.*}|g" -e "s|@UP@|$up|g" \
-        -e "s|@LIBDIR@|$libdir|g" "$top/dist/$from.in" > "$room/$from"
-    put 644 "$room/$from" "$to"
-}
-
-# Installs the libraries from the folder where make built them.
-put_libraries() {
-    local from=$1 soname=libdethrux.so.${version%.*} level=glibc-hwcaps/x86-64-v3
-    put 644 "$from/libdethrux.a" "$libdir/libdethrux.a"
-    if [ -e "$from/dethrux.dll" ]; then
-        put 644 "$from/libdethrux.dll.a" "$libdir/libdethrux.dll.a"
-        put 644 "$top/dist/src/dethrux.def" "$libdir/dethrux.def"
-        put 755 "$from/dethrux.dll" bin/dethrux.dll
-        return
+    local from=$1/$2 mode=644
+    make_folder "${2%/*}"
+    if [ -L "$from" ]; then
+        ln -sfn -- "$(readlink "$from")" "$root/$2"
+    else
+        [ ! -x "$from" ] || mode=755
+        install -m $mode -- "$from" "$root/$2"
     fi
-    put 644 "$from/libdethrux.so.$version" "$libdir/libdethrux.so.$version"
-    put_link "libdethrux.so.$version" "$libdir/$soname"
-    put_link "$soname" "$libdir/libdethrux.so"
-    [ -e "$from/$level" ] || return 0
-    put 644 "$from/$level/libdethrux.a" "$libdir/$level/libdethrux.a"
-    put 644 "$from/$level/$soname" "$libdir/$level/$soname"
+    installed[$2]=1
+    echo "$root/$2"
 }
 
-# Installs from a clone. The argument is the folder of the libraries.
-put_built() {
-    local built=$top/packaging/out header page
-    for program in utf16_cat utf16_enc utf16_check; do
-        [[ ${1##*/} == x86_64-*linux-gnu* && -e $built/$program ]] || continue
-        put 755 "$built/$program" "bin/$program"
-        put 644 "$top/crates/$program/$program.1" "share/man/man1/$program.1"
-    done
-    for page in "$built"/man3/*; do
-        put 644 "$page" "share/man/man3/${page##*/}"
-    done
-    for header in "$top"/include/*.h*; do
-        put 644 "$header" "include/${header##*/}"
-    done
-    put_libraries "$1"
-    put_filled dethrux.pc "$libdir/pkgconfig/dethrux.pc"
-    put_filled dethruxConfig.cmake "$libdir/cmake/dethrux/dethruxConfig.cmake"
-    put_filled dethruxConfigVersion.cmake "$libdir/cmake/dethrux/dethruxConfigVersion.cmake"
-    for page in CHANGELOG.md LICENSE-APACHE LICENSE-MIT THIRD-PARTY.md docs/C.md docs/CPP.md; do
-        put 644 "$top/$page" "share/doc/dethrux/${page##*/}"
-    done
-}
-
-# Installs from an unpacked release archive, which has the same folders as PREFIX.
-put_unpacked() {
-    local file mode files
-    mapfile -d '' files < <(
-        cd "$top" && find bin include lib share ! -type d -print0 2> /dev/null | sort -z
-    )
-    for file in "${files[@]}"; do
-        if [ -L "$top/$file" ]; then
-            put_link "$(readlink "$top/$file")" "$file"
-        else
-            mode=644
-            [ ! -x "$top/$file" ] || mode=755
-            put $mode "$top/$file" "$file"
-        fi
-    done
-}
-
-# Reads the manifest, if there is one. A path in it that leads out of the root is an error.
-read_manifest() {
-    local line
-    [ -f "$root/$manifest" ] || return 0
-    mapfile -t listed < "$root/$manifest"
-    for line in "${listed[@]}"; do
-        case /$line/ in
-            //* | */../*)
-                fail "$root/$manifest has '$line', which is not a path below $root/: correct it"
-                ;;
-        esac
-    done
-}
-
-# Removes a file, and prints its path.
-remove() {
-    [ -e "$root/$1" ] || [ -L "$root/$1" ] || return 0
-    rm -f -- "$root/$1"
-    echo "removed $root/$1"
-}
-
-# Updates the cache of the loader, if the loader searches this folder.
-tell_loader() {
-    [ $EUID = 0 ] && grep -rqsxF -- "$root/$libdir" /etc/ld.so.conf /etc/ld.so.conf.d || return 0
-    ldconfig
-}
-
-# Makes the root. A root that cannot be written, or a bad manifest, is an error.
-make_root() {
-    [ -d "$root/" ] || made+=(./)
-    if ! mkdir -p -- "$root/" 2> /dev/null || [ ! -w "$root/" ]; then
-        fail "cannot write below $root/: give another PREFIX, or run this as its owner"
-    fi
-    read_manifest
-}
-
-# Writes the manifest: what was installed, and the folders that an earlier version made. Files of
-# an earlier version that this version does not have are removed.
-write_manifest() {
-    local line
-    make_folder "${manifest%/*}"
-    record "$manifest"
-    for line in "${listed[@]}"; do
-        if [[ $line == */ ]]; then
-            made+=("$line")
-        elif ! printf '%s\n' "${installed[@]}" | grep -qxF -- "$line"; then
-            remove "$line"
-        fi
-    done
-    printf '%s\n' "${installed[@]}" "${made[@]}" | LC_ALL=C sort -u > "$room/manifest"
-    install -m 644 -- "$room/manifest" "$root/$manifest"
-}
-
-do_install() {
-    version=$(< "$top/VERSION")
+# Installs all files of a folder, which has the same folders as PREFIX, and the manifest.
+install_all() {
+    local from=$top file line
     room=$(mktemp -d)
     trap 'rm -rf "$room"' EXIT
     if [ -d "$top/dist" ]; then
-        folder=$("$top/packaging/build.sh")
-        make_root
-        put_built "$folder"
-    else
-        [ "$libdir" = lib ] || fail 'a release archive has its libraries only in lib: unset LIBDIR'
-        make_root
-        put_unpacked
+        from=$room/built
+        "$top/packaging/build.sh" "$from" > /dev/null
+    elif [ "$libdir" != lib ]; then
+        fail 'a release archive has its libraries only in lib: unset LIBDIR'
     fi
-    write_manifest
-    tell_loader
+    [ -d "$root/" ] || installed[./]=1
+    if ! mkdir -p -- "$root/" 2> /dev/null || [ ! -w "$root/" ]; then
+        fail "cannot write below $root/: give another PREFIX, or run this as its owner"
+    fi
+    while IFS= read -r -d '' file; do
+        put "$from" "$file"
+    done < <(cd "$from" && find bin include lib share ! -type d -print0 2> /dev/null | sort -z)
+    for line in "${listed[@]}"; do
+        [[ $line != */ ]] || installed[$line]=1
+    done
+    make_folder "${manifest%/*}"
+    installed[$manifest]=1
+    mkdir -p "$room/${manifest%/*}"
+    printf '%s\n' "${!installed[@]}" | LC_ALL=C sort > "$room/$manifest"
+    put "$room" "$manifest"
 }
 
-do_uninstall() {
+# Removes the files of the old manifest that were not installed now, then the folders of it that are
+# empty.
+remove_rest() {
     local line
-    [ -f "$root/$manifest" ] || fail "nothing is installed: there is no $root/$manifest"
-    read_manifest
     for line in "${listed[@]}"; do
-        [[ $line == */ ]] || remove "$line"
+        [[ $line != */ && -z ${installed[$line]-} ]] || continue
+        [ -e "$root/$line" ] || [ -L "$root/$line" ] || continue
+        rm -f -- "$root/$line"
+        echo "removed $root/$line"
     done
-    # Removes the folders that were made, the deepest first, unless they contain something else.
     for line in "${listed[@]}"; do
         [[ $line != */ ]] || echo "${line%/}"
     done | LC_ALL=C sort -r | while IFS= read -r line; do
         line=$(realpath -ms -- "$root/$line")
         ! rmdir -- "$line" 2> /dev/null || echo "removed $line/"
     done
-    tell_loader
 }
 
-if $uninstall; then
-    do_uninstall
-else
-    do_install
+if [ -f "$root/$manifest" ]; then
+    mapfile -t listed < "$root/$manifest"
+elif $uninstall; then
+    fail "nothing is installed: there is no $root/$manifest"
+fi
+for line in "${listed[@]}"; do
+    case /$line/ in
+        //* | */../*) fail "$root/$manifest has '$line', which is not a path below $root/: correct it" ;;
+    esac
+done
+$uninstall || install_all
+remove_rest
+# Updates the cache of the loader, if the loader searches this folder.
+if [ $EUID = 0 ] && grep -rqsxF -- "$root/$libdir" /etc/ld.so.conf /etc/ld.so.conf.d; then
+    ldconfig
 fi

@@ -1,26 +1,45 @@
 #!/usr/bin/env bash
-# Makes the release archives and SHA256SUMS, the list of their checksums, in FOLDER (by default
-# packaging/out), and prints their paths. The same tree and the same compilers give the same bytes.
+# Makes what is published, in FOLDER (by default packaging/out), and prints the paths: the PARTs that
+# are named, or all and SHA256SUMS, the list of their checksums. The same tree and the same compilers
+# give the same bytes. The date of the files is the one of CHANGELOG, or SOURCE_DATE_EPOCH.
 #
-#     packaging/release.sh [FOLDER]
+#     packaging/release.sh [FOLDER [PART..]]
 #
-#     dethrux-VERSION-x86_64-linux-gnu.tar.gz    Linux on x86-64-v2 and x86-64-v3
-#     dethrux-VERSION-aarch64-linux-gnu.tar.gz   Linux on ARM64
-#     dethrux-VERSION-x86_64-windows.zip         Windows, by packaging/zip.sh
-#     dethrux-VERSION-dist.tar.gz                the assembly, for anyone with a C compiler
+#     linux      dethrux-VERSION-x86_64-linux-gnu.tar.gz: Linux on x86-64-v2 and x86-64-v3
+#     arm64      dethrux-VERSION-aarch64-linux-gnu.tar.gz: Linux on ARM64
+#     windows    dethrux-VERSION-x86_64-windows.zip: Windows, with MinGW's gcc
+#     dist       dethrux-VERSION-dist.tar.gz: the assembly, for anyone with a C compiler
+#     deb        the Debian packages for amd64, with dpkg-buildpackage
+#     deb-arm64  the Debian packages for arm64
+#     wheels     the Python package, with packaging/wheels.sh
+#     npm        the JavaScript package, with npm pack
+#     crate      the Rust crate, with cargo package
 #
-# If a cross compiler is missing, a line says which archive is left out, and the status is 3.
+# If a part cannot be made, a line says why, and the status is 3 after the other parts.
 set -euo pipefail
 here=$(cd "$(dirname "${BASH_SOURCE[0]}")" && pwd)
 top=$(dirname "$here")
 version=$(< "$top/VERSION")
-made=()
-status=0
+legal=(LICENSE-APACHE LICENSE-MIT THIRD-PARTY.md)
+all=(linux arm64 windows dist deb deb-arm64 wheels npm crate)
 
 # Prints one line, and ends with status 1.
 fail() {
     echo "release.sh: $1" >&2
     exit 1
+}
+
+# Fails if there is none of these tools.
+need() {
+    local tool
+    for tool; do
+        command -v "$tool" > /dev/null || fail "left out: $part: there is no $tool"
+    done
+}
+
+# Runs the tool of an ecosystem. Its output appears if it fails.
+run() {
+    "$@" > "$room/log" 2>&1 || { cat "$room/log" >&2; fail "left out: $part: $1 failed"; }
 }
 
 # Prints the date of this version in CHANGELOG.md, in seconds since 1970.
@@ -31,79 +50,156 @@ released() {
     date -u -d "$day" +%s
 }
 
-# Tests that there is a compiler, or says what is left out.
-has() {
-    command -v "$1" > /dev/null && return
-    echo "release.sh: left out: $2: there is no $1" >&2
-    status=3
-    return 1
+# Moves files to the folder.
+give() {
+    local file
+    for file; do
+        mv "$file" "$folder/"
+        echo "${file##*/}"
+    done
 }
 
-# Adds the checksums of all files to a folder of the temporary folder, and packs it.
-pack() {
-    local name=$1
-    (cd "$room/$name" && find . -type f -printf '%P\0' | LC_ALL=C sort -z | xargs -0 sha256sum) \
-        > "$room/sums"
-    mv "$room/sums" "$room/$name/SHA256SUMS"
-    tar -C "$room" --sort=name --format=gnu --owner=0 --group=0 --numeric-owner --mtime="@$when" \
-        -cf - "$name" | gzip -9n > "$folder/$name.tar.gz"
-    made+=("$name.tar.gz")
-}
+# == archives
 
 # Copies files of the tree, and folders without what was built there.
 copy() {
-    local name=$1
-    shift
-    (cd "$top" && cp -R --parents "$@" "$room/$name/")
+    mkdir -p "$room/$name"
+    (cd "$top" && cp -R --parents "${legal[@]}" CHANGELOG.md VERSION docs/INSTALL.md "$@" \
+        "$room/$name/")
     find "$room/$name" \( -name __pycache__ -o -path "$room/$name/*/out" \) -prune -exec rm -r {} +
 }
 
-# Makes the archive of what a compiler installs, and more files.
-built() {
-    local name=dethrux-$version-$1 compiler=$2
-    shift 2
-    CC=$compiler LEVEL=x86-64-v2 DESTDIR='' LIBDIR=lib \
-        "$top/install.sh" "$room/$name" > "$room/said"
-    rm -r "$room/$name/share/dethrux"
-    copy "$name" CHANGELOG.md LICENSE-APACHE LICENSE-MIT THIRD-PARTY.md VERSION install.sh \
-        docs/INSTALL.md "$@"
-    cp "$here/README.md" "$room/$name/"
-    pack "$name"
+# Adds the checksums of all files, and packs them.
+pack() {
+    (cd "$room/$name" && find . -type f -printf '%P\0' | LC_ALL=C sort -z | xargs -0 sha256sum) \
+        > "$room/sums"
+    mv "$room/sums" "$room/$name/SHA256SUMS"
+    if [[ $name == *-windows ]]; then
+        find "$room/$name" -exec touch -h -d "@$when" {} +
+        (cd "$room" && TZ=UTC python3 -m zipfile -c "$name.zip" "$name")
+        give "$room/$name.zip"
+    else
+        tar -C "$room" --sort=name --format=gnu --owner=0 --group=0 --numeric-owner \
+            --mtime="@$when" -cf - "$name" | gzip -9n > "$room/$name.tar.gz"
+        give "$room/$name.tar.gz"
+    fi
 }
 
-# Makes the archive that anyone with make and a C compiler can build, test and install.
-sources() {
-    local name=dethrux-$version-dist
-    mkdir "$room/$name"
-    copy "$name" CHANGELOG.md LICENSE-APACHE LICENSE-MIT THIRD-PARTY.md VERSION install.sh \
-        cases dist docs/{C,CPP,INSTALL}.md examples/c/{check,decode,first,fixed,units}.c include \
+# Packs what a compiler builds, with more files.
+built() {
+    need "$2"
+    name=dethrux-$version-$1
+    CC=$2 LEVEL=x86-64-v2 LIBDIR=lib "$here/build.sh" "$room/$name" > "$room/log"
+    [[ $1 != *-windows ]] || rm -r "$room/$name/share"
+    copy "${@:3}"
+    cp "$here/README.md" "$room/$name/"
+    pack
+}
+
+make_linux() {
+    built x86_64-linux-gnu "${CC:-cc}" install.sh docs/PYTHON.md \
+        bindings/python/{README.md,build_backend.py,pyproject.toml,src}
+}
+
+make_arm64() {
+    built aarch64-linux-gnu aarch64-linux-gnu-gcc install.sh
+}
+
+make_windows() {
+    built x86_64-windows x86_64-w64-mingw32-gcc docs/{C,CPP}.md
+}
+
+make_dist() {
+    name=dethrux-$version-dist
+    copy install.sh cases dist docs/{C,CPP}.md examples/c/{check,decode,first,fixed,units}.c include \
         packaging/{build.sh,man3}
     cp "$top/dist/README.md" "$room/$name/"
-    pack "$name"
+    pack
 }
 
-if [ $# -gt 1 ] || [[ ${1-.} == -* ]]; then
-    echo 'usage: packaging/release.sh [FOLDER]' >&2
+# == packages
+
+make_deb() {
+    need dpkg-buildpackage dh
+    mkdir "$room/tree"
+    cp -R "$here/debian" "$room/tree/"
+    cd "$room/tree"
+    DETHRUX_TOP=$top run dpkg-buildpackage --build=binary --no-sign "$@"
+    give "$room"/*.deb
+}
+
+# A cross compiler has libc6-dev of the other architecture in another package.
+make_deb-arm64() {
+    need aarch64-linux-gnu-gcc
+    CC=aarch64-linux-gnu-gcc make_deb --host-arch arm64 --no-check-builddeps
+}
+
+make_wheels() {
+    local made status=0
+    mkdir "$room/wheels"
+    "$here/wheels.sh" "$room/wheels" > "$room/log" || status=$?
+    mapfile -t made < "$room/log"
+    give "${made[@]}"
+    return $status
+}
+
+make_npm() {
+    need npm
+    mkdir "$room/npm"
+    install -m 644 "$top"/bindings/js/{*.js,dethrux.d.ts,package.json,README.md} \
+        "${legal[@]/#/$top/}" "$top/dist/wasm/dethrux.wasm" "$room/npm/"
+    cd "$room/npm"
+    npm_config_cache=$room/cache run npm pack --offline --ignore-scripts
+    give "$room/npm/dethrux-$version.tgz"
+}
+
+# cargo takes the crates of the build script from Debian's packages if they are installed.
+make_crate() {
+    local registry=/usr/share/cargo/registry words=()
+    need cargo
+    cp -R "$top/bindings/rust/dethrux" "$room/crate"
+    cp "${legal[@]/#/$top/}" "$room/crate/"
+    mkdir "$room/crate/dist"
+    cp -R "$top"/dist/{src,include} "$room/crate/dist/"
+    ! compgen -G "$registry/cc-*" > "$room/log" || words=(--offline
+        --config 'source.crates-io.replace-with="debian"'
+        --config "source.debian.directory=\"$registry\"")
+    # A lock file would have the checksums of Debian's packages.
+    ! cargo package --help | grep -q -e --exclude-lockfile || words+=(--exclude-lockfile)
+    run cargo package "${words[@]}" --allow-dirty --no-verify --target-dir "$room/target" \
+        --manifest-path "$room/crate/Cargo.toml"
+    give "$room/target/package/dethrux-$version.crate"
+}
+
+folder=${1-$here/out}
+parts=("${@:2}")
+for part in "${parts[@]}"; do
+    [[ " ${all[*]} " == *" $part "* ]] || folder=-
+done
+if [[ $folder == -* ]]; then
+    echo "usage: packaging/release.sh [FOLDER [PART..]]: ${all[*]}" >&2
     exit 2
 fi
-folder=${1-$here/out}
+[ ${#parts[@]} != 0 ] || parts=("${all[@]}")
 when=${SOURCE_DATE_EPOCH:-$(released)}
 mkdir -p "$folder"
 folder=$(cd "$folder" && pwd)
-room=$(mktemp -d)
-trap 'rm -rf "$room"' EXIT
+rooms=$(mktemp -d)
+trap 'rm -rf "$rooms"' EXIT
 umask 022
-
-built x86_64-linux-gnu "${CC:-cc}" docs/PYTHON.md \
-    bindings/python/{README.md,build_backend.py,pyproject.toml,src}
-if has aarch64-linux-gnu-gcc 'Linux on ARM64'; then
-    built aarch64-linux-gnu aarch64-linux-gnu-gcc
+status=0
+for part in "${parts[@]}"; do
+    room=$rooms/$part
+    mkdir "$room"
+    # Not in a condition, where a command that fails would not end it.
+    set +e
+    (set -e; "make_$part") >> "$rooms/made"
+    [ $? = 0 ] || status=3
+    set -e
+done
+if [ $# -le 1 ]; then
+    (cd "$folder" && xargs -rd '\n' sha256sum < "$rooms/made" > SHA256SUMS)
+    echo SHA256SUMS >> "$rooms/made"
 fi
-if has x86_64-w64-mingw32-gcc Windows; then
-    "$here/zip.sh" "$folder" > "$room/said"
-    made+=("dethrux-$version-x86_64-windows.zip")
-fi
-sources
-(cd "$folder" && sha256sum "${made[@]}" > SHA256SUMS)
-printf "$folder/%s\n" "${made[@]}" SHA256SUMS
+sed "s|^|$folder/|" "$rooms/made"
 exit $status

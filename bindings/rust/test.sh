@@ -263,7 +263,7 @@ END
 
 # Packages the crate, and unpacks it outside of the clone.
 package() {
-    (cd "$room" && "$top/packaging/crate.sh" "$room") &&
+    "$top/packaging/release.sh" "$room" crate &&
         tar -C "$room" -xzf "$room/dethrux-$(< "$top/VERSION").crate" &&
         ls "$room/dethrux-$(< "$top/VERSION")"/{LICENSE-APACHE,LICENSE-MIT,THIRD-PARTY.md}
 }
