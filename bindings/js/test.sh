@@ -117,7 +117,7 @@ builds_page() {
 
 test_node() {
     node=${NODE:-node}
-    need "$node:nodejs" npm:npm tsc:node-typescript || return
+    need "$node:nodejs" npm:npm tsc:node-typescript python3:python3 || return
     if ! is_new_enough; then
         failed=$((failed + 1))
         echo "failed: Node is $("$node" --version): install nodejs 20 from 20.16, or from 22.3"
@@ -129,7 +129,7 @@ test_node() {
     check 'its installation' install_package || return
     counts 'the tests of the calls' unit_tests calls.test.mjs
     counts 'the tests of streams' unit_tests streams.test.mjs
-    counts 'the tables of cases' run_node tests/cases.mjs "$top"/cases/*.txt
+    counts 'the tables of cases' run_node tests/cases.mjs
     check 'an engine without 64-bit memory' says_what_is_missing
     check 'the first program' first_program
     check 'the page has the first program' page_has_program

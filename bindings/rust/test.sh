@@ -3,7 +3,7 @@
 # documentation with each set of features, the page docs/RUST.md in an empty project, how the build
 # script finds or compiles the library and what it refuses, the package of dethrux, documentation
 # without the library, formatting and lints. With --tests it skips the last two. The last line is
-# 'N passed, M failed'. It needs cargo, cc, pkg-config, the library
+# 'N passed, M failed'. It needs cargo, cc, pkg-config, python3, the library
 # (crates/dethrux/out/libdethrux.a, or the folder that DETHRUX_LIB_DIR names), and the crates cc,
 # pkg-config and byteorder as Debian packages them. What is missing is a failure, which names its
 # Debian package.
@@ -334,7 +334,8 @@ test_targets() {
 }
 
 library=${DETHRUX_LIB_DIR:-$top/crates/dethrux/out}/libdethrux.a
-for pair in cargo:cargo rustc:rustc cc:gcc ar:binutils make:make pkg-config:pkg-config cmp:diffutils \
+for pair in cargo:cargo rustc:rustc cc:gcc ar:binutils make:make pkg-config:pkg-config \
+    cmp:diffutils python3:python3 \
     x86_64-linux-gnu-gcc:gcc aarch64-linux-gnu-gcc:gcc-aarch64-linux-gnu \
     qemu-aarch64:qemu-user x86_64-w64-mingw32-gcc:gcc-mingw-w64-x86-64; do
     command -v "${pair%:*}" > /dev/null ||

@@ -217,7 +217,7 @@ shared() {
 
 check_python() {
     PYTHONDONTWRITEBYTECODE=1 PYTHONPATH="$top/bindings/python/src" \
-        DETHRUX_LIBRARY="$room/libdethrux.so" python3 "$here/check.py" < "$room/cases"
+        DETHRUX_LIBRARY="$room/libdethrux.so" python3 "$here/check.py"
 }
 
 test_c() {

@@ -1,55 +1,35 @@
-// Reads the tables of cases/ and makes the calls that the package has: on bytes, and in little
-// endian also on code units. Prints each case whose result differs, with both results, and last
-// 'N passed, M failed'. Cases of other calls, and cases with a condition on memory or devices, are
-// not run.
-import { readFileSync } from "node:fs";
+// Makes the calls of the tables of cases/ that the package has: on bytes, and in little endian also
+// on code units. Prints each case whose result differs, with both results, and last 'N passed, M
+// failed'. Cases of other calls, and cases with a condition on memory or devices, are not run.
+// DETHRUX_TOP is the folder of the repository, whose cases/to_json.py reads the tables with Python.
+import { execFileSync } from "node:child_process";
 import { load } from "dethrux";
 
 const dethrux = await load();
-const ORDERS = { le: ["le"], be: ["be"], both: ["le", "be"] };
 const STOPS = { done: "end", incomplete: "incomplete", "no-space": "no_space", "not-latin1": "not_latin1" };
+
+/** The bytes of a word. */
+function bytes(word) {
+    if (!/^(-|([0-9A-F]{2})+)$/.test(word)) {
+        throw new Error(`these are not bytes: ${word}`);
+    }
+    return new Uint8Array(Buffer.from(word, "hex"));
+}
+
+const chunks = (words) => words.flatMap((word) => word.split(",").map(bytes));
 const hex = (array) => Buffer.from(array).toString("hex").toUpperCase() || "-";
-const swapped = (bytes) => Buffer.from(bytes, 0).map((_, at, all) => all[at ^ 1] ?? all[at]);
-const unescaped = (it) => it.replace(/\\u\{([0-9A-F]+)\}/g, (_, point) => String.fromCodePoint(parseInt(point, 16)));
-
-/** The bytes that a word without repetitions spells. */
-function part(word, order) {
-    if (word === "-") {
-        return Buffer.alloc(0);
-    }
-    if (word.startsWith("~")) {
-        const bytes = Buffer.from(unescaped(word.slice(2, -1)), "utf16le");
-        return order === "be" ? swapped(bytes) : bytes;
-    }
-    if (word.startsWith('"')) {
-        return Buffer.from(unescaped(word.slice(1, -1)));
-    }
-    if (word.startsWith("^")) {
-        const bytes = Buffer.from(word.slice(1), "hex");
-        return order === "le" ? swapped(bytes) : bytes;
-    }
-    return Buffer.from(word, "hex");
-}
-
-/** The bytes that a word of a case spells. */
-function spelled(word, order) {
-    const parts = /^\d+\*/.test(word) ? word.split("+").map((it) => it.split("*")) : [[1, word]];
-    return Buffer.concat(parts.flatMap(([count, it]) => Array(Number(count)).fill(part(it, order))));
-}
-
-const bytes = (word, order) => new Uint8Array(spelled(word, order));
-const chunks = (words, order) => (words[0] ?? "").split(",").filter(Boolean).map((it) => bytes(it, order));
+const text = (array) => `utf8:${hex(array)}`;
 
 /** UTF-32, which a case spells in big endian. */
 function points(word) {
-    const raw = spelled(word, "be");
+    const raw = Buffer.from(bytes(word));
     return Uint32Array.from({ length: raw.length / 4 }, (_, at) => raw.readUInt32BE(at * 4));
 }
 
-function spelledPoints(array) {
+function madePoints(array) {
     const raw = Buffer.alloc(array.length * 4);
     array.forEach((it, at) => raw.writeUInt32BE(it, at * 4));
-    return raw;
+    return hex(raw);
 }
 
 /** Fails if a function on code units gives something else than on bytes in little endian. */
@@ -69,13 +49,11 @@ function agree(found, name, order, raw, divided, ...more) {
 }
 
 const stop = ({ status, errorLen }) => (status === "ill-formed" ? ["ill_formed", errorLen] : [STOPS[status]]);
-const text = (array) => ({ isText: true, bytes: Buffer.from(array) });
-const raw = (array) => ({ isText: false, bytes: Buffer.from(array) });
 
 /** A conversion from UTF-16. */
 function fromUtf16(name, size, made) {
     return (order, [source, room]) => {
-        const utf16 = bytes(source, order);
+        const utf16 = bytes(source);
         const capacity = room === "size" ? size(utf16, order) : Number(room);
         const found = dethrux[name](utf16, order, capacity);
         agree(found, name, order, utf16, ["read", "errorLen"], capacity);
@@ -86,21 +64,21 @@ function fromUtf16(name, size, made) {
 /** A conversion to UTF-16, from what a case spells so. */
 function toUtf16(name, size, spell = bytes) {
     return (order, [source, room]) => {
-        const array = spell(source, order);
+        const array = spell(source);
         const capacity = room === "size" ? dethrux[size](array, order) : Number(room);
         const found = dethrux[name](array, order, capacity);
         const units = order === "le" && capacity % 2 === 0 && dethrux[name](array, undefined, capacity / 2);
         if (units && hex(new Uint8Array(units.output.buffer)) !== hex(found.output)) {
             throw new Error(`on code units: ${units.output}`);
         }
-        return [found.read, found.output.length, ...stop(found), raw(found.output)];
+        return [found.read, found.output.length, ...stop(found), hex(found.output)];
     };
 }
 
 /** What is asked of UTF-16. */
 function asked(name, divided, words) {
     return (order, [source]) => {
-        const utf16 = bytes(source, order);
+        const utf16 = bytes(source);
         return words(agree(dethrux[name](utf16, order), name, order, utf16, divided), utf16);
     };
 }
@@ -132,18 +110,18 @@ function cutAnywhere(array, made, coder) {
 
 function fromUtf8Lossy(order, words) {
     const found = toUtf16("fromUtf8Lossy", "fromUtf8LossyLen")(order, words);
-    const streams = found[2] === "end" ? cutAnywhere(bytes(words[0], order), dethrux.encoder, order) : [];
-    return [...found, ...streams.filter((it) => !it.equals(found.at(-1).bytes)).map(raw)];
+    const streams = found[2] === "end" ? cutAnywhere(bytes(words[0]), dethrux.encoder, order) : [];
+    return [...found, ...streams.map(hex).filter((it) => it !== found.at(-1))];
 }
 
 function fedLossy(order, words) {
     const decoder = dethrux.decoder(order);
-    const found = chunks(words, order).flatMap((it) => [text(decoder.feed(it)), raw(decoder.pending)]);
-    return [...found, decoder.finish().length ? "'\\u{FFFD}'" : "none"];
+    const found = chunks(words).flatMap((it) => [text(decoder.feed(it)), hex(decoder.pending)]);
+    return [...found, decoder.finish().length ? "U+FFFD" : "none"];
 }
 
 function compared(order, [first, second]) {
-    const arrays = [bytes(first, order), bytes(second, order)];
+    const arrays = [bytes(first), bytes(second)];
     const found = dethrux.compare(arrays[0], order, arrays[1], order);
     const other = arrays[1].slice();
     dethrux.swapByteOrder(other);
@@ -153,7 +131,7 @@ function compared(order, [first, second]) {
 
 function searched(name) {
     return (order, words) => {
-        const [utf16, pattern] = words.map((it) => bytes(it, order));
+        const [utf16, pattern] = words.map((it) => bytes(it));
         const found = dethrux[name](utf16, order, pattern);
         if (order === "le" && utf16.length % 2 === 0 && pattern.length % 2 === 0) {
             const arrays = [utf16, pattern].map((it) => new Uint16Array(it.slice().buffer));
@@ -168,15 +146,15 @@ function searched(name) {
 
 function changed(name, isCounted) {
     return (order, [source]) => {
-        const array = bytes(source, order);
+        const array = bytes(source);
         const found = isCounted ? dethrux[name](array, order) : dethrux[name](array);
-        return isCounted ? [found, raw(array)] : [raw(array)];
+        return isCounted ? [found, hex(array)] : [hex(array)];
     };
 }
 
 function atOffset(name, isOffset) {
     return (order, [source, at]) => {
-        const utf16 = bytes(source, order);
+        const utf16 = bytes(source);
         const offset = at === "max" ? Number.MAX_SAFE_INTEGER : Number(at);
         const found = dethrux[name](utf16, order, offset);
         if (order === "le" && utf16.length % 2 === 0 && offset % 2 === 0) {
@@ -193,16 +171,15 @@ const number = (found) => [found];
 const utf8Size = (utf16, order) => dethrux.toUtf8LossyLen(utf16, order);
 const wtf8Size = (utf16, order) => dethrux.toWtf8Len(utf16, order);
 const utf32Size = (utf16, order) => dethrux.toUtf32LossyLen(utf16, order);
-const madePoints = (it) => raw(spelledPoints(it));
 const CALLS = {
     validate_raw_utf16: asked("validate", ["validUpTo", "errorLen"], (it) => validity(it, ["done"])),
-    "WStr::from_utf16": asked("validate", ["validUpTo", "errorLen"], (it, utf16) => validity(it, [raw(utf16)])),
+    "WStr::from_utf16": asked("validate", ["validUpTo", "errorLen"], (it, utf16) => validity(it, [hex(utf16)])),
     count_chars: asked("countChars", [], number),
     is_ascii: asked("isAscii", [], number),
     to_utf8_lossy_len: asked("toUtf8LossyLen", [], number),
     to_utf32_lossy_len: asked("toUtf32LossyLen", [], number),
-    from_utf8_len: (order, [source]) => [dethrux.fromUtf8Len(bytes(source, order), order)],
-    from_utf8_lossy_len: (order, [source]) => [dethrux.fromUtf8LossyLen(bytes(source, order), order)],
+    from_utf8_len: (order, [source]) => [dethrux.fromUtf8Len(bytes(source), order)],
+    from_utf8_lossy_len: (order, [source]) => [dethrux.fromUtf8LossyLen(bytes(source), order)],
     from_utf32_lossy_len: (order, [source]) => [dethrux.fromUtf32LossyLen(points(source), order)],
     inspect: asked("inspect", ["validUpTo", "errorLen"], (it) => [it.validUpTo, it.chars, it.repertoire, ...stop(it)]),
     validate_utf32: (_order, [source]) => {
@@ -214,9 +191,9 @@ const CALLS = {
     to_utf8_partial: fromUtf16("toUtf8Partial", utf8Size, text),
     to_utf32: fromUtf16("toUtf32", utf32Size, madePoints),
     to_utf32_lossy: fromUtf16("toUtf32Lossy", utf32Size, madePoints),
-    to_latin1: fromUtf16("toLatin1", (it) => it.length, raw),
-    to_wtf8: fromUtf16("toWtf8", wtf8Size, raw),
-    to_wtf8_partial: fromUtf16("toWtf8Partial", wtf8Size, raw),
+    to_latin1: fromUtf16("toLatin1", (it) => it.length, hex),
+    to_wtf8: fromUtf16("toWtf8", wtf8Size, hex),
+    to_wtf8_partial: fromUtf16("toWtf8Partial", wtf8Size, hex),
     to_wtf8_len: asked("toWtf8Len", [], number),
     from_wtf8: toUtf16("fromWtf8"),
     from_wtf8_partial: toUtf16("fromWtf8Partial"),
@@ -228,7 +205,7 @@ const CALLS = {
     "bytes::is_char_boundary": atOffset("isCharBoundary", false),
     "bytes::floor_char_boundary": atOffset("floorCharBoundary", true),
     "bytes::floor_char_boundary_around": (order, [source, at]) => [
-        dethrux.floorCharBoundaryAround(bytes(source, order), order, BigInt(at)),
+        dethrux.floorCharBoundaryAround(bytes(source), order, BigInt(at)),
     ],
     shard_offset: (_order, words) => [dethrux.shardOffset(...words.map(BigInt))],
     swap_byte_order: changed("swapByteOrder", false),
@@ -236,33 +213,20 @@ const CALLS = {
     "bytes::compare": compared,
     "search::find": searched("find"),
     "search::rfind": searched("rfind"),
-    every_chunking: (order, [source]) => cutAnywhere(bytes(source, order), dethrux.decoder, order).map(text),
+    every_chunking: (order, [source]) => cutAnywhere(bytes(source), dethrux.decoder, order).map(text),
     "AnyLossy::every_chunking": (order, [source]) =>
-        cutAnywhere(bytes(source, order), dethrux.decoder, "bom").map(text),
+        cutAnywhere(bytes(source), dethrux.decoder, "bom").map(text),
     "Lossy::feed": fedLossy,
-    decode_pieces: (order, words) => [text(fed(dethrux.decoder(order), chunks(words, order)))],
+    decode_pieces: (order, words) => [text(fed(dethrux.decoder(order), chunks(words)))],
 };
 
-function isWanted(found, word, order) {
-    if (typeof found !== "object") {
-        return String(found) === word;
-    }
-    const isText = word.includes('"') && !word.includes("~");
-    return found.isText === isText && found.bytes.equals(spelled(word, order));
-}
-
-function shown(found) {
-    return found.map((it) => (typeof it === "object" ? hex(it.bytes) : it)).join(" ");
-}
-
-/** Whether a case holds, or why not. */
-function fault(order, call, values, wanted) {
+/** What is wrong with a case, or nothing. */
+function fault({ call, order, values, result }) {
     try {
-        const found = CALLS[call](order, values);
-        const holds = found.length === wanted.length && found.every((it, at) => isWanted(it, wanted[at], order));
-        return holds ? undefined : `found in ${order}: ${shown(found)}`;
+        const found = CALLS[call](order, values).join(" ");
+        return found === result.join(" ") ? undefined : `found ${found}`;
     } catch (error) {
-        return `${order}: ${error.message}`;
+        return String(error);
     }
 }
 
@@ -276,23 +240,15 @@ function count(said, line) {
     }
 }
 
-function runLine(line) {
-    const [, how, call, ...words] = line.trim().split(/\s+/);
-    const equals = words.indexOf("=");
-    if (!line.trim() || line.startsWith("#") || how?.includes(";") || (call && !(call in CALLS))) {
-        return;
-    }
-    if (equals < 0 || !(how in ORDERS)) {
-        count("this is not a case", line);
-        return;
-    }
-    made.add(call);
-    for (const order of ORDERS[how]) {
-        count(fault(order, call, words.slice(0, equals), words.slice(equals + 1)), line);
+const script = `${process.env.DETHRUX_TOP}/cases/to_json.py`;
+const lines = execFileSync("python3", [script], { encoding: "utf8", maxBuffer: Infinity });
+for (const line of lines.trim().split("\n")) {
+    const it = JSON.parse(line);
+    if (it.call in CALLS && it.conditions.length === 0) {
+        made.add(it.call);
+        count(fault(it), line);
     }
 }
-
-process.argv.slice(2).forEach((path) => readFileSync(path, "utf8").split("\n").forEach(runLine));
 for (const call of Object.keys(CALLS).filter((it) => !made.has(it))) {
     count("there is no case of it", call);
 }

@@ -1,469 +1,330 @@
 //! Makes the calls that the tables of `cases/` name. Prints each case whose result differs, with
 //! both results, and finally how many passed. Cases of other calls, and cases with a condition on
-//! memory or devices, are not run.
+//! memory or devices, are not run. `cases/to_json.py` reads the tables, so this needs Python.
 
 use dethrux::ByteOrder::{BigEndian, LittleEndian};
 use dethrux::*;
-use std::cmp::Ordering;
 use std::collections::BTreeSet;
-use std::path::Path;
+use std::process::{Command, Stdio};
 
-/// A word of a result.
-#[derive(Clone, Debug, PartialEq)]
-enum Word {
-    Number(usize),
-    Plain(&'static str),
-    Text(Vec<u8>),
-    Bytes(Vec<u8>),
-}
+/// The words of a result, or `None` if the values are not those of the call.
+type Words = Option<Vec<String>>;
 
-use Word::{Bytes, Number, Plain, Text};
-
-/// A text between double quotes, with characters given by their number.
-fn quoted(word: &str) -> Option<String> {
-    let mut parts = word.strip_prefix('"')?.strip_suffix('"')?.split("\\u{");
-    let mut text = parts.next()?.to_string();
-    for part in parts {
-        let (digits, plain) = part.split_once('}')?;
-        text.push(char::from_u32(u32::from_str_radix(digits, 16).ok()?)?);
-        text.push_str(plain);
-    }
-    Some(text)
-}
-
-fn hex(digits: &str) -> Option<Vec<u8>> {
-    let pairs = (0..digits.len()).step_by(2);
-    pairs
+/// The bytes of a word.
+fn raw(word: &str) -> Option<Vec<u8>> {
+    let digits = if word == "-" { "" } else { word };
+    (0..digits.len())
+        .step_by(2)
         .map(|at| u8::from_str_radix(digits.get(at..at + 2)?, 16).ok())
         .collect()
 }
 
-fn part(word: &str, order: ByteOrder) -> Option<Vec<u8>> {
-    if word == "-" {
-        Some(Vec::new())
-    } else if let Some(text) = word.strip_prefix('~') {
-        let units = quoted(text)?.encode_utf16().collect::<Vec<_>>();
-        Some(
-            units
-                .iter()
-                .flat_map(|unit| {
-                    if order == BigEndian {
-                        unit.to_be_bytes()
-                    } else {
-                        unit.to_le_bytes()
-                    }
-                })
-                .collect(),
-        )
-    } else if let Some(units) = word.strip_prefix('^') {
-        let mut bytes = hex(units)?;
-        if order != BigEndian {
-            bytes.chunks_exact_mut(2).for_each(|unit| unit.reverse());
-        }
-        Some(bytes)
-    } else if word.starts_with('"') {
-        quoted(word).map(String::into_bytes)
-    } else {
-        hex(word)
-    }
-}
-
-/// The bytes that a word of a case spells.
-fn spelled(word: &str, order: ByteOrder) -> Option<Vec<u8>> {
-    if !word.starts_with(|c: char| c.is_ascii_digit()) || !word.contains('*') {
-        return part(word, order);
-    }
-    let mut bytes = Vec::new();
-    for each in word.split('+') {
-        let (count, one) = each.split_once('*')?;
-        bytes.extend(part(one, order)?.repeat(count.parse().ok()?));
-    }
-    Some(bytes)
-}
-
-fn is_wanted(found: &Word, word: &str, order: ByteOrder) -> bool {
-    let is_text = word.contains('"') && !word.contains('~');
-    match found {
-        Number(number) => word.parse() == Ok(*number),
-        Plain(plain) => word == *plain,
-        Text(utf8) => is_text && spelled(word, order).as_ref() == Some(utf8),
-        Bytes(bytes) => !is_text && spelled(word, order).as_ref() == Some(bytes),
-    }
-}
-
-fn stop(status: Status) -> Vec<Word> {
-    match status {
-        Status::Done => vec![Plain("end")],
-        Status::Incomplete => vec![Plain("incomplete")],
-        Status::NoSpace => vec![Plain("no_space")],
-        Status::IllFormed(len) => vec![Plain("ill_formed"), Number(len)],
-    }
-}
-
-fn found(bytes: &[u8], is_text: bool) -> Word {
-    if is_text {
-        Text(bytes.to_vec())
-    } else {
-        Bytes(bytes.to_vec())
-    }
-}
-
-type Convert = fn(ByteOrder, &[u8], &mut [u8]) -> Progress;
-
-/// A conversion, and whether it writes UTF-8.
-fn conversion(name: &str) -> Option<(Convert, bool)> {
-    match name {
-        "to_utf8" => Some((to_utf8, true)),
-        "to_utf8_partial" => Some((to_utf8_partial, true)),
-        "to_utf8_lossy" => Some((to_utf8_lossy, true)),
-        "from_utf8" => Some((from_utf8, false)),
-        "from_utf8_lossy" => Some((from_utf8_lossy, false)),
-        "to_wtf8" => Some((to_wtf8, false)),
-        "to_wtf8_partial" => Some((to_wtf8_partial, false)),
-        "from_wtf8" => Some((from_wtf8, false)),
-        "from_wtf8_partial" => Some((from_wtf8_partial, false)),
+fn pieces(values: &[&str]) -> Option<Vec<Vec<u8>>> {
+    match values {
+        [] => Some(Vec::new()),
+        [word] => word.split(',').map(raw).collect(),
         _ => None,
     }
 }
 
-fn size(is_text: bool, order: ByteOrder, from: &[u8]) -> usize {
-    if is_text {
-        to_utf8_lossy_len(order, from)
-    } else {
-        from_utf8_lossy_len(from)
+fn number(word: &str) -> Option<usize> {
+    match word {
+        "max" => Some(usize::MAX),
+        _ => word.parse().ok(),
     }
 }
 
-fn convert(name: &str, order: ByteOrder, from: &[u8], room: &str) -> Option<Vec<Word>> {
-    let (make, is_text) = conversion(name)?;
-    let room = if room == "size" {
-        size(is_text, order, from)
-    } else {
-        room.parse().ok()?
-    };
+fn hex(bytes: &[u8]) -> String {
+    match bytes {
+        [] => "-".to_string(),
+        _ => bytes.iter().map(|byte| format!("{byte:02X}")).collect(),
+    }
+}
+
+fn text(utf8: impl AsRef<[u8]>) -> String {
+    format!("utf8:{}", hex(utf8.as_ref()))
+}
+
+fn one(found: impl ToString) -> Words {
+    Some(vec![found.to_string()])
+}
+
+fn or_none(found: Option<usize>) -> String {
+    found.map_or("none".to_string(), |number| number.to_string())
+}
+
+type Convert = fn(ByteOrder, &[u8], &mut [u8]) -> Progress;
+
+/// A call, by the values that it takes.
+#[derive(Clone, Copy)]
+enum Call {
+    /// A conversion to UTF-8, and to other bytes: bytes and a capacity.
+    ToText(Convert),
+    ToBytes(Convert),
+    Raw(fn(ByteOrder, &[u8]) -> Words),
+    RawAndRaw(fn(ByteOrder, &[u8], &[u8]) -> Words),
+    RawAndWord(fn(ByteOrder, &[u8], &str) -> Words),
+    WordAndRaw(fn(ByteOrder, &str, &[u8]) -> Words),
+    Any(fn(ByteOrder, &[&str]) -> Words),
+}
+
+use Call::{Any, Raw, RawAndRaw, RawAndWord, ToBytes, ToText, WordAndRaw};
+
+#[rustfmt::skip]
+const CALLS: [(&str, Call); 40] = [
+    ("to_utf8", ToText(to_utf8)),
+    ("to_utf8_partial", ToText(to_utf8_partial)),
+    ("to_utf8_lossy", ToText(to_utf8_lossy)),
+    ("from_utf8", ToBytes(from_utf8)),
+    ("from_utf8_lossy", ToBytes(from_utf8_lossy)),
+    ("to_wtf8", ToBytes(to_wtf8)),
+    ("to_wtf8_partial", ToBytes(to_wtf8_partial)),
+    ("from_wtf8", ToBytes(from_wtf8)),
+    ("from_wtf8_partial", ToBytes(from_wtf8_partial)),
+    ("every_room", WordAndRaw(every_room)),
+    ("count_chars", Raw(|order, utf16| one(count_chars(order, utf16)))),
+    ("is_ascii", Raw(|order, utf16| one(is_ascii(order, utf16)))),
+    ("WStr::is_ascii", Raw(|order, utf16| one(is_ascii(order, utf16)))),
+    ("to_utf8_lossy_len", Raw(|order, utf16| one(to_utf8_lossy_len(order, utf16)))),
+    ("to_wtf8_len", Raw(|order, utf16| one(to_wtf8_len(order, utf16)))),
+    ("from_utf8_len", Raw(|_, utf8| one(from_utf8_len(utf8)))),
+    ("from_utf8_lossy_len", Raw(|_, utf8| one(from_utf8_lossy_len(utf8)))),
+    ("validate_raw_utf16", Raw(|order, utf16| validity(order, utf16, "done"))),
+    ("WStr::from_utf16", Raw(|order, utf16| validity(order, utf16, &hex(utf16)))),
+    ("WStr::to_utf8", Raw(|order, utf16| one(text(decode(order, utf16).ok()?)))),
+    ("WString::from_str", Raw(|order, utf8| one(hex(&encode(order, str_of(utf8)?))))),
+    ("WStrChars::count", Any(count_the_rest)),
+    ("swap_byte_order", Raw(swapped)),
+    ("make_well_formed", Raw(well_formed)),
+    ("compare", RawAndRaw(compared)),
+    ("bytes::compare", RawAndRaw(compared)),
+    ("WStr::cmp", RawAndRaw(compared)),
+    ("WString::cmp", RawAndRaw(compared)),
+    ("search::find", RawAndRaw(|order, utf16, pattern| one(or_none(find(order, utf16, pattern))))),
+    ("search::rfind", RawAndRaw(|order, utf16, pattern| one(or_none(rfind(order, utf16, pattern))))),
+    ("bytes::is_char_boundary", RawAndWord(is_boundary)),
+    ("WStr::is_char_boundary", RawAndWord(is_boundary)),
+    ("WString::is_char_boundary", RawAndWord(is_boundary)),
+    ("bytes::floor_char_boundary", RawAndWord(|order, utf16, at| {
+        one(floor_char_boundary(order, utf16, number(at)?))
+    })),
+    ("bytes::floor_char_boundary_around", RawAndWord(|order, utf16, at| {
+        one(floor_char_boundary_around(order, utf16, at.parse().ok()?))
+    })),
+    ("shard_offset", Any(shard)),
+    ("every_chunking", Raw(cut_anywhere)),
+    ("AnyLossy::every_chunking", Raw(every_any_chunking)),
+    ("Lossy::feed", Any(lossy_feed)),
+    ("decode_pieces", Any(|order, values| one(text(fed(order, pieces(values)?))))),
+];
+
+fn call_of(name: &str) -> Option<Call> {
+    let mut found = CALLS.iter().filter(|(one, _)| *one == name);
+    found.next().map(|(_, call)| *call)
+}
+
+/// Makes a call, and returns the words of its result.
+fn made(name: &str, order: ByteOrder, values: &[&str]) -> Words {
+    match (call_of(name)?, values) {
+        (Raw(make), [source]) => make(order, &raw(source)?),
+        (RawAndRaw(make), [first, second]) => make(order, &raw(first)?, &raw(second)?),
+        (RawAndWord(make), [source, word]) => make(order, &raw(source)?, word),
+        (WordAndRaw(make), [word, source]) => make(order, word, &raw(source)?),
+        (Any(make), values) => make(order, values),
+        (_, [source, room]) => converted(name, order, &raw(source)?, room),
+        _ => None,
+    }
+}
+
+type Spell = fn(&[u8]) -> String;
+
+/// A conversion, how long its whole output is, and how its output is spelled.
+fn conversion(name: &str, order: ByteOrder, from: &[u8]) -> Option<(Convert, usize, Spell)> {
+    match call_of(name)? {
+        ToText(make) => Some((make, to_utf8_lossy_len(order, from), |utf8| text(utf8))),
+        ToBytes(make) => Some((make, from_utf8_lossy_len(from), hex)),
+        _ => None,
+    }
+}
+
+fn converted(name: &str, order: ByteOrder, from: &[u8], room: &str) -> Words {
+    let (make, size, spelled) = conversion(name, order, from)?;
+    let room = if room == "size" { size } else { number(room)? };
     let mut to = vec![0; room];
-    let progress = make(order, from, &mut to);
-    let mut words = vec![Number(progress.read), Number(progress.written)];
-    words.extend(stop(progress.status));
-    words.push(found(&to[..progress.written], is_text));
-    if name == "from_utf8_lossy" && progress.status == Status::Done {
-        words.extend(
-            utf8_chunkings(order, from)
-                .filter(|other| other != &to[..progress.written])
-                .map(Bytes),
-        );
+    let found = make(order, from, &mut to);
+    let whole = spelled(&to[..found.written]);
+    let mut words = vec![found.read.to_string(), found.written.to_string()];
+    words.push(match found.status {
+        Status::Done => "end".to_string(),
+        Status::Incomplete => "incomplete".to_string(),
+        Status::NoSpace => "no_space".to_string(),
+        Status::IllFormed(len) => format!("ill_formed {len}"),
+    });
+    words.push(whole.clone());
+    if name == "from_utf8_lossy" && found.status == Status::Done {
+        words.extend(utf8_chunkings(order, from).filter(|other| *other != whole));
     }
     Some(words)
 }
 
 /// The UTF-16 of a stream of UTF-8, in each chunking.
-fn utf8_chunkings(order: ByteOrder, utf8: &[u8]) -> impl Iterator<Item = Vec<u8>> + '_ {
+fn utf8_chunkings(order: ByteOrder, utf8: &[u8]) -> impl Iterator<Item = String> + '_ {
     (1..=utf8.len()).map(move |len| {
         let (mut encoder, mut utf16) = (Encoder::new(order), Vec::new());
         for piece in utf8.chunks(len) {
             encoder.encode(piece, &mut utf16);
         }
         utf16.extend(encoder.finish().into_iter().flatten());
-        utf16
+        hex(&utf16)
     })
 }
 
-fn every_room(name: &str, order: ByteOrder, from: &[u8]) -> Option<Vec<Word>> {
-    let (make, is_text) = conversion(name)?;
-    let mut all = vec![0; size(is_text, order, from)];
+fn every_room(order: ByteOrder, name: &str, from: &[u8]) -> Words {
+    let (make, size, spelled) = conversion(name, order, from)?;
+    let mut all = vec![0; size];
     let last = make(order, from, &mut all).written;
     let mut words = Vec::new();
-    for room in 0..=all.len() {
+    for room in 0..=size {
         let mut to = vec![0; room];
         let written = make(order, from, &mut to).written;
-        words.push(Number(written));
+        words.push(written.to_string());
         if !all.starts_with(&to[..written]) {
-            words.push(Plain("differs"));
+            words.push("differs".to_string());
         }
     }
-    words.push(found(&all[..last], is_text));
+    words.push(spelled(&all[..last]));
     Some(words)
 }
 
-fn fed<'a>(order: ByteOrder, pieces: impl IntoIterator<Item = &'a [u8]>) -> Vec<u8> {
+fn fed<P: AsRef<[u8]>>(order: ByteOrder, pieces: impl IntoIterator<Item = P>) -> String {
     let (mut decoder, mut text) = (Decoder::new(order), String::new());
     for piece in pieces {
-        decoder.decode(piece, &mut text);
+        decoder.decode(piece.as_ref(), &mut text);
     }
     text.extend(decoder.finish());
-    text.into_bytes()
+    text
 }
 
 /// The text of a stream, and any other that a chunking has.
-fn cut_anywhere(order: ByteOrder, raw: &[u8]) -> Vec<Word> {
-    let text = decode_lossy(order, raw).into_bytes();
-    let others = (1..=raw.len()).map(|len| fed(order, raw.chunks(len)));
-    let in_two = (0..=raw.len()).map(|at| fed(order, [&raw[..at], &raw[at..]]));
-    let others = others
-        .chain(in_two)
-        .filter(|other| *other != text)
-        .map(Text)
-        .collect::<Vec<_>>();
-    [vec![Text(text)], others].concat()
+fn cut_anywhere(order: ByteOrder, source: &[u8]) -> Words {
+    let whole = decode_lossy(order, source);
+    let others = (1..=source.len()).map(|len| fed(order, source.chunks(len)));
+    let in_two = (0..=source.len()).map(|at| fed(order, [&source[..at], &source[at..]]));
+    let others = others.chain(in_two).filter(|other| *other != whole);
+    let mut words = vec![text(&whole)];
+    words.extend(others.map(text));
+    Some(words)
 }
 
-fn every_any_chunking(raw: &[u8]) -> Vec<Word> {
-    let bom = detect_bom(raw, BigEndian).unwrap_or(Bom {
-        len: 0,
-        byte_order: BigEndian,
-    });
-    cut_anywhere(bom.byte_order, &raw[bom.len..])
+fn every_any_chunking(_: ByteOrder, source: &[u8]) -> Words {
+    let found = detect_bom(source, BigEndian);
+    let (len, order) = found.map_or((0, BigEndian), |bom| (bom.len, bom.byte_order));
+    cut_anywhere(order, &source[len..])
 }
 
-fn lossy_feed(order: ByteOrder, pieces: &[Vec<u8>]) -> Vec<Word> {
+fn lossy_feed(order: ByteOrder, values: &[&str]) -> Words {
     let (mut decoder, mut words) = (Decoder::new(order), Vec::new());
-    for piece in pieces {
-        let mut text = String::new();
-        decoder.decode(piece, &mut text);
-        words.extend([Text(text.into_bytes()), Bytes(decoder.pending().to_vec())]);
+    for piece in pieces(values)? {
+        let mut written = String::new();
+        decoder.decode(&piece, &mut written);
+        words.extend([text(written), hex(decoder.pending())]);
     }
-    words.push(Plain(if decoder.finish().is_none() {
-        "none"
-    } else {
-        "'\\u{FFFD}'"
-    }));
-    words
+    let end = decoder.finish();
+    words.push(end.map_or("none".to_string(), |c| format!("U+{:04X}", u32::from(c))));
+    Some(words)
 }
 
 /// The error of a validation, or a word if there is none.
-fn validity(order: ByteOrder, raw: &[u8], none: Word) -> Vec<Word> {
-    match validate(order, raw) {
-        Ok(()) => vec![none],
-        Err(error) => {
-            let error_len = error.error_len().map_or(Plain("none"), Number);
-            vec![Plain("error"), Number(error.valid_up_to()), error_len]
-        }
+fn validity(order: ByteOrder, utf16: &[u8], none: &str) -> Words {
+    match validate(order, utf16) {
+        Ok(()) => one(none),
+        Err(error) => one(format!(
+            "error {} {}",
+            error.valid_up_to(),
+            or_none(error.error_len())
+        )),
     }
 }
 
-fn pieces(words: &[&str], order: ByteOrder) -> Option<Vec<Vec<u8>>> {
-    match words {
-        [] => Some(Vec::new()),
-        [word] => word.split(',').map(|piece| spelled(piece, order)).collect(),
+fn compared(order: ByteOrder, first: &[u8], second: &[u8]) -> Words {
+    let found = compare(order, first, order, second);
+    one(format!("{found:?}").to_lowercase())
+}
+
+fn is_boundary(order: ByteOrder, utf16: &[u8], at: &str) -> Words {
+    one(is_char_boundary(order, utf16, number(at)?))
+}
+
+fn shard(_: ByteOrder, values: &[&str]) -> Words {
+    let numbers = values.iter().map(|word| word.parse().ok());
+    match numbers.collect::<Option<Vec<_>>>()?[..] {
+        [len, count, index] => one(shard_offset(len, count, index)),
         _ => None,
     }
 }
 
-fn truth(is: bool) -> Word {
-    Plain(if is { "true" } else { "false" })
+fn str_of(utf8: &[u8]) -> Option<&str> {
+    std::str::from_utf8(utf8).ok()
 }
 
-/// The comparison of two texts.
-fn compared(order: ByteOrder, first: &str, second: &str) -> Option<Vec<Word>> {
-    let (first, second) = (spelled(first, order)?, spelled(second, order)?);
-    Some(vec![Plain(match compare(order, &first, order, &second) {
-        Ordering::Less => "less",
-        Ordering::Equal => "equal",
-        Ordering::Greater => "greater",
-    })])
+fn swapped(_: ByteOrder, utf16: &[u8]) -> Words {
+    let mut utf16 = utf16.to_vec();
+    swap_byte_order(&mut utf16);
+    one(hex(&utf16))
 }
 
-/// Where a pattern occurs.
-fn searched(name: &str, order: ByteOrder, raw: &str, pattern: &str) -> Option<Vec<Word>> {
-    let (raw, pattern) = (spelled(raw, order)?, spelled(pattern, order)?);
-    let found = match name {
-        "search::find" => find(order, &raw, &pattern),
-        _ => rfind(order, &raw, &pattern),
-    };
-    Some(vec![found.map_or(Plain("none"), Number)])
+fn well_formed(order: ByteOrder, utf16: &[u8]) -> Words {
+    let mut utf16 = utf16.to_vec();
+    let count = make_well_formed(order, &mut utf16);
+    one(format!("{count} {}", hex(&utf16)))
 }
 
-/// Calls that read bytes.
-fn ask(name: &str, order: ByteOrder, raw: &[u8]) -> Option<Vec<Word>> {
-    Some(match name {
-        "count_chars" | "WStrChars::count" => vec![Number(count_chars(order, raw))],
-        "is_ascii" | "WStr::is_ascii" => vec![truth(is_ascii(order, raw))],
-        "WStr::to_utf8" => vec![Text(decode(order, raw).ok()?.into_bytes())],
-        "WString::from_str" => vec![Bytes(encode(order, std::str::from_utf8(raw).ok()?))],
-        "to_utf8_lossy_len" => vec![Number(to_utf8_lossy_len(order, raw))],
-        "to_wtf8_len" => vec![Number(to_wtf8_len(order, raw))],
-        "from_utf8_len" => vec![Number(from_utf8_len(raw))],
-        "from_utf8_lossy_len" => vec![Number(from_utf8_lossy_len(raw))],
-        "validate_raw_utf16" => validity(order, raw, Plain("done")),
-        "WStr::from_utf16" => validity(order, raw, Bytes(raw.to_vec())),
-        "every_chunking" => cut_anywhere(order, raw),
-        "AnyLossy::every_chunking" => every_any_chunking(raw),
-        _ => return None,
-    })
-}
-
-/// Calls that rewrite bytes in place, and calls at an offset.
-fn on_bytes(name: &str, order: ByteOrder, raw: &str, at: Option<&str>) -> Option<Vec<Word>> {
-    let mut raw = spelled(raw, order)?;
-    let at = match at {
-        Some("max") => usize::MAX,
-        Some(at) => at.parse().ok()?,
-        None => 0,
-    };
-    Some(match name {
-        "swap_byte_order" => {
-            swap_byte_order(&mut raw);
-            vec![Bytes(raw)]
-        }
-        "make_well_formed" => {
-            let count = make_well_formed(order, &mut raw);
-            vec![Number(count), Bytes(raw)]
-        }
-        "bytes::floor_char_boundary" => vec![Number(floor_char_boundary(order, &raw, at))],
-        "bytes::floor_char_boundary_around" => {
-            let boundary = floor_char_boundary_around(order, &raw, at.try_into().ok()?);
-            vec![Number(boundary.try_into().ok()?)]
-        }
-        _ => vec![truth(is_char_boundary(order, &raw, at))],
-    })
-}
-
-const CALLS: [&str; 40] = [
-    "swap_byte_order",
-    "make_well_formed",
-    "bytes::compare",
-    "search::find",
-    "search::rfind",
-    "bytes::is_char_boundary",
-    "bytes::floor_char_boundary",
-    "bytes::floor_char_boundary_around",
-    "shard_offset",
-    "to_utf8",
-    "to_utf8_partial",
-    "to_utf8_lossy",
-    "from_utf8",
-    "from_utf8_lossy",
-    "to_wtf8",
-    "to_wtf8_partial",
-    "from_wtf8",
-    "from_wtf8_partial",
-    "to_wtf8_len",
-    "every_room",
-    "count_chars",
-    "is_ascii",
-    "to_utf8_lossy_len",
-    "from_utf8_len",
-    "from_utf8_lossy_len",
-    "validate_raw_utf16",
-    "WStr::from_utf16",
-    "every_chunking",
-    "AnyLossy::every_chunking",
-    "Lossy::feed",
-    "decode_pieces",
-    "compare",
-    "WStr::cmp",
-    "WString::cmp",
-    "WStr::is_char_boundary",
-    "WString::is_char_boundary",
-    "WStr::to_utf8",
-    "WString::from_str",
-    "WStrChars::count",
-    "WStr::is_ascii",
-];
-
-fn call(name: &str, order: ByteOrder, values: &[&str]) -> Option<Vec<Word>> {
-    match (name, values) {
-        ("Lossy::feed", words) => Some(lossy_feed(order, &pieces(words, order)?)),
-        ("decode_pieces", words) => Some(vec![Text(fed(
-            order,
-            pieces(words, order)?.iter().map(Vec::as_slice),
-        ))]),
-        ("compare" | "bytes::compare" | "WStr::cmp" | "WString::cmp", [first, second]) => {
-            compared(order, first, second)
-        }
-        ("search::find" | "search::rfind", [raw, pattern]) => searched(name, order, raw, pattern),
-        ("swap_byte_order" | "make_well_formed", [raw]) => on_bytes(name, order, raw, None),
-        (
-            "WStr::is_char_boundary"
-            | "WString::is_char_boundary"
-            | "bytes::is_char_boundary"
-            | "bytes::floor_char_boundary"
-            | "bytes::floor_char_boundary_around",
-            [raw, at],
-        ) => on_bytes(name, order, raw, Some(*at)),
-        ("shard_offset", [len, count, index]) => {
-            let offset = shard_offset(len.parse().ok()?, count.parse().ok()?, index.parse().ok()?);
-            Some(vec![Number(offset.try_into().ok()?)])
-        }
-        ("WStrChars::count", [raw, ends]) => {
-            let text = decode(order, &spelled(raw, order)?).ok()?;
-            let mut chars = text.chars();
-            for end in ends.chars() {
-                let _taken = match end {
-                    'f' => chars.next(),
-                    _ => chars.next_back(),
-                };
-            }
-            ask(name, order, &encode(order, chars.as_str()))
-        }
-        ("every_room", [by, raw]) => every_room(by, order, &spelled(raw, order)?),
-        (_, [raw, room]) => convert(name, order, &spelled(raw, order)?, room),
-        (_, [raw]) => ask(name, order, &spelled(raw, order)?),
-        _ => None,
+/// How many characters are left after some were taken from the front and the back.
+fn count_the_rest(order: ByteOrder, values: &[&str]) -> Words {
+    let text = decode(order, &raw(values.first()?)?).ok()?;
+    let mut chars = text.chars();
+    for end in values[1..].iter().flat_map(|ends| ends.chars()) {
+        let _taken = match end {
+            'f' => chars.next(),
+            _ => chars.next_back(),
+        };
     }
-}
-
-/// Whether a case holds in a byte order; prints the result if it does not.
-fn holds(name: &str, order: ByteOrder, values: &[&str], wanted: &[&str]) -> bool {
-    let found = call(name, order, values);
-    let is = found.as_ref().map_or(false, |words| {
-        words.len() == wanted.len()
-            && words
-                .iter()
-                .zip(wanted)
-                .all(|(word, wanted)| is_wanted(word, wanted, order))
-    });
-    if !is {
-        println!(
-            "   found in {}: {found:?}",
-            if order == BigEndian { "be" } else { "le" }
-        );
-    }
-    is
-}
-
-/// Which byte orders a word names.
-fn orders(word: &str) -> Option<&'static [ByteOrder]> {
-    match word {
-        "le" => Some(&[LittleEndian]),
-        "be" => Some(&[BigEndian]),
-        "both" => Some(&[LittleEndian, BigEndian]),
-        _ => None,
-    }
+    one(count_chars(order, &encode(order, chars.as_str())))
 }
 
 /// The counts of the cases.
 #[derive(Default)]
-struct Count {
+struct Counts {
     passed: usize,
     failed: usize,
     calls: BTreeSet<String>,
 }
 
-impl Count {
+impl Counts {
+    /// Makes the call of a line that `to_json.py` wrote.
     fn case(&mut self, line: &str) {
-        let words = line.split_whitespace().collect::<Vec<_>>();
-        match words[..] {
-            [] => return,
-            _ if line.starts_with('#') => return,
-            [_, how, name, ..] if how.contains(';') || !CALLS.contains(&name) => return,
-            _ => {}
-        }
-        let equals = words
-            .iter()
-            .position(|word| *word == "=")
-            .filter(|at| *at > 2);
-        let (equals, orders) = match equals.zip(words.get(1).and_then(|how| orders(how))) {
-            Some(case) => case,
-            None => return self.fail(&format!("no case: {line}")),
-        };
-        self.calls.insert(words[2].to_string());
-        for order in orders {
-            if holds(words[2], *order, &words[3..equals], &words[equals + 1..]) {
-                self.passed += 1;
-            } else {
-                self.fail(line);
+        let fields = line.split('\t').collect::<Vec<_>>();
+        let (name, order, conditions, values, result) = match fields[..] {
+            [_, name, order, conditions, values, result] => {
+                (name, order, conditions, values, result)
             }
+            _ => return self.fail(line),
+        };
+        if call_of(name).is_none() || !conditions.is_empty() {
+            return;
+        }
+        self.calls.insert(name.to_string());
+        let order = match order {
+            "le" => LittleEndian,
+            "be" => BigEndian,
+            _ => return self.fail(line),
+        };
+        let values = values.split_whitespace().collect::<Vec<_>>();
+        let found = made(name, order, &values).map(|words| words.join(" "));
+        if found.as_deref() == Some(result) {
+            self.passed += 1;
+        } else {
+            self.fail(&format!("{line}\n   found: {found:?}"));
         }
     }
 
@@ -473,35 +334,29 @@ impl Count {
     }
 }
 
-/// The lines of all tables of the repository.
-fn tables() -> std::io::Result<Vec<String>> {
-    let folder = Path::new(env!("CARGO_MANIFEST_DIR")).join("../../../cases");
-    let mut lines = Vec::new();
-    for entry in std::fs::read_dir(folder)? {
-        let path = entry?.path();
-        if path
-            .extension()
-            .map_or(false, |extension| extension == "txt")
-        {
-            lines.extend(std::fs::read_to_string(path)?.lines().map(String::from));
-        }
+/// The cases of all tables of the repository.
+fn cases() -> Result<String, Box<dyn std::error::Error>> {
+    let script = concat!(env!("CARGO_MANIFEST_DIR"), "/../../../cases/to_json.py");
+    let mut command = Command::new("python3");
+    let made = command.args([script, "--tabs"]).stderr(Stdio::inherit());
+    let made = made.output()?;
+    if !made.status.success() {
+        return Err(format!("{script}: {}", made.status).into());
     }
-    Ok(lines)
+    Ok(String::from_utf8(made.stdout)?)
 }
 
 fn main() {
-    let mut count = Count::default();
-    match tables() {
-        Ok(lines) => lines.iter().for_each(|line| count.case(line)),
-        Err(error) => count.fail(&format!("the tables of the repository: {error}")),
+    let mut counts = Counts::default();
+    match cases() {
+        Ok(lines) => lines.lines().for_each(|line| counts.case(line)),
+        Err(error) => counts.fail(&format!("the tables of the repository: {error}")),
     }
-    for name in CALLS
-        .iter()
-        .filter(|name| !count.calls.contains(**name))
-        .collect::<Vec<_>>()
-    {
-        count.fail(&format!("no case of {name}"));
+    for (name, _) in CALLS {
+        if !counts.calls.contains(name) {
+            counts.fail(&format!("no case of {name}"));
+        }
     }
-    println!("{} passed, {} failed", count.passed, count.failed);
-    std::process::exit(i32::from(count.failed != 0));
+    println!("{} passed, {} failed", counts.passed, counts.failed);
+    std::process::exit(i32::from(counts.failed != 0));
 }
