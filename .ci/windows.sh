@@ -137,16 +137,35 @@ has_header() {
 
 # == the calls
 
+# Writes the calls of the caller that watches registers, one for each function of the header, with
+# arguments by the types of its parameters.
+write_watched() {
+    local calls='s/.*dethrux\.h:.* extern (.*) (dethrux_[a-z0-9_]+) \((.*)\);/WATCH(\2|\1|\3);/p'
+    gcc -fsyntax-only -aux-info "$room/prototypes" -x c "$dist/include/dethrux.h" &&
+        sed -nE "$calls" "$room/prototypes" | sed -E '
+            s/\|dethrux_[a-z]+\|/, RESULT, /; s/\|.*\|/, /; s/, void\)/, 0)/
+            /const|coder/!s/uint8_t \*, size_t/AT(text), len/
+            s/const uint8_t \*, size_t/AT(text), len/
+            s/const uint8_t \*, size_t/AT(text + 2), len \/ 2/
+            s/const uint32_t \*, size_t/AT(points), len \/ 2/
+            s/uint8_t \*, size_t/AT(to), sizeof to/
+            s/uint32_t \*, size_t/AT(points), sizeof points \/ 4/
+            s/dethrux_(decoder|encoder) \*/AT(\&\1)/
+            s/dethrux_byte_order/order/; s/dethrux_byte_order/order ^ 1/
+            s/uint64_t/len/; s/uint64_t/3/; s/uint64_t/1/; s/size_t/len \/ 2/
+        ' > "$room/watched.inc"
+}
+
 # Compiles a caller that watches registers, with a file instead of windows.c, and runs it.
 keeps_registers() {
-    compiler "$1" -std=c99 -O2 -Wall -Wextra -Werror "-I$dist/include" \
+    compiler "$1" -std=c99 -O2 -Wall -Wextra -Werror "-I$dist/include" "-I$room" \
         "$top/packaging/test/registers.c" "$2" "$assembly" -o "$room/program.exe" &&
         run "$room/program.exe"
 }
 
 # Tests that the caller watches each function of the header.
 watches_all() {
-    grep -oE 'WATCH\(dethrux_[a-z0-9_]+' "$top/packaging/test/registers.c" | cut -d '(' -f 2 |
+    grep -oE 'WATCH\(dethrux_[a-z0-9_]+' "$room/watched.inc" | cut -d '(' -f 2 |
         sort | diff "$room/declared" -
 }
 
@@ -418,6 +437,7 @@ check 'swapped texts' sees_arguments \
 check 'the other byte order' sees_arguments \
     '/, dethrux_to_utf8, /s/(\(byte_order, utf16, len, to\)/(!\1/'
 check 'the functions of the header' declared "$dist/include" extern && cp "$room/said" "$room/declared"
+check 'the calls whose registers are watched' write_watched
 for built in gcc clang; do
     check "the exports by $built" dll_exports_header "$room/$built/dethrux.dll"
     check "the imports by $built" imports_memory "$room/$built/dethrux.dll"

@@ -111,17 +111,34 @@ warns() {
         sort -nu | diff "$room/ignored" -
 }
 
-# The names of the functions that a file calls or declares, except the functions whose result may be
-# ignored and the ones that only the header uses.
+# The functions whose result may be ignored, and the ones that only the header uses.
+no_result='(swap_byte_order|make_well_formed|u16_bytes)\('
+
+# The names of the other functions that a file calls or declares.
 names() {
-    grep -oE "$1[a-z0-9_]+\(" "$2" | sort -u |
-        grep -vE '(swap_byte_order|make_well_formed|u16_bytes)\('
+    grep -oE "$1[a-z0-9_]+\(" "$2" | sort -u | grep -vE "$no_result"
 }
 
-# Whether the program that ignores results calls each function of the header.
+# Writes a program that ignores the result of each function of the header, in C99 and C++. Each
+# function is called in one line, with arguments by the types of its parameters.
+write_ignored() {
+    local parameters='dethrux_byte_order by, uint8_t *bytes, uint16_t *units, uint32_t *points,'
+    parameters+=' size_t len, dethrux_decoder *decoder, dethrux_encoder *encoder'
+    gcc -fsyntax-only -aux-info "$room/prototypes" -x c "$top/include/dethrux.h" || return
+    printf '#include "dethrux.h"\nvoid ignore(%s);\nvoid ignore(%s) {\n' \
+        "$parameters" "$parameters" > "$room/ignored.c"
+    sed -nE 's/.*dethrux\.h:.*[ *](dethrux_[a-z0-9_]+) (\([^()]*\);).*/    \1\2/p' "$room/prototypes" |
+        sed -E 's/const //g; s/\(void\)/()/; s/dethrux_(decoder|encoder) \*\w*/\1/g
+            s/uint8_t \*\w*/bytes/g; s/dethrux_unit \*\w*/units/g; s/uint32_t \*\w*/points/g
+            s/dethrux_byte_order( \w+)?/by/g; s/(size_t|uint64_t)( \w+)?/len/g' |
+        grep -vE "$no_result" >> "$room/ignored.c"
+    echo '}' >> "$room/ignored.c"
+}
+
+# Whether that program calls each function of the header.
 ignores_all() {
     names dethrux_ "$top/include/dethrux.h" > "$room/declared"
-    names dethrux_ "$here/ignored.c" | diff "$room/declared" -
+    names dethrux_ "$room/ignored.c" | diff "$room/declared" -
 }
 
 # Whether C++ refuses code units of another size, in text that is read and in text that is changed.
@@ -140,7 +157,7 @@ refuses_other_sizes() {
 # Whether a compiler that has none of GCC's attributes, as clang in MSVC's mode, warns in the first
 # standard that has [[nodiscard]], given these words.
 warns_by_standard() {
-    warns "$here/ignored.c" clang --target=x86_64-pc-windows-msvc -ffreestanding "$@"
+    warns "$room/ignored.c" clang --target=x86_64-pc-windows-msvc -ffreestanding "$@"
 }
 
 # Whether C refuses an enum of one byte.
@@ -228,11 +245,12 @@ test_c() {
     count 'the check of UTF-32' in_c fixed c11 && count 'UTF-32 and Latin-1 in C' "$room/fixed"
     count 'the first program in C' in_c first && count 'the page for C' prints_page first C
     count 'the program of the README' in_c resume && count 'resuming' resumes
-    count 'ignored results in C' warns "$here/ignored.c" cc -std=c99
-    count 'ignored results in C23' warns "$here/ignored.c" clang "${c23[@]}"
+    count 'a program that ignores results' write_ignored
+    count 'ignored results in C' warns "$room/ignored.c" cc -std=c99
+    count 'ignored results in C23' warns "$room/ignored.c" clang "${c23[@]}"
     count 'ignored results in C23 by its attribute' warns_by_standard "${c23[@]}"
     count 'all results are ignored' ignores_all
-    count 'two files in C' in_two_files cc -std=c99 -include dethrux.h "$here/first.c" "$here/ignored.c"
+    count 'two files in C' in_two_files cc -std=c99 -include dethrux.h "$here/first.c" "$room/ignored.c"
     count 'enums of one byte' refuses_short_enums
     count 'the byte order of a machine' is_native 1234 LITTLE
     count 'the byte order of another machine' is_native 4321 BIG
@@ -253,7 +271,7 @@ memory_in_c() {
 # The header for C, in C++.
 test_c_in_cxx() {
     count 'the header in C++' header_in_cxx
-    count 'ignored results of the header in C++' warns "$here/ignored.c" c++ -std=c++17 -x c++
+    count 'ignored results of the header in C++' warns "$room/ignored.c" c++ -std=c++17 -x c++
     count 'ignored results in C++17 by its attribute' warns_by_standard -std=c++17 -x c++
     count 'code units of another size in C++' refuses_other_sizes
     count 'the check of code units in C++' c_in_cxx units && count 'code units in C++' "$room/units_cxx"

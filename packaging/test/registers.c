@@ -1,6 +1,7 @@
 /* Calls each function of the library on Windows with values in all registers that a function there
  * must keep, and tests that they are still there. Prints each function and register that changed.
- * Exits with 0 if there are none. */
+ * Exits with 0 if there are none. .ci/windows.sh writes watched.inc, which has a line for each
+ * function of the header. */
 #include <dethrux.h>
 
 #include <stdio.h>
@@ -119,49 +120,7 @@ static void watch_all(uint64_t order, size_t len) {
     dethrux_decoder decoder = DETHRUX_DECODER_INIT;
     dethrux_encoder encoder = DETHRUX_ENCODER_INIT;
     dethrux_inspection result; /* the largest one */
-    WATCH(dethrux_version, 0);
-    WATCH(dethrux_validate, RESULT, order, AT(text), len);
-    WATCH(dethrux_count_chars, order, AT(text), len);
-    WATCH(dethrux_is_ascii, order, AT(text), len);
-    WATCH(dethrux_to_utf8_lossy_len, order, AT(text), len);
-    WATCH(dethrux_from_utf8_len, AT(text), len);
-    WATCH(dethrux_from_utf8_lossy_len, AT(text), len);
-    WATCH(dethrux_to_utf8, RESULT, order, AT(text), len, AT(to), sizeof to);
-    WATCH(dethrux_to_utf8_lossy, RESULT, order, AT(text), len, AT(to), sizeof to);
-    WATCH(dethrux_to_utf8_partial, RESULT, order, AT(text), len, AT(to), sizeof to);
-    WATCH(dethrux_from_utf8, RESULT, order, AT(text), len, AT(to), sizeof to);
-    WATCH(dethrux_from_utf8_lossy, RESULT, order, AT(text), len, AT(to), sizeof to);
-    WATCH(dethrux_inspect, RESULT, order, AT(text), len);
-    WATCH(dethrux_to_utf32, RESULT, order, AT(text), len, AT(points), sizeof points / 4);
-    WATCH(dethrux_to_utf32_lossy, RESULT, order, AT(text), len, AT(points), sizeof points / 4);
-    WATCH(dethrux_to_utf32_lossy_len, order, AT(text), len);
-    WATCH(dethrux_validate_utf32, RESULT, AT(points), len / 2);
-    WATCH(dethrux_from_utf32, RESULT, order, AT(points), len / 2, AT(to), sizeof to);
-    WATCH(dethrux_from_utf32_lossy, RESULT, order, AT(points), len / 2, AT(to), sizeof to);
-    WATCH(dethrux_from_utf32_lossy_len, AT(points), len / 2);
-    WATCH(dethrux_to_latin1, RESULT, order, AT(text), len, AT(to), sizeof to);
-    WATCH(dethrux_from_latin1, RESULT, order, AT(text), len, AT(to), sizeof to);
-    WATCH(dethrux_to_wtf8, RESULT, order, AT(text), len, AT(to), sizeof to);
-    WATCH(dethrux_to_wtf8_len, order, AT(text), len);
-    WATCH(dethrux_to_wtf8_partial, RESULT, order, AT(text), len, AT(to), sizeof to);
-    WATCH(dethrux_from_wtf8, RESULT, order, AT(text), len, AT(to), sizeof to);
-    WATCH(dethrux_from_wtf8_partial, RESULT, order, AT(text), len, AT(to), sizeof to);
-    WATCH(dethrux_decoder_feed, RESULT, AT(&decoder), order, AT(text), len, AT(to), sizeof to);
-    WATCH(dethrux_decoder_finish, RESULT, AT(&decoder), AT(to), sizeof to);
-    WATCH(dethrux_decoder_feed_wtf8, RESULT, AT(&decoder), order, AT(text), len, AT(to), sizeof to);
-    WATCH(dethrux_decoder_finish_wtf8, RESULT, AT(&decoder), order, AT(to), sizeof to);
-    WATCH(dethrux_encoder_feed, RESULT, AT(&encoder), order, AT(text), len, AT(to), sizeof to);
-    WATCH(dethrux_encoder_finish, RESULT, AT(&encoder), order, AT(to), sizeof to);
-    WATCH(dethrux_is_char_boundary, order, AT(text), len, len / 2);
-    WATCH(dethrux_floor_char_boundary, order, AT(text), len, len / 2);
-    WATCH(dethrux_floor_char_boundary_around, order, AT(text), len < 4 ? len : 4, 2);
-    WATCH(dethrux_shard_offset, len, 3, 1);
-    WATCH(dethrux_find, order, AT(text), len, AT(text + 2), len / 2);
-    WATCH(dethrux_rfind, order, AT(text), len, AT(text + 2), len / 2);
-    WATCH(dethrux_compare, order, AT(text), len, order ^ 1, AT(text), len);
-    WATCH(dethrux_detect_bom, RESULT, order, AT(text), len);
-    WATCH(dethrux_swap_byte_order, AT(text), len);
-    WATCH(dethrux_make_well_formed, order, AT(text), len);
+#include "watched.inc"
 }
 
 /* Fills the text with these bytes, again and again. */

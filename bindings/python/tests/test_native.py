@@ -13,6 +13,7 @@ import os
 import pickle
 import platform
 import random
+import re
 import resource
 import subprocess
 import sys
@@ -540,7 +541,8 @@ class Buffers(unittest.TestCase):
             self.assertLess(peak, room + BLOCK + 4096, name)
 
 
-# A library whose calls tell whether the thread has the GIL, and need no proof.
+# A library whose calls tell whether the thread has the GIL, and need no proof. The other calls of
+# the header do nothing.
 TELLS_GIL = r"""
 #include "dethrux.h"
 int PyGILState_Check(void);
@@ -583,11 +585,6 @@ size_t dethrux_from_utf32_lossy_len(const uint32_t *u, size_t len) { HELD; retur
 void dethrux_swap_byte_order(uint8_t *utf16, size_t len) { HELD; }
 dethrux_bom dethrux_detect_bom(P) { dethrux_bom bom = {0, order, DETHRUX_BOM_ABSENT}; return bom; }
 #define NONE(name) void none_##name(void) __asm__("dethrux_" #name); void none_##name(void) {}
-NONE(decoder_finish) NONE(encoder_finish) NONE(is_char_boundary) NONE(floor_char_boundary)
-NONE(floor_char_boundary_around) NONE(shard_offset) NONE(make_well_formed) NONE(compare)
-NONE(to_utf32_lossy) NONE(to_utf32_lossy_len) NONE(validate_utf32) NONE(from_utf32_lossy)
-NONE(to_wtf8) NONE(to_wtf8_partial) NONE(to_wtf8_len) NONE(from_wtf8) NONE(from_wtf8_partial)
-NONE(decoder_feed_wtf8) NONE(decoder_finish_wtf8) NONE(find) NONE(rfind)
 """
 # Prints each call that does not give up the GIL if it should, or gives it up if it should not.
 ASKS_GIL = r"""
@@ -635,10 +632,14 @@ class Gil(unittest.TestCase):
     def test_who_gives_it_up(self):
         """All calls for a long input that nobody can write to, and no other ones."""
         top = Path(os.environ.get("DETHRUX_TOP") or Path(__file__).resolve().parents[3])
+        header = (top / "include/dethrux.h").read_text()
+        names = re.findall(r"^(?:DETHRUX_NODISCARD )?\w+ dethrux_(\w+)\(", header, re.MULTILINE)
+        others = [name for name in names if f" dethrux_{name}(" not in TELLS_GIL]
+        program = TELLS_GIL + "".join(f"NONE({name})\n" for name in others)
         with tempfile.TemporaryDirectory() as folder:
             library = Path(folder) / "libtells.so"
             words = ["cc", "-shared", "-fPIC", "-w", "-x", "c", "-I", str(top / "include"), "-"]
-            subprocess.run([*words, "-o", str(library)], input=TELLS_GIL.encode(), check=True)
+            subprocess.run([*words, "-o", str(library)], input=program.encode(), check=True)
             run = subprocess.run(
                 [sys.executable, "-B", "-c", ASKS_GIL, str(Path(__file__).parent)],
                 env={**os.environ, "DETHRUX_LIBRARY": str(library)},
