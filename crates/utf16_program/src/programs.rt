@@ -59,33 +59,9 @@ pub fn program<R: Read, W: Write, T: Write, A: Allocator>(
         × (writer.new ≡ writer.old) }
     ensures cases { exit_status result ≤ 2 }
 {
-    let outcome = run(program, alloc, args, reader, writer);
-    ExitCode::from(report(program, &outcome, errors))
-}
-
-// Does the job that the only argument names, and returns the outcome. If the arguments name no job,
-// it returns the error of `job_of`, and reads and writes nothing.
-fn run<R: Read, W: Write, A: Allocator>(
-    program: Program,
-    alloc: A,
-    args: io::Result<Args>,
-    reader: &mut Watched<R>,
-    writer: &mut Watched<W>,
-) -> Outcome
-    ensures named { (job : Job)
-        → Names program (words_of into_iter_items string_bytes args) job
-        → Does job (R.remaining (watched_inner reader.old)) (R.remaining (watched_inner reader.new))
-        (W.contents (watched_inner writer.old)) (W.contents (watched_inner writer.new)) result }
-    ensures refused { ((job : Job) × Names program (words_of into_iter_items string_bytes args) job)
-        ⊎ (IsRefusal (λ error. error_kind error ≡ ErrorKind.OutOfMemory) args result
-        × (reader.new ≡ reader.old) × (writer.new ≡ writer.old)) }
-    ensures reads { Counts reader.old reader.new (reads_failed result) }
-    ensures writes { Counts writer.old writer.new (writes_failed result) }
-    ensures usage { result ≡ Outcome.Usage → (reader.new ≡ reader.old)
-        × (writer.new ≡ writer.old) }
-{
-    match job_of(program, args) {
+    let outcome = match job_of(program, args) {
         Ok(job) => job.perform(alloc, reader, writer),
         Err(outcome) => outcome,
-    }
+    };
+    ExitCode::from(report(program, &outcome, errors))
 }
