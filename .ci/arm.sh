@@ -137,8 +137,8 @@ finds_nothing() {
 # == packages
 
 makes_same_packages() {
-    ARCH=arm64 "$top/packaging/deb.sh" "$room/debs" &&
-        ARCH=arm64 "$top/packaging/deb.sh" "$room/debs again" &&
+    "$top/packaging/release.sh" "$room/debs" deb-arm64 &&
+        "$top/packaging/release.sh" "$room/debs again" deb-arm64 &&
         diff -r "$room/debs" "$room/debs again" && [ "$(ls "$room/debs")" = "$(
             printf '%s\n' "libdethrux-dev_${version}_arm64.deb" "libdethrux0.2_${version}_arm64.deb"
         )" ]

@@ -1,8 +1,8 @@
 #!/usr/bin/env bash
 # Builds the library for Windows with MinGW's gcc and with clang, and runs everything under Wine:
 # the tables of cases/, the first programs, the check in C++, the programs of examples/windows and
-# the archive of packaging/zip.sh. Tests what the libraries export and call, what a call takes of
-# the stack, and that it keeps the registers that a function must keep there. Then clang compiles
+# the archive of packaging/release.sh. Tests what the libraries export and call, what a call takes
+# of the stack, and that it keeps the registers that a function must keep there. Then clang compiles
 # for MSVC. If this runs as root, apt-get installs missing tools; a tool that is still missing is a
 # failure. Only MSVC itself is left out, and a line says so. Prints each check that fails; the last
 # line is 'N passed, M failed'.
@@ -362,7 +362,8 @@ as_a_part() {
 }
 
 zips_same() {
-    "$top/packaging/zip.sh" "$room/first" && sleep 1.1 && "$top/packaging/zip.sh" "$room/second" &&
+    "$top/packaging/release.sh" "$room/first" windows && sleep 1.1 &&
+        "$top/packaging/release.sh" "$room/second" windows &&
         cmp "$room/first/$archive.zip" "$room/second/$archive.zip"
 }
 

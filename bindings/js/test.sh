@@ -49,7 +49,7 @@ has_memory64() {
 make_package() {
     local umask
     for umask in 022 077; do
-        (umask $umask && "$top/packaging/npm.sh" "$room/$umask") || return
+        (umask $umask && "$top/packaging/release.sh" "$room/$umask" npm) || return
     done
     diff -r "$room/022" "$room/077"
 }
