@@ -101,7 +101,13 @@ fn write_plain<E: Utf16Order>(raw: &[u8], out: &mut [u8], from: Cursor) -> Curso
         if !is_plain(kind) {
             break;
         }
-        let next = write_known::<E>(raw, out, run.cursor, run.units, kind);
+        let block = write_block_units::<E>(raw, out, run.cursor, run.units, kind);
+        // Wide and basic blocks often follow others of their kind.
+        let next = match kind {
+            Kind::Wide => write_run::<E>(raw, out, block, Kind::Wide),
+            Kind::Basic => write_run::<E>(raw, out, block, Kind::Basic),
+            Kind::Ascii | Kind::Letters | Kind::Pairs | Kind::Mixed => block,
+        };
         run = write_ascii_run::<E>(raw, out, next);
     }
     run.cursor
@@ -149,33 +155,6 @@ fn write_surrogates<E: Utf16Order>(
         done = Tested { cursor, leading };
     }
     Some(done)
-}
-
-// Writes the next block, whose kind is known. If it is wide, basic or of pairs, also writes the
-// blocks of its kind that follow it and fit.
-#[inline(always)]
-fn write_known<E: Utf16Order>(
-    raw: &[u8],
-    out: &mut [u8],
-    from: Cursor,
-    units: u16x32,
-    kind: Kind,
-) -> Cursor
-    requires space { from.end + SLACK ≤ length out.old }
-    requires more { from.at + 64 ≤ length raw.now }
-    requires next { units ≡ units_of E.BIG (take 64 (drop from.at raw.now)) }
-    requires kind { AreOfKind kind units }
-    requires reached { Reached E.BIG raw.now out.old from }
-    ensures advanced { Advanced E.BIG kind raw.now out.new from result }
-    ensures some { from.at < result.at }
-{
-    let next = write_block_units::<E>(raw, out, from, units, kind);
-    match kind {
-        Kind::Wide => write_run::<E>(raw, out, next, Kind::Wide),
-        Kind::Basic => write_run::<E>(raw, out, next, Kind::Basic),
-        Kind::Pairs => write_run::<E>(raw, out, next, Kind::Pairs),
-        Kind::Ascii | Kind::Letters | Kind::Mixed => next,
-    }
 }
 
 // How far blocks of ASCII are written, and whether they ended because no block is left or the next
