@@ -40,7 +40,8 @@ pub fn put_char(c: char, to: &mut [u8], at: usize) -> usize
     let code = c as u32;
     let last = (0x80 + code % 64) as u8;
     if code < 0x80 {
-        put(&[code as u8], to, at)
+        to[at] = code as u8;
+        at + 1
     } else if code < 0x800 {
         put(&[(0xC0 + code / 64) as u8, last], to, at)
     } else if code < 0x1_0000 {

@@ -1,4 +1,4 @@
-use Rattle.std.proofs.Common.{◌≡◌, ◌+◌, ◌-◌, ◌*◌, ◌%◌, ◌≤◌, ◌++◌, ◌∙◌, [], ap, ap₂, append-nil, append_assoc, arith, drop, encode_utf8_all, eqb-true, length, length-drop, refl, rules, subst, sym, take, take_all}
+use Rattle.std.proofs.Common.{◌≡◌, ◌-◌, ◌++◌, ◌∙◌, [], ap, ap₂, append-nil, append_assoc, arith, drop, encode_utf8_all, eqb-true, length, length-drop, refl, rules, subst, sym, take, take_all}
 use Rattle.std.proofs.lemmas.List.{nil_from_length}
 use Rattle.std.proofs.lemmas.Str.{length-encode}
 use Rattle.std.specs.Char.{encode_utf8}
