@@ -1,8 +1,6 @@
 -- What was written up to a leading surrogate, which is the last unit that was read.
-use Rattle.std.proofs.Common.{◌≡◌, ⊎_elim, ◌/◌, ◌%◌, ℕ, ◌+◌, ◌-◌, ◌*◌, ◌<◌, ◌≤◌, Bool, true, false, List, [], ◌∷◌, ◌++◌, length, map, take, drop, slice_index, refl, sym, ap, ap₂, ◌∙◌, subst, arith, append-nil, Fits, w8, drop_at, length-append, length-drop, length-take, length-take-le, take_at, take-take}
+use Rattle.std.proofs.Common.{◌≡◌, ◌%◌, ℕ, ◌+◌, ◌-◌, ◌≤◌, Bool, true, false, List, [], ◌∷◌, ◌++◌, length, map, take, drop, slice_index, refl, sym, ap, ap₂, ◌∙◌, subst, arith, append-nil, Fits, w8, drop_at, length-append, length-drop, length-take-le, take_at, take-take}
 use Rattle.std.proofs.lemmas.List.{drop-drop, length-map, map-append}
-use Rattle.std.proofs.lemmas.Bool.{cases_lt}
-use Rattle.std.specs.Prelude.{min}
 use Rattle.std.specs.Char.Utf16.{is_high_surrogate, is_low_surrogate}
 use Rattle.utf16_units.specs.Encoding.{IsUtf16, units_of, utf8_of}
 use Rattle.utf16_units.specs.Lanes.{BlocksStopAt, Paired, PairedTo}

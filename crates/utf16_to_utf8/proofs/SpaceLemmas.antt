@@ -7,6 +7,10 @@ use Rattle.utf16_units.proofs.BackChar.{size-even}
 use Rattle.utf16_units.proofs.EncodingLemmas.{IsUtf16-rest, length-text, text_of-append}
 use Rattle.utf16_units.proofs.PieceLemmas.{encodes-le-size, utf8-append}
 
+-- a text in UTF-8 fits in the buffer that it was written to
+pub written-fits : (out text : List ℕ) (written : ℕ) → take written out ≡ text → written ≡ length text → written ≤ length out
+written-fits out text written is long = omega (arith, length-take written out, ap length is, long)
+
 -- a text takes at most three bytes for each of its code units
 pub few-bytes : (big : Bool) (raw out : List ℕ) (read written : ℕ) → IsUtf16 big (take read raw) → read ≤ length raw → written ≤ length out
     → take written out ≡ utf8_of big (take read raw) → (2 * written ≤ 3 * read) × (read % 2 ≡ 0)

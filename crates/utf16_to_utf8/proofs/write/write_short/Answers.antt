@@ -1,11 +1,11 @@
-use Rattle.std.proofs.Common.{ap, arith, length, length-take}
-use Rattle.utf16_to_utf8.proofs.SpaceLemmas.{all-read}
+use Rattle.std.proofs.Common.{arith}
+use Rattle.utf16_to_utf8.proofs.SpaceLemmas.{all-read, written-fits}
 use Rattle.utf16_to_utf8.proofs.write.write_short.Goals as goal
 
 pub returns-clause-fits : goal.returns-clause-fits
 returns-clause-fits g c =
     let eights = c.write_eights in
-    omega (arith, length-take eights.result.written eights.new.to, ap length eights.ensures.utf8, eights.ensures.len)
+    written-fits eights.new.to _ eights.result.written eights.ensures.utf8 eights.ensures.len
 
 pub returns-clause-utf8 : goal.returns-clause-utf8
 returns-clause-utf8 g c =

@@ -1,23 +1,10 @@
-use Rattle.std.proofs.Common.{◌≡◌, ◌+◌, ◌-◌, ◌*◌, ◌%◌, ◌≤◌, ◌++◌, ◌∙◌, ap, ap₂, arith, drop, length, length-drop, length-take, length-take-le, refl, subst, sym, take}
+use Rattle.std.proofs.Common.{◌+◌, ◌-◌, ◌++◌, ◌∙◌, ap, ap₂, arith, length, length-drop, length-take-le, refl, subst, sym, take}
 use Rattle.std.proofs.Math.Seq.{take-append-add}
 use Rattle.std.proofs.lemmas.List.{take-take, take_rest}
 use Rattle.std.proofs.lemmas.Slice.{take-put_mid}
 use Rattle.utf16_units.specs.Encoding.{IsUtf16, utf8_of}
-use Rattle.utf16_to_utf8.proofs.SpaceLemmas.{few-bytes, utf8-rest}
-use Rattle.utf16_to_utf8.proofs.write.write_whole.Given.{Over}
+use Rattle.utf16_to_utf8.proofs.SpaceLemmas.{few-bytes, utf8-rest, written-fits}
 use Rattle.utf16_to_utf8.proofs.write.write_whole.Goals as goal
-use Rattle.utf16_to_utf8.proofs.write.write_whole.Goals.{After-write_blocks-blocks}
-
-fits : (g : Over) (c : After-write_blocks-blocks g) → c.write_blocks-blocks.result.written ≤ length c.write_blocks-blocks.new.to
-fits g c =
-    let blocks = c.write_blocks-blocks in
-    omega (arith, length-take blocks.result.written blocks.new.to, ap length blocks.ensures.utf8, blocks.ensures.len)
-
-bound : (g : Over) (c : After-write_blocks-blocks g) → (2 * c.write_blocks-blocks.result.written ≤ 3 * c.write_blocks-blocks.result.read) × (c.write_blocks-blocks.result.read % 2 ≡ 0)
-bound g c =
-    let blocks = c.write_blocks-blocks in
-    let e = blocks.ensures in
-    few-bytes g.E.Utf16Order.BIG c.args.raw.now blocks.new.to blocks.result.read blocks.result.written e.well_formed e.within (fits g c) e.utf8
 
 pub write_short-requires-2-clause-well_formed : goal.write_short-requires-2-clause-well_formed
 write_short-requires-2-clause-well_formed g c =
@@ -29,7 +16,8 @@ pub write_short-requires-2-clause-space : goal.write_short-requires-2-clause-spa
 write_short-requires-2-clause-space g c =
     let raw = c.args.raw.now in
     let blocks = c.write_blocks-blocks in
-    let less = bound g (goal.at.write_short-requires-2-clause-space g c).After-write_blocks-blocks in
+    let e = blocks.ensures in
+    let less = few-bytes g.E.Utf16Order.BIG raw blocks.new.to _ _ e.well_formed e.within (written-fits blocks.new.to _ _ e.utf8 e.len) e.utf8 in
     omega (
       arith,
       ap length (take_rest raw blocks.result.read),
@@ -52,7 +40,7 @@ returns-clause-utf8 g c =
     let at = blocks.result.written in
     let old = blocks.new.to in
     let new = short.new.out in
-    let within = fits g (goal.at.returns-clause-utf8 g c).After-write_blocks-blocks in
+    let within = written-fits old _ at blocks.ensures.utf8 blocks.ensures.len in
     let head = take at old in
     let long = length-take-le at old within in
     let rest = utf8-rest big raw blocks.result.read c.requires.well_formed blocks.ensures.well_formed in
