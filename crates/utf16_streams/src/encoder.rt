@@ -5,7 +5,6 @@ ghost use Rattle.utf8_bytes.specs.Split.{split_tail};
 ghost use Rattle.utf16_transcode.specs.Stream.{stream_pending};
 ghost use Rattle.utf16_streams.specs.Encoder.{certain, decided_utf16, entire, with_bom};
 
-use crate::chunks::feed_all;
 use crate::transcoder::Transcoder;
 use std::marker::PhantomData;
 use utf16_transcode::{FromUtf8, Stream, finish_utf8, put};
@@ -85,7 +84,7 @@ fn feed<E: Utf16Order>(stream: &mut Stream, piece: &[u8], to: &mut [u8]) -> usiz
     ensures undecided { split_tail (stream_pending stream.new)
         ≡ stream_pending stream.new }
 {
-    feed_all::<FromUtf8<E>>(stream, piece, to)
+    stream.feed::<FromUtf8<E>>(piece, to).written
 }
 
 // Inserts a BOM before the first `len` bytes of a buffer, unless they begin with one. Returns the

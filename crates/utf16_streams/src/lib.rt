@@ -5,7 +5,6 @@
 
 mod any_lossy;
 pub mod bom_laws;
-mod chunks;
 mod decoder;
 mod encode_filters;
 mod encoder;
@@ -15,7 +14,6 @@ mod transcoder;
 mod watched;
 
 pub use crate::any_lossy::AnyLossy;
-pub use crate::chunks::feed_all;
 pub use crate::encode_filters::{encode_stream, encode_stream_with_bom};
 pub use crate::filters::{FilterFault, filter, filter_auto, filter_by};
 pub use crate::lossy::{Lossy, decode_pieces};

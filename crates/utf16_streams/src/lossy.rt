@@ -11,7 +11,6 @@ ghost use Rattle.utf16_transcode.specs.Decodes.{Decodes};
 ghost use Rattle.utf16_transcode.specs.Stream.{stream_pending};
 ghost use Rattle.utf16_streams.specs.Filter.{ContinuesUtf8, decided_utf8, whole_utf8};
 
-use crate::chunks::feed_all;
 use crate::decoder::{BUFFER_LEN, Decoder, SHORT_BUFFER, feed};
 use crate::transcoder::Transcoder;
 use std::alloc::{AllocError, Allocator};
@@ -158,7 +157,7 @@ impl<E: Utf16Order> Transcoder for Lossy<E> {
             ≡ split_tail E.BIG (lossy_pending self.old ++ piece.now) }
     {
         are_bytes(self.stream.pending());
-        feed_all::<ToUtf8<E>>(&mut self.stream, piece, to)
+        self.stream.feed::<ToUtf8<E>>(piece, to).written
     }
 
     fn finish_to(self, to: &mut [u8]) -> usize {
@@ -285,7 +284,7 @@ fn decode_part<'a, E: Utf16Order, A: Allocator>(
 {
     let mut stream = stream;
     let (part, rest) = part_that_fits::<E>(stream.pending(), piece, buffer.len());
-    let written = feed_all::<ToUtf8<E>>(&mut stream, part, buffer);
+    let written = stream.feed::<ToUtf8<E>>(part, buffer).written;
     to.push_str(unsafe { str::from_utf8_unchecked(&buffer[..written]) })?;
     Ok((stream, rest))
 }

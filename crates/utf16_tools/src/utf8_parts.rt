@@ -9,7 +9,6 @@ ghost use Rattle.utf16string.specs.WStr.{wstr_bytes, wstr_text};
 ghost use Rattle.utf16string.specs.WString.{IsUnchanged, wstring_bytes, wstring_capacity, wstring_text};
 
 use std::alloc::{AllocError, Allocator};
-use utf16_streams::feed_all;
 use utf16_transcode::{CHUNK_LEN, FEED_SLACK, FromUtf8, SHORT_CHUNK, Stream};
 use utf16string::{Utf16Order, WStr, WString};
 
@@ -125,6 +124,6 @@ fn decode_part<'a, E: Utf16Order>(
         ≡ split_tail (stream_pending stream ++ part.now) }
 {
     let mut stream = stream;
-    let written = feed_all::<FromUtf8<E>>(&mut stream, part, buffer);
+    let written = stream.feed::<FromUtf8<E>>(part, buffer).written;
     (stream, WStr::from_utf16_unchecked(&buffer[..written]))
 }

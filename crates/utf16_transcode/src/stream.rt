@@ -96,12 +96,35 @@ impl Stream {
         ensures done { (result.stop ≡ Done)
             ↔ (length (flat_map D.into (decided D.parts (stream_pending self.old ++ piece.now)))
             ≤ length to.new) }
+        ensures text { result.stop ≡ Done → take result.written to.new
+            ≡ flat_map D.into (decided D.parts (stream_pending self.old ++ piece.now)) }
+        ensures pending { result.stop ≡ Done
+            → stream_pending self.new ≡ D.parts.tail (stream_pending self.old ++ piece.now) }
+        ensures undecided { result.stop ≡ Done
+            → D.parts.tail (stream_pending self.new) ≡ stream_pending self.new }
         ensures filled { result.stop ≡ NoSpace → length to.new < result.written + 4 }
         ensures few { self.new.len ≤ 3 }
     {
-        let (progress, stream) = feed_after::<D>(self.pending(), piece, to);
-        *self = stream;
-        progress
+        D::lossy_laws();
+        let held = *self;
+        let pending = held.pending();
+        let front = transcode_joined::<D>(pending, piece, to);
+        let (left, rest) = rest_of(pending, piece, front.read);
+        if let Stop::NoSpace = front.stop {
+            *self = Stream::holding(left);
+            return Progress {
+                read: piece.len() - rest.len(),
+                written: front.written,
+                stop: Stop::NoSpace,
+            };
+        }
+        let (tail, len) = joined_start(left, rest);
+        *self = Stream::holding(&tail[..len]);
+        Progress {
+            read: piece.len(),
+            written: front.written,
+            stop: Stop::Done,
+        }
     }
 
     /// Ends the stream: writes the replacement of the pending bytes, if there are any, to the start
@@ -135,40 +158,6 @@ impl Stream {
             stop: Stop::Done,
         }
     }
-}
-
-// Transcodes a chunk after pending bytes, like `feed`. Returns the progress, and the stream with
-// the bytes that are pending afterwards.
-fn feed_after<D: LossyDirection>(pending: &[u8], piece: &[u8], to: &mut [u8]) -> (Progress, Stream)
-    requires { length pending.now ≤ 3 }
-    ensures feeds { FeedsAs D.parts D.into pending.now piece.now (stream_pending result.1) to.new
-        result.0.read result.0.written }
-    ensures stop { StopsFeedingAs D.parts D.into pending.now piece.now (stream_pending result.1)
-        result.0.read (length to.new - result.0.written) result.0.stop }
-    ensures done { (result.0.stop ≡ Done)
-        ↔ (length (flat_map D.into (decided D.parts (pending.now ++ piece.now)))
-        ≤ length to.new) }
-    ensures filled { result.0.stop ≡ NoSpace → length to.new < result.0.written + 4 }
-    ensures few { result.1.len ≤ 3 }
-{
-    D::lossy_laws();
-    let front = transcode_joined::<D>(pending, piece, to);
-    let (pending, rest) = rest_of(pending, piece, front.read);
-    if let Stop::NoSpace = front.stop {
-        let full = Progress {
-            read: piece.len() - rest.len(),
-            written: front.written,
-            stop: Stop::NoSpace,
-        };
-        return (full, Stream::holding(pending));
-    }
-    let (tail, len) = joined_start(pending, rest);
-    let done = Progress {
-        read: piece.len(),
-        written: front.written,
-        stop: Stop::Done,
-    };
-    (done, Stream::holding(&tail[..len]))
 }
 
 // Transcodes pending bytes and a chunk after them like `transcode_partial`, as if they were
