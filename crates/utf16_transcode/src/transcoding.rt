@@ -96,34 +96,20 @@ fn write_piece<D: Direction>(rest: &[u8], to: &mut [u8], at: usize) -> Moved
     ensures { Puts (Gives D.IsValid D.other) rest.now to.old to.new at result.read result.written }
 {
     D::laws();
-    let front = write_validating::<D>(rest, to, at);
-    if front.read == rest.len() {
-        return front;
+    let mut read = 0;
+    let mut end = at;
+    if rest.len() >= D::FRONT_LEN {
+        let front = D::write_front(rest, &mut to[at..]);
+        read = front.read;
+        end += front.written;
     }
-    let tail = write_validated_tail::<D>(&rest[front.read..], to, front.written);
+    if read == rest.len() {
+        return Moved { read, written: end };
+    }
+    let tail = write_validated_tail::<D>(&rest[read..], to, end);
     Moved {
-        read: front.read + tail.read,
+        read: read + tail.read,
         written: tail.written,
-    }
-}
-
-// Writes a valid prefix of the bytes at `at`, and validates it at the same time.
-#[inline(always)]
-fn write_validating<D: Direction>(rest: &[u8], to: &mut [u8], at: usize) -> Moved
-    requires { at ≤ length to.old }
-    ensures { Puts (Gives D.IsValid D.other) rest.now to.old to.new at result.read result.written }
-{
-    D::laws();
-    if rest.len() < D::FRONT_LEN {
-        return Moved {
-            read: 0,
-            written: at,
-        };
-    }
-    let front = D::write_front(rest, &mut to[at..]);
-    Moved {
-        read: front.read,
-        written: at + front.written,
     }
 }
 
