@@ -1,8 +1,8 @@
 -- The prefix of a text that ends at a boundary of its UTF-16.
-use Rattle.std.proofs.Common.{◌≡◌, ◌⊎◌, inl, inr, ⊎_elim, ℕ, ◌-◌, ◌%◌, ◌<◌, ◌≤◌, Bool, List, [], ◌∷◌, ◌++◌, length, take, drop, encode_utf8_all, refl, sym, ap, ap₂, ◌∙◌, subst, All, arith, take_at, length-append}
+use Rattle.std.proofs.Common.{◌≡◌, ◌⊎◌, inl, inr, ⊎_elim, ℕ, ◌-◌, ◌%◌, ◌<◌, ◌≤◌, Bool, List, [], ◌∷◌, ◌++◌, length, take, drop, encode_utf8_all, refl, sym, ap, ap₂, ◌∙◌, subst, All, arith, take_at, take-append-drop, length-append, length-take-le}
 use Rattle.std.proofs.lemmas.Bool.{cases_lt}
 use Rattle.std.proofs.lemmas.List.Concat.{flat_map-append}
-use Rattle.std.proofs.lemmas.Str.{chars-encodes}
+use Rattle.std.proofs.lemmas.Str.{chars-append, chars-encodes}
 use Rattle.std.specs.Char.{IsScalar, encode_utf8}
 use Rattle.std.specs.Str.{IsUtf8, chars}
 use Rattle.utf16_units.specs.Boundary.{IsBoundary}
@@ -49,14 +49,18 @@ even_boundary (c ∷ text) i even within =
     (even_boundary text (i - char_size c) (omega (arith, even, fits, first)) (omega (arith, within, fits, size-cons c text))))
     (cases_lt i (char_size c))
 
+-- inside a surrogate pair there is no boundary
+pub no_boundary : (big : Bool) (raw : List ℕ) (i : ℕ) → IsUtf16 big raw → i < length raw → IsTrailing (first_unit big (drop i raw)) → ¬ (IsBoundary (text_of big raw) i)
+no_boundary big raw i utf16 within trailing here = ⊎_elim
+    (λ (end : i ≡ length raw). omega (arith, end, within))
+    (λ (unit : (i < length raw) × (i % 2 ≡ 0) × ¬ (IsTrailing (first_unit big (drop i raw)))). unit.2 trailing)
+    (boundary_is big raw i utf16 here)
+
 -- the last boundary before an offset in UTF-16 that is inside a surrogate pair
 pub boundary_before : (big : Bool) (raw : List ℕ) (i : ℕ) → IsUtf16 big raw → i % 2 ≡ 0 → i < length raw → IsTrailing (first_unit big (drop i raw))
     → (2 ≤ i) × IsBoundary (text_of big raw) (i - 2)
 boundary_before big raw i utf16 even within trailing = ⊎_elim
-    (λ (here : IsBoundary (text_of big raw) i). ⊎_elim
-    (λ (end : i ≡ length raw). absurd (omega (arith, end, within)))
-    (λ (unit : (i < length raw) × (i % 2 ≡ 0) × ¬ (IsTrailing (first_unit big (drop i raw)))). absurd (unit.2 trailing))
-    (boundary_is big raw i utf16 here))
+    (λ (here : IsBoundary (text_of big raw) i). absurd (no_boundary big raw i utf16 within trailing here))
     (λ (before : (2 ≤ i) × IsBoundary (text_of big raw) (i - 2)). before)
     (even_boundary (text_of big raw) i even (omega (arith, within, length-text big raw utf16)))
 
@@ -92,4 +96,16 @@ prefix_to_utf16 big utf8 raw end gives at =
         subst IsUtf8 (sym same) (front, (valid, refl)),
         sym encodes.spelled ∙ ap (encode big) (text_to-front text end at ∙ sym (ap chars same ∙ chars-encodes front valid)),
       );
+    }
+
+-- where a prefix of the text ends, the UTF-16 has a boundary
+pub boundary_of : (big : Bool) (utf8 raw : List ℕ) (read end : ℕ) → TranscodesToUtf16 big utf8 raw → Wrote (TranscodesToUtf16 big) utf8 raw read end
+    → IsBoundary (chars utf8) end
+boundary_of big utf8 raw read end gives wrote =
+    let front = take read utf8 in
+    record {
+      front = chars front;
+      back = chars (drop read utf8);
+      split = sym (chars-append front (drop read utf8) wrote.gives.0) ∙ ap chars (take-append-drop read utf8);
+      offset = omega (arith, length-encode big (chars front), ap length wrote.gives.1, length-take-le end raw wrote.fits);
     }

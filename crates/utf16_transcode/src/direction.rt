@@ -76,7 +76,8 @@ pub trait Direction {
         ensures none { result ≡ None → length to.new - at < length (into c) }
         ensures unchanged { result ≡ None → to.new ≡ to.old };
 
-    /// Returns how much of a text fits in `room` bytes of the second encoding.
+    /// Returns how much of a text fits in `room` bytes of the second encoding: as many whole
+    /// characters as possible.
     ///
     /// # Precondition
     ///
@@ -87,6 +88,9 @@ pub trait Direction {
         ensures prefix { Wrote (Gives IsValid other) text.now written.now result.read
             result.written }
         ensures fits { result.written ≤ room }
+        ensures longest { (read end : ℕ)
+            → Wrote (Gives IsValid other) text.now written.now read end → end ≤ room
+            → end ≤ result.written }
         ensures most { room < result.written + 4 };
 
     /// Returns a number of bytes, which may be 0, for which `write` needs at most `room` bytes of

@@ -5,7 +5,7 @@
 //! as the bytes before it. The frequent first bytes are tested by ranges, because a `match` of five
 //! cases compiles to a jump table.
 
-ghost use Rattle.std.specs.Prelude.{◌≡◌, ◌&&◌, ◌+◌, ◌-◌, ◌*◌, ◌<◌, ◌≤◌, [], ◌∷◌, ◌++◌, IfErr, IfOk, IfSome, length, take};
+ghost use Rattle.std.specs.Prelude.{◌≡◌, ◌&&◌, ◌+◌, ◌-◌, ◌*◌, ◌<◌, ◌≤◌, ℕ, [], ◌∷◌, ◌++◌, IfErr, IfOk, IfSome, length, take};
 ghost use Rattle.std.specs.Char.{encode_utf8};
 ghost use Rattle.std.specs.Int.{is_in_range};
 ghost use Rattle.std.specs.Str.{IsUtf8, chars};
@@ -136,6 +136,7 @@ fn last_boundary<E: Utf16Order>(utf16: &[u8], at: usize) -> usize
     requires inside { at < length utf16.now }
     ensures boundary { IsBoundary (text_of E.BIG utf16.now) result }
     ensures before { result ≤ at }
+    ensures last { (i : ℕ) → IsBoundary (text_of E.BIG utf16.now) i → i ≤ at → i ≤ result }
     ensures near { at < result + 4 }
 {
     let whole = at / 2 * 2;

@@ -1,5 +1,7 @@
-use Rattle.std.proofs.Common.{◌≡◌, ◌-◌, ◌∙◌, ap, arith, length, subst, sym, take}
-use Rattle.std.specs.Str.{IsCharBoundary, chars}
+use Rattle.std.proofs.Common.{◌≡◌, ◌-◌, ◌<◌, ◌≤◌, ◌∙◌, ⊎_elim, ap, arith, length, subst, sym, take}
+use Rattle.std.proofs.lemmas.Bool.{cases_lt}
+use Rattle.std.proofs.lemmas.Str.{IsCharBoundary-from_take}
+use Rattle.std.specs.Str.{IsCharBoundary, IsUtf8, chars}
 use Rattle.utf16_units.specs.Encoding.{size}
 use Rattle.utf16_transcode.specs.Wrote.{TranscodesToUtf8, Wrote}
 use Rattle.utf16_transcode.proofs.DecodePrefixLemmas.{boundary_is_near, prefix_to_utf8, utf8_given}
@@ -25,3 +27,13 @@ returns-clause-most g c =
     let end = c.floor_char_boundary-end in
     let text = c.from_utf8_unchecked-text in
     boundary_is_near text.result.now end.result c.args.room text.utf8 end.ensures.boundary end.ensures.bound (omega (arith, c.requires.long, ap length text.ensures)) end.ensures.nearest
+
+pub returns-clause-longest : goal.returns-clause-longest
+returns-clause-longest g c read end wrote le =
+    let last = c.floor_char_boundary-end in
+    let text = c.from_utf8_unchecked-text in
+    let utf8 = subst (λ t. IsUtf8 (take end t)) (sym text.ensures) (utf8_given g.E.Utf16Order.BIG _ _ wrote.gives) in
+    ⊎_elim
+    (λ (past : last.result < end). absurd (last.ensures.nearest end past le (IsCharBoundary-from_take text.result.now end text.utf8 (omega (arith, wrote.fits, ap length text.ensures)) utf8)))
+    (λ (before : end ≤ last.result). before)
+    (cases_lt last.result end)

@@ -5,7 +5,7 @@ use Rattle.utf16_units.proofs.BoundaryLemmas.{Encodes-to}
 use Rattle.utf16_units.proofs.EncodingLemmas.{Encodes-text_of, IsUtf16-from_Encodes, text_of-Encodes}
 use Rattle.utf16_transcode.specs.Wrote.{Wrote}
 use Rattle.utf16_transcode.specs.FromUtf8.{TranscodesToUtf16}
-use Rattle.utf16_transcode.proofs.EncodePrefixLemmas.{encoded, prefix_to_utf16}
+use Rattle.utf16_transcode.proofs.EncodePrefixLemmas.{boundary_of, encoded, prefix_to_utf16}
 use Rattle.utf16_transcode.proofs.encode.FromUtf8Direction.fitting_prefix.Goals as goal
 
 pub last_boundary-end-requires-clause-text : goal.last_boundary-end-requires-clause-text
@@ -26,3 +26,9 @@ returns-clause-prefix g c =
     let same = text_of-Encodes _ _ _ (encoded big utf8 c.args.written.now c.requires.text) in
     subst (λ n. Wrote (TranscodesToUtf16 big) utf8 c.args.written.now n end.result) (sym c.utf8_len.ensures)
     (prefix_to_utf16 big utf8 c.args.written.now end.result c.requires.text (subst (λ t. IsBoundary t end.result) same end.ensures.boundary))
+
+pub returns-clause-longest : goal.returns-clause-longest
+returns-clause-longest g c read end wrote le =
+    let big = g.E.Utf16Order.BIG in
+    let same = text_of-Encodes _ _ _ (encoded big c.args._text.now c.args.written.now c.requires.text) in
+    c.last_boundary-end.ensures.last end (subst (λ t. IsBoundary t end) (sym same) (boundary_of big _ _ read end c.requires.text wrote)) le
