@@ -26,7 +26,7 @@ use Rattle.utf16_transcode.specs.Stops.{IsIllFormedUtf16, StopsDecoding, StopsLo
 use Rattle.utf16_transcode.specs.declared.progress.Stop.{Stop}
 use Rattle.utf16_transcode.specs.declared.progress.Stop.TheVariants.{Incomplete, Done, IllFormed, NoSpace}
 use Rattle.utf16_transcode.proofs.DecodesLemmas.{cut_off_decides, cut_off_leaves, split_tail-again}
-use Rattle.utf16_transcode.proofs.DecodesSteps.{Decodes-then}
+use Rattle.utf16_transcode.proofs.DecodesSteps.{Decodes-then, first_fits}
 use Rattle.utf16_transcode.proofs.IllFormedDecides.{fault_decides}
 use Rattle.utf16_transcode.proofs.ToUtf8Parts.{utf16_chunks, whole_lossy_chars-is}
 use Rattle.utf16_transcode.proofs.WholeLemmas.{whole_text}
@@ -143,15 +143,17 @@ module _ (big : Bool) (raw : List ℕ) (n len : ℕ) (found : IsIllFormedUtf16 b
     pub some_items : split_items big (drop n raw) ≢ []
     some_items none = let items = items_here in absurd (cc)
 
-    -- U+FFFD does not fit
+    shown_here : lossy_chars (split_items big (drop n raw)) ≡ 0xFFFD ∷ lossy_chars (split_items big (drop (n + len) raw))
+    shown_here = ap lossy_chars items_here ∙ ap (λ c. c ∷ lossy_chars (split_items big (drop (n + len) raw))) (lossy_char-lone_item (first_unit big (drop n raw)))
+
+    -- U+FFFD fits in three bytes, and in no fewer
+    pub replacement_fits : (left : ℕ) → 3 ≤ left → ¬ (TextDoesNotFit encode_utf8 (lossy_chars (split_items big (drop n raw))) left)
+    unfolding encode_utf8
+    replacement_fits left many = first_fits encode_utf8 _ _ 0xFFFD left shown_here many
+
     pub replacement_does_not_fit : (left : ℕ) → left < 3 → TextDoesNotFit encode_utf8 (lossy_chars (split_items big (drop n raw))) left
     unfolding encode_utf8
-    replacement_does_not_fit left few = record {
-      char = 0xFFFD;
-      more = lossy_chars (split_items big (drop (n + len) raw));
-      begins = ap lossy_chars items_here ∙ ap (λ c. c ∷ lossy_chars (split_items big (drop (n + len) raw))) (lossy_char-lone_item (first_unit big (drop n raw)));
-      too_long = few;
-    }
+    replacement_does_not_fit left few = record { char = 0xFFFD; more = _; begins = shown_here; too_long = few }
 
     -- the text and U+FFFD were written
     pub DecodesTo-lone : (mid next : List ℕ) (w last : ℕ) → TranscodesToUtf8 big (take n raw) (take w mid) → last ≤ length next

@@ -1,10 +1,11 @@
 -- Steps of decoding in sequence, in either direction.
-use Rattle.std.proofs.Common.{◌≡◌, ℕ, List, [], ◌∷◌, ◌++◌, map, refl, sym, ap, ap₂, ◌∙◌, append_assoc, append-nil}
+use Rattle.std.proofs.Common.{◌≡◌, ℕ, ◌≤◌, List, [], ◌∷◌, ◌++◌, length, map, refl, sym, ap, ap₂, ◌∙◌, append_assoc, append-nil, arith}
 use Rattle.std.proofs.lemmas.List.{map-append}
 use Rattle.std.proofs.lemmas.List.Concat.{flat_map-append}
 use Rattle.std.specs.List.{flat_map}
 use Rattle.utf16_transcode.specs.Decodes.{DecodesAs}
 use Rattle.utf16_transcode.specs.Decomposition.{Decomposition, IsSplitInChunks}
+use Rattle.utf16_transcode.specs.Stops.{TextDoesNotFit}
 
 module _ (parts : Decomposition) (into : ℕ → List ℕ) where
   -- what is written for items
@@ -67,3 +68,10 @@ module _ (parts : Decomposition) (into : ℕ → List ℕ) where
     -- the tail of a tail is the tail itself
     pub tail_again : (bytes : List ℕ) → parts.tail (parts.tail bytes) ≡ parts.tail bytes
     tail_again bytes = ap parts.tail (sym (append-nil (parts.tail bytes))) ∙ sym (split.tail bytes []) ∙ ap parts.tail (append-nil bytes)
+
+-- the first character of a text fits
+pub first_fits : (into : ℕ → List ℕ) (text more : List ℕ) (first left : ℕ) → text ≡ first ∷ more → length (into first) ≤ left → ¬ (TextDoesNotFit into text left)
+first_fits into text more first left is fits full =
+    let begins = full.begins in
+    let same : full.char ≡ first = cc in
+    omega (arith, fits, full.too_long, ap (λ c. length (into c)) same)

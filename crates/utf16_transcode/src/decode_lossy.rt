@@ -103,7 +103,7 @@ impl<E: Utf16Order> LossyDirection for ToUtf8<E> {
 fn write_with_replacements<E: Utf16Order>(raw: &[u8], to: &mut [u8]) -> Moved
     requires space { FEED_SLACK ≤ length to.old }
     ensures decodes { DecodesTo E.BIG raw.now to.new result.read result.written }
-    ensures advances { split_items E.BIG raw.now ≢ [] → 0 < result.read }
+    ensures advances { split_items E.BIG raw.now ≢ [] → 2 ≤ result.read }
 {
     if raw.len() >= ASCII_LEN {
         let ascii = write_lossy_ascii_blocks::<E>(raw, to);
@@ -120,7 +120,7 @@ fn write_with_replacements<E: Utf16Order>(raw: &[u8], to: &mut [u8]) -> Moved
 fn write_copied<E: Utf16Order>(raw: &[u8], to: &mut [u8]) -> Moved
     requires space { FEED_SLACK ≤ length to.old }
     ensures decodes { DecodesTo E.BIG raw.now to.new result.read result.written }
-    ensures advances { split_items E.BIG raw.now ≢ [] → 0 < result.read }
+    ensures advances { split_items E.BIG raw.now ≢ [] → 2 ≤ result.read }
 {
     let mut copy = [0; 1024];
     let most = ((to.len() - SLACK) / 3 * 2).min(copy.len()).min(raw.len());

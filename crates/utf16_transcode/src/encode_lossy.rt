@@ -44,7 +44,7 @@ fn write_replacement_and_more<E: Utf16Order>(text: &[u8], len: usize, to: &mut [
     requires ill_formed { FirstItem text.now 0xFFFD len }
     requires space { 2 ≤ length to.old }
     ensures decodes { DecodesUtf8To E.BIG text.now to.new result.read result.written }
-    ensures some { 0 < result.read }
+    ensures sequence { len ≤ result.read }
 {
     let written = put(&E::write_unit(REPLACEMENT_UNIT), to, 0);
     let more = write_after_ill_formed::<E>(&text[len..], &mut to[written..]);

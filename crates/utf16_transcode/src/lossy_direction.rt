@@ -1,7 +1,7 @@
 //! What a call needs to continue after ill-formed sequences: how text is written, which bytes are
 //! pending, and what is written for each ill-formed sequence.
 
-ghost use Rattle.std.specs.Prelude.{◌≡◌, ◌-◌, ◌<◌, ◌≤◌, ◌++◌, ℕ, List, IfSome, None, Some, drop, length, take};
+ghost use Rattle.std.specs.Prelude.{◌≡◌, ◌↔◌, ◌-◌, ◌<◌, ◌≤◌, ◌++◌, ℕ, List, IfSome, None, Some, drop, length, take};
 ghost use Rattle.std.specs.List.{flat_map};
 ghost use Rattle.utf16_transcode.specs.Decomposition.{Decomposition, IsSplitInChunks, decided};
 ghost use Rattle.utf16_transcode.specs.Stops.{Stops, StopsLossyAs, TextDoesNotFit};
@@ -24,8 +24,8 @@ pub trait LossyDirection {
     ghost into: { ℕ → List ℕ };
 
     /// Writes the replacement of the ill-formed sequence at the start of the input to the start of
-    /// a buffer. It may also write what is certain of the bytes after it. Returns `None` if the
-    /// first character does not fit. The bytes of the buffer after the written ones may be
+    /// a buffer. It may also write what is certain of the bytes after it. Returns `None` exactly if
+    /// the replacement does not fit. The bytes of the buffer after the written ones may be
     /// overwritten.
     ///
     /// # Precondition
@@ -37,8 +37,9 @@ pub trait LossyDirection {
         ensures decodes { IfSome result (λ done.
             DecodesAsTo parts into input.now to.new done.read done.written) }
         ensures advances { IfSome result (λ done. 0 < done.read) }
-        ensures none { result ≡ None
-            → TextDoesNotFit into (decided parts input.now) (length to.new) };
+        ensures sequence { IfSome result (λ done. len ≤ done.read) }
+        ensures none { (result ≡ None)
+            ↔ TextDoesNotFit into (decided parts input.now) (length to.new) };
 
     /// Writes the replacement of a tail at the end of the input at `at`, and returns where it ends,
     /// or `None` if it does not fit. All other bytes of the buffer are unchanged.

@@ -19,6 +19,7 @@ use Rattle.utf16_transcode.specs.Wrote.{TranscodesToUtf8, Wrote}
 use Rattle.utf16_transcode.specs.declared.progress.Stop.{Stop}
 use Rattle.utf16_transcode.specs.declared.progress.Stop.TheVariants.{Incomplete, Done, IllFormed, NoSpace}
 use Rattle.utf16_transcode.proofs.DecodeLossyLemmas.{stops_lossy}
+use Rattle.utf16_transcode.proofs.DecodesSteps.{first_fits}
 use Rattle.utf16_transcode.proofs.ToUtf8Lemmas.{faults_there}
 use Rattle.utf16_transcode.proofs.ToUtf8Parts.{utf16_chunks}
 use Rattle.utf16_wtf8.specs.ToWtf8.{DecodesToWtf8, StopsBeforeTail, item_point, tail_points, wtf8_parts}
@@ -125,14 +126,15 @@ module _ (big : Bool) (raw : List ℕ) (len : ℕ) (are : AreBytes raw) (some : 
     };
   }
 
-  -- it does not fit
+  points_here : map item_point (split_items big raw) ≡ unit ∷ map item_point (split_items big (drop 2 raw))
+  points_here = ap (map item_point) items_here ∙ ap (λ point. point ∷ map item_point (split_items big (drop 2 raw))) (item_point-lone unit)
+
+  -- it fits, or it does not
+  pub surrogate_fits : (left : ℕ) → length (generalized_utf8 unit) ≤ left → ¬ (TextDoesNotFit generalized_utf8 (map item_point (split_items big raw)) left)
+  surrogate_fits left many = first_fits generalized_utf8 _ _ unit left points_here many
+
   pub surrogate_does_not_fit : (left : ℕ) → left < length (generalized_utf8 unit) → TextDoesNotFit generalized_utf8 (map item_point (split_items big raw)) left
-  surrogate_does_not_fit left few = record {
-    char = unit;
-    more = map item_point (split_items big (drop 2 raw));
-    begins = ap (map item_point) items_here ∙ ap (λ point. point ∷ map item_point (split_items big (drop 2 raw))) (item_point-lone unit);
-    too_long = few;
-  }
+  surrogate_does_not_fit left few = record { char = unit; more = _; begins = points_here; too_long = few }
 
 -- ---- a tail
 

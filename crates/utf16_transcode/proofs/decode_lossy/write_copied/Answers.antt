@@ -1,5 +1,6 @@
 use Rattle.std.proofs.Common.{◌≤◌, ◌<◌, ◌⊎◌, encode_utf8_all, inl, inr, length, length-take-le, take, refl, ap, ◌∙◌, ⊎_elim, arith}
 use Rattle.std.proofs.lemmas.Bool.{cases_lt}
+use Rattle.utf16_units.proofs.BackChar.{length-even}
 use Rattle.utf16_units.proofs.EncodingLemmas.{Encodes-text_of, Encodes-unique}
 use Rattle.utf16_transcode.proofs.DecodesLemmas.{Decodes-decided, some_decided}
 use Rattle.utf16_transcode.proofs.WroteLemmas.{enough}
@@ -26,4 +27,6 @@ returns-clause-advances g c some =
     (λ (few : length raw < 4). inr (omega arith))
     (λ (many : 4 ≤ length raw). inl (omega arith))
     (cases_lt (length raw) 4) in
-    some_decided g.E.Utf16Order.BIG raw (take m raw) m c.write_well_formed-len.result refl c.write_well_formed-len.ensures.len all some
+    let copy = c.write_well_formed-len in
+    let more = some_decided g.E.Utf16Order.BIG raw (take m raw) m copy.result refl copy.ensures.len all some in
+    omega (arith, more, length-even g.E.Utf16Order.BIG _ copy.ensures.well_formed, length-take-le copy.result copy.new.to (omega (arith, copy.ensures.len)))
