@@ -698,23 +698,12 @@ static bool call_every_room(dethrux_byte_order order, char **values, size_t coun
     return is;
 }
 
-/* Calls that read bytes. */
+/* Calls that read bytes, and functions of the library that return a number for UTF-16. */
 typedef void question(dethrux_byte_order order, const text *raw, text *answer);
-
-static void ask_count(dethrux_byte_order order, const text *raw, text *answer) {
-    add_number(answer, dethrux_count_chars(order, raw->bytes, raw->len));
-}
+typedef size_t measure(dethrux_byte_order order, const uint8_t *utf16, size_t len);
 
 static void ask_is_ascii(dethrux_byte_order order, const text *raw, text *answer) {
     add_word(answer, dethrux_is_ascii(order, raw->bytes, raw->len) ? "true" : "false");
-}
-
-static void ask_utf8_size(dethrux_byte_order order, const text *raw, text *answer) {
-    add_number(answer, dethrux_to_utf8_lossy_len(order, raw->bytes, raw->len));
-}
-
-static void ask_wtf8_size(dethrux_byte_order order, const text *raw, text *answer) {
-    add_number(answer, dethrux_to_wtf8_len(order, raw->bytes, raw->len));
 }
 
 static void ask_utf16_size(dethrux_byte_order order, const text *raw, text *answer) {
@@ -1122,10 +1111,6 @@ static bool call_from_latin1(dethrux_byte_order order, char **values, size_t cou
     return latin1_by(dethrux_from_latin1, order, values, count, answer);
 }
 
-static void ask_to_utf32_len(dethrux_byte_order order, const text *raw, text *answer) {
-    add_number(answer, dethrux_to_utf32_lossy_len(order, raw->bytes, raw->len));
-}
-
 static void ask_from_utf32_len(dethrux_byte_order order, const text *raw, text *answer) {
     size_t len;
     uint32_t *points = code_points(raw, &len);
@@ -1159,48 +1144,50 @@ static void ask_inspect(dethrux_byte_order order, const text *raw, text *answer)
     add_stop(answer, found.status, found.error_len);
 }
 
-/* The call of a name: on values, or only on bytes. The conversions have a separate table. */
+/* The call of a name: on values, on bytes only, or a number for UTF-16. The conversions have a
+ * separate table. */
 static struct {
     const char *name;
     bool (*make)(dethrux_byte_order order, char **values, size_t count, text *answer);
     question *ask;
+    measure *size;
     unsigned made;
 } calls[] = {
-    {"every_room", call_every_room, NULL, 0},
-    {"Stream::feed", call_stream_feed, NULL, 0},
-    {"feed_utf8", call_utf8_stream_feed, NULL, 0},
-    {"feed_wtf8", call_wtf8_feed, NULL, 0},
-    {"Lossy::feed", call_lossy_feed, NULL, 0},
-    {"decode_pieces", call_decode_pieces, NULL, 0},
-    {"swap_byte_order", call_swap, NULL, 0},
-    {"make_well_formed", call_make_well_formed, NULL, 0},
-    {"bytes::compare", call_compare, NULL, 0},
-    {"bytes::is_char_boundary", call_is_boundary, NULL, 0},
-    {"bytes::floor_char_boundary", call_floor, NULL, 0},
-    {"bytes::floor_char_boundary_around", call_floor_around, NULL, 0},
-    {"shard_offset", call_shard, NULL, 0},
-    {"search::find", call_find, NULL, 0},
-    {"search::rfind", call_rfind, NULL, 0},
-    {"to_utf32", call_to_utf32, NULL, 0},
-    {"to_utf32_lossy", call_to_utf32_lossy, NULL, 0},
-    {"from_utf32", call_from_utf32, NULL, 0},
-    {"from_utf32_lossy", call_from_utf32_lossy, NULL, 0},
-    {"to_latin1", call_to_latin1, NULL, 0},
-    {"from_latin1", call_from_latin1, NULL, 0},
-    {"to_utf32_lossy_len", NULL, ask_to_utf32_len, 0},
-    {"from_utf32_lossy_len", NULL, ask_from_utf32_len, 0},
-    {"validate_utf32", NULL, ask_validate_utf32, 0},
-    {"inspect", NULL, ask_inspect, 0},
-    {"count_chars", NULL, ask_count, 0},
-    {"is_ascii", NULL, ask_is_ascii, 0},
-    {"to_utf8_lossy_len", NULL, ask_utf8_size, 0},
-    {"to_wtf8_len", NULL, ask_wtf8_size, 0},
-    {"from_utf8_len", NULL, ask_utf16_size, 0},
-    {"from_utf8_lossy_len", NULL, ask_utf16_marked_size, 0},
-    {"validate_raw_utf16", NULL, ask_validate, 0},
-    {"WStr::from_utf16", NULL, ask_from_utf16, 0},
-    {"every_chunking", NULL, ask_every_chunking, 0},
-    {"AnyLossy::every_chunking", NULL, ask_every_any_chunking, 0},
+    {.name = "count_chars", .size = dethrux_count_chars},
+    {.name = "to_utf8_lossy_len", .size = dethrux_to_utf8_lossy_len},
+    {.name = "to_utf32_lossy_len", .size = dethrux_to_utf32_lossy_len},
+    {.name = "to_wtf8_len", .size = dethrux_to_wtf8_len},
+    {.name = "every_room", .make = call_every_room},
+    {.name = "Stream::feed", .make = call_stream_feed},
+    {.name = "feed_utf8", .make = call_utf8_stream_feed},
+    {.name = "feed_wtf8", .make = call_wtf8_feed},
+    {.name = "Lossy::feed", .make = call_lossy_feed},
+    {.name = "decode_pieces", .make = call_decode_pieces},
+    {.name = "swap_byte_order", .make = call_swap},
+    {.name = "make_well_formed", .make = call_make_well_formed},
+    {.name = "bytes::compare", .make = call_compare},
+    {.name = "bytes::is_char_boundary", .make = call_is_boundary},
+    {.name = "bytes::floor_char_boundary", .make = call_floor},
+    {.name = "bytes::floor_char_boundary_around", .make = call_floor_around},
+    {.name = "shard_offset", .make = call_shard},
+    {.name = "search::find", .make = call_find},
+    {.name = "search::rfind", .make = call_rfind},
+    {.name = "to_utf32", .make = call_to_utf32},
+    {.name = "to_utf32_lossy", .make = call_to_utf32_lossy},
+    {.name = "from_utf32", .make = call_from_utf32},
+    {.name = "from_utf32_lossy", .make = call_from_utf32_lossy},
+    {.name = "to_latin1", .make = call_to_latin1},
+    {.name = "from_latin1", .make = call_from_latin1},
+    {.name = "from_utf32_lossy_len", .ask = ask_from_utf32_len},
+    {.name = "validate_utf32", .ask = ask_validate_utf32},
+    {.name = "inspect", .ask = ask_inspect},
+    {.name = "is_ascii", .ask = ask_is_ascii},
+    {.name = "from_utf8_len", .ask = ask_utf16_size},
+    {.name = "from_utf8_lossy_len", .ask = ask_utf16_marked_size},
+    {.name = "validate_raw_utf16", .ask = ask_validate},
+    {.name = "WStr::from_utf16", .ask = ask_from_utf16},
+    {.name = "every_chunking", .ask = ask_every_chunking},
+    {.name = "AnyLossy::every_chunking", .ask = ask_every_any_chunking},
 };
 
 enum { CALLS = sizeof calls / sizeof *calls };
@@ -1228,7 +1215,11 @@ static void run(dethrux_byte_order order, const char *line, char **words, size_t
             if (calls[i].make != NULL) {
                 is = calls[i].make(order, words + 3, said - 3, &found);
             } else if ((is = said == 4 && bytes_of(words[3], order, &raw))) {
-                calls[i].ask(order, &raw, &found);
+                if (calls[i].size != NULL) {
+                    add_number(&found, calls[i].size(order, raw.bytes, raw.len));
+                } else {
+                    calls[i].ask(order, &raw, &found);
+                }
             }
             free(raw.bytes);
         }
@@ -1366,10 +1357,11 @@ static bool is_read_as_little(dethrux_byte_order order, const text *utf16, const
     const dethrux_byte_order little = DETHRUX_LITTLE_ENDIAN;
     dethrux_validity valid = dethrux_validate(order, utf16->bytes, utf16->len), wanted = dethrux_validate(little, utf16->bytes, utf16->len);
     bool is = valid.valid_up_to == wanted.valid_up_to && valid.status == wanted.status && valid.error_len == wanted.error_len
-        && dethrux_count_chars(order, utf16->bytes, utf16->len) == dethrux_count_chars(little, utf16->bytes, utf16->len)
-        && dethrux_is_ascii(order, utf16->bytes, 2) && !dethrux_is_ascii(DETHRUX_BIG_ENDIAN, utf16->bytes, 2)
-        && dethrux_to_utf8_lossy_len(order, utf16->bytes, utf16->len) == dethrux_to_utf8_lossy_len(little, utf16->bytes, utf16->len)
-        && dethrux_to_wtf8_len(order, utf16->bytes, utf16->len) == dethrux_to_wtf8_len(little, utf16->bytes, utf16->len);
+        && dethrux_is_ascii(order, utf16->bytes, 2) && !dethrux_is_ascii(DETHRUX_BIG_ENDIAN, utf16->bytes, 2);
+    for (size_t i = 0; i < CALLS; i++) {
+        measure *size = calls[i].size;
+        is = is && (size == NULL || size(order, utf16->bytes, utf16->len) == size(little, utf16->bytes, utf16->len));
+    }
     is = is && are_cuts_read_as_little(order, utf16) && is_changed_as_little(order, utf16)
         && is_searched_as_little(dethrux_find, order, utf16) && is_searched_as_little(dethrux_rfind, order, utf16);
     for (size_t i = 0; i < sizeof conversions / sizeof *conversions; i++) {
@@ -1640,20 +1632,20 @@ static bool is_empty_fine(void) {
     const dethrux_byte_order little = DETHRUX_LITTLE_ENDIAN, big = DETHRUX_BIG_ENDIAN;
     const uint8_t letter[] = {'a'};
     decoder by = new_decoder(TO_UTF8, big), back = new_decoder(FROM_UTF8, big), wtf8 = new_decoder(TO_WTF8, big);
-    return feed(&wtf8, NULL, 0, NULL, 0).status == DETHRUX_DONE && finish(&wtf8, NULL, 0).status == DETHRUX_DONE
-        && dethrux_to_wtf8(big, NULL, 0, NULL, 0).status == DETHRUX_DONE && dethrux_to_wtf8_len(little, NULL, 0) == 0
-        && dethrux_to_wtf8_partial(big, NULL, 0, NULL, 0).status == DETHRUX_DONE
-        && dethrux_from_wtf8(big, NULL, 0, NULL, 0).status == DETHRUX_DONE
-        && dethrux_from_wtf8_partial(big, NULL, 0, NULL, 0).status == DETHRUX_DONE
+    bool is = true;
+    for (size_t i = 0; i < sizeof conversions / sizeof *conversions; i++) {
+        is = is && conversions[i].make(little, NULL, 0, NULL, 0).status == DETHRUX_DONE
+            && conversions[i].make(big, NULL, 0, NULL, 0).status == DETHRUX_DONE;
+    }
+    for (size_t i = 0; i < CALLS; i++) {
+        measure *size = calls[i].size;
+        is = is && (size == NULL || (size(little, NULL, 0) == 0 && size(big, NULL, 0) == 0));
+    }
+    return is && feed(&wtf8, NULL, 0, NULL, 0).status == DETHRUX_DONE && finish(&wtf8, NULL, 0).status == DETHRUX_DONE
         && feed(&by, NULL, 0, NULL, 0).status == DETHRUX_DONE && finish(&by, NULL, 0).status == DETHRUX_DONE
         && feed(&back, NULL, 0, NULL, 0).status == DETHRUX_DONE && finish(&back, NULL, 0).status == DETHRUX_DONE
-        && dethrux_validate(little, NULL, 0).status == DETHRUX_DONE && dethrux_count_chars(little, NULL, 0) == 0
-        && dethrux_is_ascii(big, NULL, 0) && dethrux_to_utf8_lossy_len(big, NULL, 0) == 0 && dethrux_from_utf8_len(NULL, 0) == 0
-        && dethrux_from_utf8_lossy_len(NULL, 0) == 0 && dethrux_from_utf8_lossy(little, NULL, 0, NULL, 0).status == DETHRUX_DONE
-        && dethrux_to_utf8(little, NULL, 0, NULL, 0).status == DETHRUX_DONE
-        && dethrux_from_utf8(big, NULL, 0, NULL, 0).status == DETHRUX_DONE
-        && dethrux_to_utf8_lossy(big, NULL, 0, NULL, 0).status == DETHRUX_DONE
-        && dethrux_to_utf8_partial(big, NULL, 0, NULL, 0).status == DETHRUX_DONE
+        && dethrux_validate(little, NULL, 0).status == DETHRUX_DONE && dethrux_is_ascii(big, NULL, 0)
+        && dethrux_from_utf8_len(NULL, 0) == 0 && dethrux_from_utf8_lossy_len(NULL, 0) == 0
         && dethrux_is_char_boundary(little, NULL, 0, 0) && !dethrux_is_char_boundary(big, NULL, 0, 1)
         && dethrux_floor_char_boundary(little, NULL, 0, 1) == 0 && dethrux_floor_char_boundary_around(big, NULL, 0, 0) == 0
         && dethrux_find(little, NULL, 0, NULL, 0) == 0 && dethrux_find(big, letter, 1, NULL, 0) == 0

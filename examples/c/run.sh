@@ -135,7 +135,16 @@ write_ignored() {
     echo '}' >> "$room/ignored.c"
 }
 
-# Whether that program calls each function of the header.
+# Whether the checks in C name each function of the header.
+checks_all() {
+    grep -oE 'dethrux_[a-z0-9_]+\(' "$top/include/dethrux.h" | tr -d '(' | grep -v u16_bytes |
+        sort -u > "$room/declared"
+    cat "$here"/{check,units,fixed}.c | grep -oE 'dethrux_[a-z0-9_]+' | sort -u |
+        comm -23 "$room/declared" - > "$room/missing"
+    [ -s "$room/declared" ] && diff /dev/null "$room/missing"
+}
+
+# Whether the program that ignores results calls each function of the header.
 ignores_all() {
     names dethrux_ "$top/include/dethrux.h" > "$room/declared"
     names dethrux_ "$room/ignored.c" | diff "$room/declared" -
@@ -250,6 +259,7 @@ test_c() {
     count 'ignored results in C23' warns "$room/ignored.c" clang "${c23[@]}"
     count 'ignored results in C23 by its attribute' warns_by_standard "${c23[@]}"
     count 'all results are ignored' ignores_all
+    count 'all functions are checked' checks_all
     count 'two files in C' in_two_files cc -std=c99 -include dethrux.h "$here/first.c" "$room/ignored.c"
     count 'enums of one byte' refuses_short_enums
     count 'the byte order of a machine' is_native 1234 LITTLE
