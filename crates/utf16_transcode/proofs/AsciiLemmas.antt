@@ -1,5 +1,5 @@
 -- The ASCII at the start of a block of thirty-two code units.
-use Rattle.std.proofs.Common.{◌≡◌, ℕ, All, ◌*◌, ◌<◌, ◌≤◌, Bool, true, false, not, bit_and, cond, eqb, eqb-true, ltb, List, [], ◌∷◌, ◌++◌, encode_utf8_all, length, map, take, slice_index, refl, sym, ap, ap₂, ◌∙◌, subst, ⊎_elim, arith, Fits, w8, lt-ltb, le-ltb, length-take-le, take-take, true≢false}
+use Rattle.std.proofs.Common.{◌≡◌, ℕ, All, ◌+◌, ◌*◌, ◌/◌, ◌%◌, ◌<◌, ◌≤◌, Bool, true, false, not, bit_and, cond, eqb, eqb-true, ltb, List, [], ◌∷◌, ◌++◌, encode_utf8_all, length, map, take, slice_index, refl, sym, ap, ap₂, ◌∙◌, subst, ⊎_elim, arith, Fits, w8, lt-ltb, le-ltb, length-take-le, take-take, true≢false}
 use borrow.Author.Tests.{eq-eqb}
 use lib.Count.{count_trailing_zeros}
 use lib.Lanes.{Each1}
@@ -7,7 +7,7 @@ use Rattle.std.proofs.lemmas.List.Sums.{prefix_len-le-length, prefix_len_passes,
 use Rattle.std.proofs.lemmas.Nat.{and_le_l}
 use Rattle.std.proofs.lemmas.Nat.Bits.{and_high_mask}
 use Rattle.std.proofs.lemmas.Bool.{cases_Bool, cases_lt, lt-leb}
-use Rattle.std.proofs.lemmas.List.{ext_get_or, get_or-take, length-take}
+use Rattle.std.proofs.lemmas.List.{ext_get_or, get_or-drop, get_or-take, length-take, take_rest}
 use Rattle.std.proofs.lemmas.List.Elements.{All-from_get_or, All-get_or, All-head, All-tail, All-weaker}
 use Rattle.std.proofs.lemmas.Simd.{Each1-get_or, leading_from_mask_l, trailing_mask_l}
 use Rattle.std.proofs.str.Laws.{one}
@@ -15,11 +15,16 @@ use Rattle.std.specs.Char.Escape.{encode_utf16}
 use Rattle.std.specs.List.{flat_map, prefix_len}
 use Rattle.std.specs.Prelude.{min}
 use Rattle.std.specs.Simd.Lanes.{mask_l}
-use Rattle.utf16_units.specs.Encoding.{IsUtf16, text_of, units_of, utf8_of}
+use lib.Utf8.{low_scalar}
+use Rattle.std.specs.Char.{IsScalar}
+use Rattle.utf16_units.specs.Encoding.{IsUtf16, char_bytes, encode, text_of, units_of, utf8_of}
+use Rattle.utf16_units.specs.Unit.{unit_of}
 use Rattle.utf16_units.specs.Lanes.{HasLanes, IsNoSurrogate}
 use Rattle.utf16_units.proofs.AsciiLemmas.{ascii_bytes}
 use Rattle.utf16_units.proofs.PlainLemmas.{IsUtf16-plain_front}
-use Rattle.utf16_units.proofs.UnitsUpTo.{units_of-front, units_of-text}
+use Rattle.utf16_units.proofs.EncodingLemmas.{IsUtf16-encode, text_of-encode}
+use Rattle.utf16_units.proofs.IllFormedLemmas.{rest_from}
+use Rattle.utf16_units.proofs.UnitsUpTo.{length-units_of, units_of-at, units_of-front, units_of-text}
 
 -- ---- how many bytes before the first that is not ASCII
 
@@ -103,7 +108,7 @@ ascii_utf16 : (cs : List ℕ) → All (λ c. c < 0x80) cs → flat_map encode_ut
 ascii_utf16 [] low = refl
 ascii_utf16 (c ∷ cs) low = ap₂ (λ us more. us ++ more) (one_unit c (All-head (λ c. c < 0x80) c cs low)) (ascii_utf16 cs (All-tail (λ c. c < 0x80) c cs low))
 
-ascii_utf8 : (cs : List ℕ) → All (λ c. c < 0x80) cs → encode_utf8_all cs ≡ cs
+pub ascii_utf8 : (cs : List ℕ) → All (λ c. c < 0x80) cs → encode_utf8_all cs ≡ cs
 ascii_utf8 [] low = refl
 ascii_utf8 (c ∷ cs) low = ap₂ (λ us more. us ++ more) (one c (All-head (λ c. c < 0x80) c cs low)) (ascii_utf8 cs (All-tail (λ c. c < 0x80) c cs low))
 
@@ -111,6 +116,25 @@ pub ascii_bytes-utf8 : (big : Bool) (bytes : List ℕ) → IsUtf16 big bytes →
 ascii_bytes-utf8 big bytes text ascii =
     let low = (ascii_bytes big bytes text).0 ascii in
     units_of-text big bytes text ∙ ascii_utf16 (text_of big bytes) low ∙ sym (ascii_utf8 (text_of big bytes) low)
+
+-- the UTF-16 of ASCII has its numbers as units
+pub ascii_input : (big : Bool) (raw text : List ℕ) → All (λ c. c < 0x80) text → raw ≡ flat_map (char_bytes big) text → IsUtf16 big raw × (units_of big raw ≡ text)
+unfolding encode
+ascii_input big raw text low is =
+    let scalars = All-weaker (λ c. c < 0x80) IsScalar (λ c low. low_scalar c (omega (arith, low))) text low in
+    let utf16 = subst (IsUtf16 big) (sym is) (IsUtf16-encode big text scalars) in
+    (utf16, units_of-text big raw utf16 ∙ ap (λ b. flat_map encode_utf16 (text_of big b)) is ∙ ap (flat_map encode_utf16) (text_of-encode big text scalars) ∙ ascii_utf16 text low)
+
+-- and each of them is below 0x80
+pub ascii_unit : (big : Bool) (raw : List ℕ) (read : ℕ) → read % 2 ≡ 0 → read + 2 ≤ length raw → All (λ unit. unit < 0x80) (units_of big raw)
+    → unit_of big (slice_index (rest_from raw read) 0) (slice_index (rest_from raw read) 1) < 0x80
+ascii_unit big raw read even within ascii =
+    let i = read / 2 in
+    let at : read ≡ 2 * i = omega (arith, even) in
+    let first : slice_index (rest_from raw read) 0 ≡ slice_index raw (2 * i) = ap (λ b. slice_index b 0) (take_rest raw read) ∙ get_or-drop read raw 0 0 ∙ ap (slice_index raw) (omega (arith, at)) in
+    let second : slice_index (rest_from raw read) 1 ≡ slice_index raw (2 * i + 1) = ap (λ b. slice_index b 1) (take_rest raw read) ∙ get_or-drop read raw 1 0 ∙ ap (slice_index raw) (omega (arith, at)) in
+    let low = All-get_or (λ unit. unit < 0x80) (units_of big raw) i 0 (omega (arith, within, at, length-units_of big raw)) ascii in
+    subst (λ unit. unit < 0x80) (units_of-at big raw i (omega (arith, within, at)) ∙ ap₂ (unit_of big) (sym first) (sym second)) low
 
 module _ (big : Bool) (raw bytes : List ℕ) (many : 64 ≤ length raw) (fits : (k : ℕ) → Fits w8 (slice_index raw k)) (n : ℕ) (few : n ≤ 32)
     (long : length (units_of big (take 64 raw)) ≡ 32) (clamped : HasLanes 32 bytes (λ i. min (slice_index (units_of big (take 64 raw)) i) 0xFF))

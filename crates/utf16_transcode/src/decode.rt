@@ -5,9 +5,9 @@
 //! texts, and those that may not fit, take the steps of long texts. `ladder.rt` of `utf16_units`
 //! says which texts are short.
 
-ghost use Rattle.std.specs.Prelude.{◌≡◌, ◌≢◌, ◌+◌, ◌-◌, ◌*◌, ◌/◌, ◌<◌, ◌≤◌, ◌++◌, IfSome, None, length, slice_index, take};
+ghost use Rattle.std.specs.Prelude.{All, ◌≡◌, ◌≢◌, ◌+◌, ◌-◌, ◌*◌, ◌/◌, ◌<◌, ◌≤◌, ◌++◌, IfSome, None, length, slice_index, take};
 ghost use Rattle.std.specs.Char.{encode_utf8, len_utf8};
-ghost use Rattle.utf16_units.specs.Encoding.{char_bytes, IsUtf16, utf8_of};
+ghost use Rattle.utf16_units.specs.Encoding.{char_bytes, IsUtf16, units_of, utf8_of};
 ghost use Rattle.utf16_units.specs.IllFormed.{IsIllFormedAt};
 ghost use Rattle.utf16_units.specs.Unit.{unit_of};
 ghost use Rattle.utf16_transcode.specs.Wrote.{Puts, TranscodesToUtf8, Wrote};
@@ -114,7 +114,8 @@ impl<E: Utf16Order> Direction for ToUtf8<E> {
 // Writes the ASCII at the start of a short input of eight code units or more.
 #[inline(always)]
 fn write_ascii_start<E: Utf16Order>(raw: &[u8], to: &mut [u8]) -> Moved
-    ensures { Wrote (TranscodesToUtf8 E.BIG) raw.now to.new result.read result.written }
+    ensures wrote { Wrote (TranscodesToUtf8 E.BIG) raw.now to.new result.read result.written }
+    ensures short { length raw.now < 16 → (result.read ≡ 0) × (result.written ≡ 0) }
 {
     let nothing = Moved {
         read: 0,
@@ -181,7 +182,11 @@ fn write_last_ascii<E: Utf16Order>(raw: &[u8], to: &mut [u8], from: Moved, end: 
 #[inline(always)]
 fn write_few_units<E: Utf16Order>(raw: &[u8], to: &mut [u8], from: Moved) -> Moved
     requires { Wrote (TranscodesToUtf8 E.BIG) raw.now to.old from.read from.written }
-    ensures { Wrote (TranscodesToUtf8 E.BIG) raw.now to.new result.read result.written }
+    ensures wrote { Wrote (TranscodesToUtf8 E.BIG) raw.now to.new result.read result.written }
+    ensures ascii { All (λ unit. unit < 0x80) (units_of E.BIG raw.now)
+        → length raw.now < from.read + 16
+        → from.written + (length raw.now - from.read) / 2 * 3 ≤ length to.old
+        → length raw.now < result.read + 2 }
 {
     let Moved {
         mut read,
@@ -206,7 +211,8 @@ fn write_few_units<E: Utf16Order>(raw: &[u8], to: &mut [u8], from: Moved) -> Mov
 #[inline(always)]
 fn write_short_rest<E: Utf16Order>(raw: &[u8], to: &mut [u8], from: Moved) -> Moved
     requires { Wrote (TranscodesToUtf8 E.BIG) raw.now to.old from.read from.written }
-    ensures { Wrote (TranscodesToUtf8 E.BIG) raw.now to.new result.read result.written }
+    ensures wrote { Wrote (TranscodesToUtf8 E.BIG) raw.now to.new result.read result.written }
+    ensures more { from.read ≤ result.read }
 {
     let Strategy::Short = strategy_for(raw.len()) else {
         return from;
@@ -222,7 +228,8 @@ fn write_short_rest<E: Utf16Order>(raw: &[u8], to: &mut [u8], from: Moved) -> Mo
 fn write_eights_from<E: Utf16Order>(raw: &[u8], to: &mut [u8], from: Moved) -> Moved
     requires many { from.read + 8 ≤ length raw.now }
     requires wrote { Wrote (TranscodesToUtf8 E.BIG) raw.now to.old from.read from.written }
-    ensures { Wrote (TranscodesToUtf8 E.BIG) raw.now to.new result.read result.written }
+    ensures wrote { Wrote (TranscodesToUtf8 E.BIG) raw.now to.new result.read result.written }
+    ensures more { from.read ≤ result.read }
 {
     let rest = write_eights::<E>(&raw[from.read..], &mut to[from.written..]);
     Moved {
@@ -241,6 +248,8 @@ fn write_plain_unit<E: Utf16Order>(rest: &[u8], to: &mut [u8], at: usize) -> Opt
     ensures puts { IfSome result (λ end.
         Puts (TranscodesToUtf8 E.BIG) rest.now to.old to.new at 2 end) }
     ensures near { IfSome result (λ end. end ≤ at + 3) }
+    ensures none { result ≡ None
+        → unit_of E.BIG (slice_index rest.now 0) (slice_index rest.now 1) / 0x800 ≡ 0x1B }
     ensures unchanged { result ≡ None → to.new ≡ to.old }
 {
     let unit = E::read_unit([rest[0], rest[1]]);

@@ -1,7 +1,8 @@
 //! What differs between the two directions of transcoding.
 
-ghost use Rattle.std.specs.Prelude.{◌≡◌, ◌≤◌, ◌<◌, ◌+◌, ◌-◌, ◌++◌, ℕ, List, Option, [], IfErr, IfOk, IfSome, None, length, take, drop};
+ghost use Rattle.std.specs.Prelude.{◌≡◌, ◌≤◌, ◌<◌, ◌+◌, ◌-◌, ◌*◌, ◌++◌, ℕ, All, List, Option, [], IfErr, IfOk, IfSome, None, length, take, drop};
 ghost use Rattle.std.specs.Char.{IsScalar};
+ghost use Rattle.std.specs.List.{flat_map};
 ghost use Rattle.utf16_transcode.specs.Stops.{BeginsWith};
 ghost use Rattle.utf16_transcode.specs.Wrote.{Gives, Joins, Wrote};
 
@@ -59,9 +60,13 @@ pub trait Direction {
         ensures ill_formed { IfErr result (IsIllFormedAt rest.now) };
 
     /// Begins to write an input to the start of a buffer, as far as few tests suffice: mostly all
-    /// of a short input, and nothing of a long one.
+    /// of a short input, and nothing of a long one. At most seven characters of ASCII are written
+    /// if the buffer has four bytes for each.
     fn begin(input: &[u8], to: &mut [u8]) -> Moved
-        ensures { Wrote (Gives IsValid other) input.now to.new result.read result.written };
+        ensures wrote { Wrote (Gives IsValid other) input.now to.new result.read result.written }
+        ensures few_ascii { (text : List ℕ) → All (λ c. c < 0x80) text
+            → input.now ≡ flat_map from text → length text < 8
+            → 4 * length text ≤ length to.old → result.read ≡ length input.now };
 
     /// Writes a character in the second encoding at `at`, and returns where it ends, or `None` if
     /// it does not fit. The bytes after it may be overwritten.

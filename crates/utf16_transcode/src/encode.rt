@@ -5,7 +5,7 @@
 //! as the bytes before it. The frequent first bytes are tested by ranges, because a `match` of five
 //! cases compiles to a jump table.
 
-ghost use Rattle.std.specs.Prelude.{◌≡◌, ◌&&◌, ◌+◌, ◌-◌, ◌*◌, ◌<◌, ◌≤◌, ℕ, [], ◌∷◌, ◌++◌, IfErr, IfOk, IfSome, length, take};
+ghost use Rattle.std.specs.Prelude.{◌≡◌, ◌&&◌, ◌+◌, ◌-◌, ◌*◌, ◌<◌, ◌≤◌, ℕ, [], ◌∷◌, ◌++◌, IfErr, IfOk, IfSome, length, slice_index, take};
 ghost use Rattle.std.specs.Char.{encode_utf8};
 ghost use Rattle.std.specs.Int.{is_in_range};
 ghost use Rattle.std.specs.Str.{IsUtf8, chars};
@@ -151,7 +151,9 @@ fn last_boundary<E: Utf16Order>(utf16: &[u8], at: usize) -> usize
 #[inline(always)]
 fn write_ascii_chars<E: Utf16Order>(bytes: &[u8], to: &mut [u8], from: usize) -> Moved
     requires { Wrote (TranscodesToUtf16 E.BIG) bytes.now to.old from (2 * from) }
-    ensures { Wrote (TranscodesToUtf16 E.BIG) bytes.now to.new result.read result.written }
+    ensures wrote { Wrote (TranscodesToUtf16 E.BIG) bytes.now to.new result.read result.written }
+    ensures stop { result.read < length bytes.now → 2 * result.read + 2 ≤ length to.old
+        → 0x80 ≤ slice_index bytes.now result.read }
 {
     let most = bytes.len().min(to.len() / 2);
     let mut len = from;
@@ -171,7 +173,8 @@ fn write_ascii_chars<E: Utf16Order>(bytes: &[u8], to: &mut [u8], from: usize) ->
 #[inline(always)]
 fn write_short_rest<E: Utf16Order>(text: &[u8], to: &mut [u8], from: Moved) -> Moved
     requires { Wrote (TranscodesToUtf16 E.BIG) text.now to.old from.read from.written }
-    ensures { Wrote (TranscodesToUtf16 E.BIG) text.now to.new result.read result.written }
+    ensures wrote { Wrote (TranscodesToUtf16 E.BIG) text.now to.new result.read result.written }
+    ensures more { from.read ≤ result.read }
 {
     if text.len() >= SHORT_LEN {
         return from;

@@ -4,8 +4,8 @@ use Rattle.utf16_transcode.proofs.ToUtf8Lemmas.{utf8_joins}
 use Rattle.utf16_transcode.proofs.WroteLemmas.{Puts-put, Wrote-then, enough}
 use Rattle.utf16_transcode.proofs.decode.write_eights_from.Goals as goal
 
-pub returns : goal.returns
-returns g c =
+pub returns-clause-wrote : goal.returns-clause-wrote
+returns-clause-wrote g c =
     let to = c.args.to.now in
     let read = c.args.from.read in
     let at = c.args.from.written in

@@ -1,3 +1,4 @@
+use Rattle.std.proofs.Common.{arith}
 use Rattle.std.specs.Char.{encode_utf8}
 use Rattle.utf16_units.specs.Encoding.{char_bytes}
 use Rattle.utf16_transcode.proofs.WroteLemmas.{Wrote-then, first_gives}
@@ -9,11 +10,16 @@ pub loop-read-preserved : goal.loop-read-preserved
 loop-read-preserved g c =
     let big = g.E.Utf16Order.BIG in
     let first = c.in-Ok.ensures.char in
-    Wrote-then (utf16_joins big) _ _ _ _ _ _ _ c.loop-read.invariant
+    let now = c.loop-read.invariant in
     record {
-      within = first.within;
-      fits = c.write_char-written.ensures.within;
-      added = _;
-      gives = first_gives encode_utf8 (char_bytes big) _ _ _ first (TranscodesToUtf16 big) (char_gives big);
-      bytes = c.write_char-written.ensures.bytes;
+      wrote =
+          Wrote-then (utf16_joins big) _ _ _ _ _ _ _ now.wrote
+          record {
+            within = first.within;
+            fits = c.write_char-written.ensures.within;
+            added = _;
+            gives = first_gives encode_utf8 (char_bytes big) _ _ _ first (TranscodesToUtf16 big) (char_gives big);
+            bytes = c.write_char-written.ensures.bytes;
+          };
+      more = omega (arith, now.more);
     }

@@ -1,6 +1,5 @@
 use Rattle.std.proofs.Common.{◌≡◌, ◌++◌, ◌≤◌, ◌-◌, ℕ, List, length, take, drop, refl, sym, ap, ap₂, ◌∙◌, subst, take_all, arith}
 use Rattle.utf16_transcode.specs.Stops.{StopsLossyAs}
-use Rattle.utf16_transcode.specs.Stream.{FeedsAs, StopsFeedingAs, stream_pending}
 use Rattle.utf16_transcode.proofs.StreamSteps.{Feeds-done, Feeds-full, fed_text, few_left, filled, holds_tail, is_whole, join_drop, not_whole, rest_undecided, stops_full}
 use Rattle.utf16_transcode.proofs.stream.Stream.feed.Given.{Over}
 use Rattle.utf16_transcode.proofs.stream.Stream.feed.Goals as goal
