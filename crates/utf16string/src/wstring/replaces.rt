@@ -87,9 +87,7 @@ fn push_replaced<E: Utf16Order, P: Pattern<E> + Copy, A: Allocator>(
     ensures text { OnOk result (wstring_text made.new ≡ push_text (wstring_text made.old)
         (replaced_first count (P.part from) (wstr_text to.entry) (wstr_text text.entry))) }
     ensures nothing { replaced_first count (P.part from) (wstr_text to.entry) (wstr_text text.entry)
-        ≡ [] → IsOk result }
-    ensures stays { replaced_first count (P.part from) (wstr_text to.entry) (wstr_text text.entry)
-        ≡ [] → wstring_capacity made.new ≡ wstring_capacity made.old }
+        ≡ [] → IsOk result × (wstring_capacity made.new ≡ wstring_capacity made.old) }
 {
     if from.encoded_len() == 0 {
         push_between(made, text, to, count)
@@ -109,9 +107,7 @@ fn push_between<E: Utf16Order, A: Allocator>(
     ensures text { OnOk result (wstring_text made.new ≡ push_text (wstring_text made.old)
         (replaced_first count [] (wstr_text to.entry) (wstr_text text.entry))) }
     ensures nothing { replaced_first count [] (wstr_text to.entry) (wstr_text text.entry) ≡ []
-        → IsOk result }
-    ensures stays { replaced_first count [] (wstr_text to.entry) (wstr_text text.entry) ≡ []
-        → wstring_capacity made.new ≡ wstring_capacity made.old }
+        → IsOk result × (wstring_capacity made.new ≡ wstring_capacity made.old) }
 {
     let len = text.len();
     made.reserve_exact(len)?;
@@ -138,9 +134,7 @@ fn push_around<E: Utf16Order, P: Pattern<E> + Copy, A: Allocator>(
     ensures text { OnOk result (wstring_text made.new ≡ push_text (wstring_text made.old)
         (replaced_first count (P.part from) (wstr_text to.entry) (wstr_text text.entry))) }
     ensures nothing { replaced_first count (P.part from) (wstr_text to.entry) (wstr_text text.entry)
-        ≡ [] → IsOk result }
-    ensures stays { replaced_first count (P.part from) (wstr_text to.entry) (wstr_text text.entry)
-        ≡ [] → wstring_capacity made.new ≡ wstring_capacity made.old }
+        ≡ [] → IsOk result × (wstring_capacity made.new ≡ wstring_capacity made.old) }
 {
     let len = text.len();
     let mut rest = text;
@@ -164,9 +158,8 @@ fn push_part<E: Utf16Order, A: Allocator>(
 ) -> Result<(), AllocError>
     ensures text { OnOk result (wstring_text made.new
         ≡ push_text (wstring_text made.old) (wstr_text part.entry)) }
-    ensures nothing { wstr_text part.entry ≡ [] → IsOk result }
-    ensures stays { wstr_text part.entry ≡ []
-        → wstring_capacity made.new ≡ wstring_capacity made.old }
+    ensures nothing { wstr_text part.entry ≡ []
+        → IsOk result × (wstring_capacity made.new ≡ wstring_capacity made.old) }
 {
     if part.is_empty() {
         return Ok(());

@@ -8,7 +8,7 @@ use Rattle.utf16string.proofs.wstring.WString.replacen.Goals as goal
 
 pub returns-in_err-push_replaced-clause-nothing : goal.returns-in_err-push_replaced-clause-nothing
 returns-in_err-push_replaced-clause-nothing g c none =
-    absurd (false≢true (c.in_err-push_replaced.ensures.nothing (ap (replaced_first c.args.count (g.P.Pattern.part c.args.from) (wstr_text c.args.to)) c.as_wstr.ensures.text ∙ none)))
+    absurd (false≢true (c.in_err-push_replaced.ensures.nothing (ap (replaced_first c.args.count (g.P.Pattern.part c.args.from) (wstr_text c.args.to)) c.as_wstr.ensures.text ∙ none)).0)
 
 pub returns : goal.returns
 returns g c =
@@ -17,5 +17,5 @@ returns g c =
     record {
       text = text ∙ ap whole c.as_wstr.ensures.text;
       nothing = λ none. refl;
-      empty = λ none. c.in_ok-push_replaced.ensures.stays (sym text ∙ ap (text_of g.E.Utf16Order.BIG) none ∙ text_of-nil g.E.Utf16Order.BIG) ∙ c.new-made.ensures.capacity;
+      empty = λ none. (c.in_ok-push_replaced.ensures.nothing (sym text ∙ ap (text_of g.E.Utf16Order.BIG) none ∙ text_of-nil g.E.Utf16Order.BIG)).1 ∙ c.new-made.ensures.capacity;
     }

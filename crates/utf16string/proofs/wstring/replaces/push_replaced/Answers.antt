@@ -16,5 +16,4 @@ returns-then-encoded_len-eq0 g c =
     record {
       text = subst (λ part. OnOk c.push_between.result (wstring_text c.push_between.new.made ≡ wstring_text c.args.made.now ++ whole part)) (sym none) c.push_between.ensures.text;
       nothing = λ empty. c.push_between.ensures.nothing (ap whole (sym none) ∙ empty);
-      stays = λ empty. c.push_between.ensures.stays (ap whole (sym none) ∙ empty);
     }
