@@ -32,7 +32,7 @@ packages=(
     cmark-gfm=cmark-gfm mandoc=mandoc doxygen=doxygen chromium=chromium debhelper=dh
     dpkg-dev=dpkg-buildpackage lintian=lintian
     # What runs and compares.
-    valgrind=valgrind git=git libc-bin=iconv diffutils=cmp util-linux=flock util-linux=setpriv
+    valgrind=valgrind git=git libc-bin=iconv diffutils=cmp util-linux=setpriv
 )
 
 is_there() {
