@@ -1,5 +1,5 @@
 -- What a checker reports once more bytes come.
-use Rattle.std.proofs.Common.{◌≡◌, ℕ, ◌+◌, ◌-◌, ◌<◌, ◌≤◌, Bool, true, false, List, [], ◌∷◌, ◌++◌, Option, None, Some, length, drop, refl, sym, ap, ap₂, ◌∙◌, subst, arith, append-nil, append_assoc, length-append, length-drop, if◌then◌else◌}
+use Rattle.std.proofs.Common.{◌≡◌, ◌↔◌, ℕ, ◌+◌, ◌-◌, ◌<◌, ◌≤◌, Bool, true, false, List, [], ◌∷◌, ◌++◌, Option, None, Some, length, drop, refl, sym, ap, ap₂, ◌∙◌, arith, append-nil, append_assoc, length-append, length-drop, if◌then◌else◌}
 use Rattle.std.proofs.lemmas.List.{drop-drop, nil_from_length}
 use Rattle.std.specs.Prelude.{count_by}
 use Rattle.utf16_units.specs.Split.{Item, items_bytes, split_items, split_tail}
@@ -10,10 +10,10 @@ use Rattle.utf16_streams.specs.Bom.{big_in, has_bom, text_in}
 use Rattle.utf16_program.specs.Checker.{Follows, Takes, checker_lines, checker_report}
 use Rattle.utf16_program.specs.Order.{bom_len}
 use Rattle.utf16_program.specs.Report.{closing, count_line, ill_formed_lines, ill_formed_from, is_char, is_ill_formed, items_in, lines_from, report_from, tail_ill_formed, tail_in, tail_line}
-use Rattle.utf16_program.specs.Scans.{AppendsFront, Scans}
+use Rattle.utf16_program.specs.Scans.{Scans}
 use Rattle.utf16_program.specs.declared.checker.Checker.{Checker}
 use Rattle.utf16_program.specs.declared.scan.Found.{Found}
-use Rattle.utf16_program.proofs.ItemLemmas.{count-append, ill_formed_lines-append, some_line}
+use Rattle.utf16_program.proofs.ItemLemmas.{count-append, ill_formed_lines-append}
 
 -- the text of the bytes, and of all that begin so, begins at `from`, in this byte order
 module _ (order : Option Bool) (big : Bool) (from : ℕ) (bytes : List ℕ) (within : from ≤ length bytes)
@@ -39,7 +39,7 @@ module _ (order : Option Bool) (big : Bool) (from : ℕ) (bytes : List ℕ) (wit
         ∙ ap (ill_formed_lines big (offset + from)) begun_items
 
   -- with nothing after them
-  bytes_lines : (offset : ℕ) → lines_from order offset bytes ≡ ill_formed_lines big (offset + from) (split_items big text)
+  pub bytes_lines : (offset : ℕ) → lines_from order offset bytes ≡ ill_formed_lines big (offset + from) (split_items big text)
   bytes_lines offset =
       ap (lines_from order offset) (sym (append-nil bytes)) ∙ begun_lines [] offset
       ∙ ap (λ t. ill_formed_lines big (offset + from) (split_items big t)) (append-nil text)
@@ -132,13 +132,6 @@ module _ (order : Option Bool) (big : Bool) (from : ℕ) (bytes : List ℕ) (wit
       pending = rw is_now fed_pending;
     }
 
-  -- a prefix of the lines was appended
-  pub fed_front : (offset : ℕ) (old new : List ℕ) → AppendsFront old new (ill_formed_lines big (offset + from) (split_items big text)) → AppendsFront old new (lines_from order offset bytes)
-  fed_front offset old new wrote = subst (AppendsFront old new) (sym (bytes_lines offset)) wrote
-
-  pub some_lines : (offset : ℕ) → 0 < count_by is_ill_formed (split_items big text) → 0 < length (lines_from order offset bytes)
-  some_lines offset some = subst (λ l. 0 < length l) (sym (bytes_lines offset)) (some_line big (offset + from) (split_items big text) some)
-
 -- ---- pending bytes
 
 -- bytes that do not decide the byte order
@@ -190,6 +183,11 @@ pending_items : (order : Option Bool) (bytes : List ℕ) → tail_in order bytes
 pending_items (Some big) bytes same = undecided_items big bytes same
 pending_items None bytes same = behind_bom (big_in None bytes) (has_bom bytes) bytes same
 
+-- a tail that is not empty
+some_tail : (offset : ℕ) (tail : List ℕ) → ¬ (length tail ≡ 0) → (tail_line offset tail ≡ tail_line offset (0 ∷ [])) × (tail_ill_formed tail ≡ 1)
+some_tail offset [] some = absurd (some refl)
+some_tail offset (first ∷ after) some = (refl, refl)
+
 module _ (order : Option Bool) (bytes : List ℕ) (same : tail_in order bytes ≡ bytes) where
   -- the report on them
   pub pending_report : (offset chars unpaired : ℕ)
@@ -204,17 +202,25 @@ module _ (order : Option Bool) (bytes : List ℕ) (same : tail_in order bytes �
       ∙ ap₂ (λ c u. closing (offset + length bytes) c u (tail_in order bytes)) good bad
       ∙ ap₂ (λ at t. tail_line at t ++ count_line (offset + length bytes) chars (unpaired + tail_ill_formed t)) start same
 
+  -- there are none, or they are one ill-formed sequence more
+  pub no_pending : length bytes ≡ 0 → (offset chars unpaired : ℕ) → report_from order offset chars unpaired bytes ≡ count_line (offset + length bytes) chars unpaired
+  no_pending none offset chars unpaired =
+      pending_report offset chars unpaired
+      ∙ ap₂ (λ l n. l ++ count_line (offset + length bytes) chars n) (ap (tail_line offset) (nil_from_length bytes none)) (omega (arith, ap tail_ill_formed (nil_from_length bytes none)))
+
+  pub some_pending : ¬ (length bytes ≡ 0) → (offset chars unpaired : ℕ)
+      → report_from order offset chars unpaired bytes ≡ tail_line offset (0 ∷ []) ++ count_line (offset + length bytes) chars (unpaired + 1)
+  some_pending some offset chars unpaired =
+      let tail = some_tail offset bytes some in
+      pending_report offset chars unpaired ∙ ap₂ (λ l n. l ++ count_line (offset + length bytes) chars (unpaired + n)) tail.0 tail.1
+
   pub pending_ill_formed : (unpaired : ℕ) → ill_formed_from order unpaired bytes ≡ unpaired + tail_ill_formed bytes
   pending_ill_formed unpaired =
       let none = ap (count_by is_ill_formed) (pending_items order bytes same) in
       let tail = ap tail_ill_formed same in
       omega (arith, none, tail)
 
--- a tail that is not empty
-pub some_tail : (offset : ℕ) (tail : List ℕ) → ¬ (length tail ≡ 0) → (tail_line offset tail ≡ tail_line offset (0 ∷ [])) × (tail_ill_formed tail ≡ 1)
-some_tail offset [] some = absurd (some refl)
-some_tail offset (first ∷ after) some = (refl, refl)
-
-pub no_tail : (offset : ℕ) (tail : List ℕ) → length tail ≡ 0 → (tail_line offset tail ≡ []) × (tail_ill_formed tail ≡ 0)
-no_tail offset [] none = (refl, refl)
-no_tail offset (first ∷ after) none = absurd (omega arith)
+-- only a tail that is not empty is ill-formed
+pub tail_none : (tail : List ℕ) → (length tail ≡ 0) ↔ (tail_ill_formed tail ≡ 0)
+tail_none [] = (λ none. refl, λ none. refl)
+tail_none (first ∷ after) = (λ none. absurd (omega arith), λ none. absurd (omega arith))

@@ -99,12 +99,3 @@ lone-chars unit = lone-either (λ i. count_by is_char (i ∷ []) ≡ 0) unit ref
 
 pub lone-ill_formed : (unit : ℕ) → count_by is_ill_formed (lone unit ∷ []) ≡ 1
 lone-ill_formed unit = lone-either (λ i. count_by is_ill_formed (i ∷ []) ≡ 1) unit refl refl
-
--- ---- what is reported
-
--- an unpaired surrogate has a line
-pub some_line : (big : Bool) (offset : ℕ) (items : List Item) → 0 < count_by is_ill_formed items → 0 < length (ill_formed_lines big offset items)
-some_line big offset [] some = absurd (omega arith)
-some_line big offset (good c ∷ items) some = some_line big (offset + length (item_bytes big (good c))) items (omega (arith, count-cons is_ill_formed (good c) items))
-some_line big offset (lone_trail unit ∷ items) some = omega arith
-some_line big offset (lone_lead unit ∷ items) some = omega arith

@@ -1,32 +1,62 @@
--- A line that is written to a text of its own, and then appended.
-use Rattle.std.proofs.Common.{◌≡◌, ℕ, List, [], ◌∷◌, ◌++◌, Option, None, Some, IfSome, Result, Ok, Err, IfOk, IsOk, length, take, refl, sym, ap, ◌∙◌, append-nil, append_assoc, take_at, true≢false}
-use Rattle.std.specs.Fmt.{WritesText}
-use Rattle.std.specs.Fmt.InlineText.{AppendsIfIntact, IsIntact, inline_text}
-use Rattle.std.specs.List.{FoldsTo, concat}
-use Rattle.utf16_program.specs.Scans.{AppendsFront}
-use Rattle.std.specs.declared.fmt.InlineText.{InlineText}
+-- Text that is appended to bytes, one part after another.
+use Rattle.std.proofs.Common.{◌≡◌, ℕ, zero, suc, ◌+◌, ◌-◌, ◌/◌, ◌%◌, ◌^◌, ◌<◌, ◌≤◌, true, cond, List, ◌∷◌, ◌++◌, Result, Ok, Err, length, take, drop, set, refl, ap, ap₂, ◌∙◌, arith, append_assoc, eq-eqb, length-append, sym, take_at, true≢false, vec_capacity, vec_len}
+use Rattle.std.proofs.lemmas.Bool.{ne_eqb}
+use Rattle.std.proofs.lemmas.Grind.{drop-set_at}
+use Rattle.std.proofs.lemmas.List.{take-take}
+use Rattle.std.specs.Fmt.{digit_glyph, digits_onto}
+use Rattle.std.specs.Prelude.{IsErr, Vec}
+use Rattle.utf16_program.specs.Lines.{Puts}
 
-module _ {n : ℕ} where
-  after_calls : (old : InlineText n) (parts : List (List ℕ)) (new : InlineText n) → FoldsTo AppendsIfIntact old parts new → IsIntact old
-      → inline_text new ≡ inline_text old ++ concat parts
-  after_calls old [] new same intact = ap inline_text (sym same) ∙ sym (append-nil (inline_text old))
-  after_calls old (part ∷ parts) new (mid, took, rest) intact =
-      let first = took intact in
-      after_calls mid parts new rest first.0 ∙ ap (λ t. t ++ concat parts) first.1 ∙ append_assoc (inline_text old) part (concat parts)
+-- bytes that stay in front of more stay in front of that
+pub still_kept : (old mid new front : List ℕ) → mid ≡ old ++ front → take (length mid) new ≡ mid → take (length old) new ≡ old
+still_kept old mid new front so_far kept =
+    sym (take-take (length old) (length mid) new (omega (arith, ap length so_far, length-append old front)))
+    ∙ ap (take (length old)) (kept ∙ so_far) ∙ take_at old front (length old) refl
 
-  -- what was written to an empty text is the text
-  pub written : (old new : InlineText n) (text : Option (List ℕ)) → IsIntact old → inline_text old ≡ [] → WritesText AppendsIfIntact old text new
-      → IfSome text (λ bytes. inline_text new ≡ bytes)
-  written old new None intact empty wrote = tt
-  written old new (Some bytes) intact empty wrote =
-      after_calls old wrote.parts new wrote.calls intact ∙ ap (λ t. t ++ concat wrote.parts) empty ∙ wrote.whole
+module _ {A E : Type 0} (old mid new : Vec ℕ A) where
+  -- `front` was appended, and then `text`
+  pub Puts-then : (front text : List ℕ) (result : Result (Unit {0}) E) → mid.items ≡ old.items ++ front → vec_capacity old ≤ vec_capacity mid → Puts mid new result text
+      → Puts old new result (front ++ text)
+  Puts-then front text (Ok done) so_far grows put = record {
+    appended = put.appended ∙ ap (λ b. b ++ text) so_far ∙ append_assoc old.items front text;
+    kept = still_kept old.items mid.items new.items front so_far put.kept;
+    full = tt;
+    grows = omega (arith, grows, put.grows);
+  }
+  Puts-then front text (Err error) so_far grows put = record {
+    appended = tt;
+    kept = still_kept old.items mid.items new.items front so_far put.kept;
+    full = omega (arith, grows, put.full, ap length so_far, length-append old.items front, length-append front text, old.ok.0, mid.ok.0);
+    grows = omega (arith, grows, put.grows);
+  }
 
-  -- the line was written, and then appended
-  pub appended : {E : Type 0} (line : Result (InlineText n) E) (old new text : List ℕ) → IsOk line → IfOk line (λ l. new ≡ old ++ inline_text l)
-      → IfOk line (λ l. inline_text l ≡ text) → new ≡ old ++ text
-  appended (Ok line) old new text ok wrote is = wrote ∙ ap (λ t. old ++ t) is
-  appended (Err error) old new text ok wrote is = absurd (true≢false (sym ok))
+-- the capacity did not suffice for the text, of which `front` was appended
+pub Puts-err : {A E : Type 0} (old new : Vec ℕ A) (front text : List ℕ) (result : Result (Unit {0}) E) → IsErr result → new.items ≡ old.items ++ front → vec_capacity old ≤ vec_capacity new
+    → vec_capacity old < vec_len old + length text → Puts old new result text
+Puts-err old new front text (Ok done) is so_far grows full = absurd (true≢false (sym is))
+Puts-err old new front text (Err error) is so_far grows full =
+    record { appended = tt; kept = ap (take (length old.items)) so_far ∙ take_at old.items front (length old.items) refl; full = full; grows = grows }
 
--- of some lines the first were appended
-pub appended_front : (old new front back all : List ℕ) → new ≡ old ++ front → all ≡ front ++ back → AppendsFront old new all
-appended_front old new front back all wrote is = (length front, wrote ∙ ap (λ l. old ++ l) (sym (ap (take (length front)) is ∙ take_at front back (length front) refl)))
+-- ---- digits in base 16
+
+-- the digits of a number below 16, and of a greater one
+pub digits_last : (k n : ℕ) (after : List ℕ) → 0 < k → n / 16 ≡ 0 → digits_onto k 16 true n after ≡ digit_glyph true (n % 16) ∷ after
+digits_last zero n after some none = absurd (omega arith)
+digits_last (suc k) n after some none = ap (λ t. cond t (digit_glyph true (n % 16) ∷ after) (digits_onto k 16 true (n / 16) (digit_glyph true (n % 16) ∷ after))) (eq-eqb (n / 16) 0 none)
+
+pub digits_step : (k n : ℕ) (after : List ℕ) → (n / 16 ≡ 0 → ⊥) → digits_onto (suc k) 16 true n after ≡ digits_onto k 16 true (n / 16) (digit_glyph true (n % 16) ∷ after)
+digits_step k n after more = ap (λ t. cond t (digit_glyph true (n % 16) ∷ after) (digits_onto k 16 true (n / 16) (digit_glyph true (n % 16) ∷ after))) (ne_eqb (n / 16) 0 more)
+
+-- a digit that is written before others
+pub digit_before : (buffer : List ℕ) (at digit glyph : ℕ) → 0 < at → at ≤ length buffer → digit ≡ glyph → drop (at - 1) (set buffer (at - 1) digit) ≡ glyph ∷ drop at buffer
+digit_before buffer at digit glyph some within is =
+    let next : at - 1 + 1 ≡ at = omega (arith, some) in
+    drop-set_at buffer (at - 1) (at - 1) digit refl (omega (arith, some, within)) ∙ ap₂ (λ d n. d ∷ drop n buffer) is next
+
+-- a number with a digit more before its last
+pub fewer : (k n : ℕ) → n < 16 ^ k → (n / 16 ≡ 0 → ⊥) → (2 ≤ k) × (n / 16 < 16 ^ (k - 1))
+fewer zero n within more = absurd (more (omega arith))
+fewer (suc zero) n within more = absurd (more (omega arith))
+fewer (suc (suc k)) n within more =
+    let left : suc (suc k) - 1 ≡ suc k = omega arith in
+    (omega arith, rw left (omega arith))

@@ -1,5 +1,5 @@
 -- What a scan has found so far, and what the next step adds.
-use Rattle.std.proofs.Common.{◌≡◌, ℕ, ◌+◌, ◌<◌, ◌≤◌, Bool, List, [], ◌∷◌, ◌++◌, Option, None, Some, length, map, take, drop, refl, sym, ap, ◌∙◌, subst, ⊎_elim, arith, take_all, take-append-drop, append-nil, append_assoc, length-drop}
+use Rattle.std.proofs.Common.{◌≡◌, ℕ, ◌+◌, ◌<◌, ◌≤◌, Bool, List, [], ◌∷◌, ◌++◌, Option, None, Some, length, map, take, drop, refl, sym, ap, ◌∙◌, subst, ⊎_elim, arith, take_all, take-append-drop, append-nil, append_assoc, length-append, length-drop}
 use Rattle.std.proofs.lemmas.Bool.{cases_lt}
 use Rattle.std.proofs.lemmas.List.{append_cancel_left, drop-drop, drop_all, length-take-le}
 use Rattle.std.specs.Prelude.{Err, MatchOption, Ok, OnErr, Result, count_by}
@@ -13,10 +13,9 @@ use Rattle.utf16_units.proofs.SplitIllFormed.{split_items-fault, split_tail-faul
 use Rattle.utf16_units.proofs.SplitJoin.{split_items-text, split_tail-text}
 use Rattle.utf16_transcode.proofs.DecodesLemmas.{split_tail-again, undecided_items}
 use Rattle.utf16_program.specs.Report.{ill_formed_line, ill_formed_lines, is_char, is_ill_formed}
-use Rattle.utf16_program.specs.Scans.{AppendsFront, BeginsLone, IsFront, Scans, lone}
+use Rattle.utf16_program.specs.Scans.{BeginsLone, IsFront, Scans, lone}
 use Rattle.utf16_program.specs.declared.scan.Found.{Found}
 use Rattle.utf16_program.specs.declared.scan.Front.{Front}
-use Rattle.utf16_program.proofs.LineLemmas.{appended_front}
 use Rattle.utf16_program.proofs.ItemLemmas.{chars-good, count-append, ill_formed_lines-append, ill_formed_lines-good, ill_formed-good, few_chars, length-good, length-items_bytes, lone-bytes, lone-chars, lone-ill_formed}
 
 -- the first `taken` bytes are the items so far, whose lines were appended
@@ -178,11 +177,6 @@ module _ (big : Bool) (offset : ℕ) (bytes old mid : List ℕ) (taken chars unp
   no_lines : (text : List ℕ) → mid ≡ mid ++ ill_formed_lines big (offset + taken) (map good text)
   no_lines text = sym (append-nil mid) ∙ ap (λ l. mid ++ l) (sym (ill_formed_lines-good big (offset + taken) text))
 
-  -- the lines so far are a prefix of all
-  pub front_lines : (new : List ℕ) → new ≡ mid → AppendsFront old new (ill_formed_lines big offset (split_items big bytes))
-  front_lines new same = appended_front old new (ill_formed_lines big offset so_far.items) _ _ (same ∙ so_far.text)
-      (ap (ill_formed_lines big offset) so_far.first ∙ ill_formed_lines-append big offset so_far.items (split_items big rest))
-
   module _ (front : Front) (is : IsFront big rest front) where
     abbrev text : List ℕ
     text = text_of big (take front.len rest)
@@ -242,9 +236,14 @@ module _ (big : Bool) (offset : ℕ) (bytes old mid : List ℕ) (taken chars unp
         (wrote ∙ ap (λ l. mid ++ l) (sym (append-nil (ill_formed_line (offset + taken) (lone unit))))) (taken + 2) chars (unpaired + 1)
         refl (omega arith) refl
 
-    -- there is an ill-formed sequence
-    pub has_fault : 0 < count_by is_ill_formed (split_items big bytes)
-    has_fault =
-        let all = ap (count_by is_ill_formed) (so_far.first ∙ ap (λ i. so_far.items ++ i) begins.items) in
-        let after = split_items big (drop 2 rest) in
-        omega (arith, all, count-append is_ill_formed so_far.items ((lone unit ∷ []) ++ after), count-append is_ill_formed (lone unit ∷ []) after, lone-ill_formed unit)
+    -- its line is one of the lines
+    pub lone_fits : length mid + length (ill_formed_line (offset + taken) (lone unit)) ≤ length old + length (ill_formed_lines big offset (split_items big bytes))
+    lone_fits =
+        let after = lone unit ∷ split_items big (drop 2 rest) in
+        let so_far_lines = ill_formed_lines big offset so_far.items in
+        let more = ill_formed_lines big ((offset + taken) + length (item_bytes big (lone unit))) (split_items big (drop 2 rest)) in
+        let all = ap (λ i. length (ill_formed_lines big offset i)) (so_far.first ∙ ap (λ i. so_far.items ++ i) begins.items) in
+        let joined = ap length (ill_formed_lines-append big offset so_far.items after) in
+        let at = ap (λ n. length (ill_formed_lines big (offset + n) after)) (sym so_far.long) in
+        let long = length-append so_far_lines (ill_formed_lines big (offset + length (items_bytes big so_far.items)) after) in
+        omega (arith, all, joined, long, at, length-append (ill_formed_line (offset + taken) (lone unit)) more, ap length so_far.text, length-append old so_far_lines)

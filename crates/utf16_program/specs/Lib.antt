@@ -2,6 +2,7 @@ pub mod Arguments
 pub mod Checker
 pub mod Checks
 pub mod Job
+pub mod Lines
 pub mod Message
 pub mod Order
 pub mod Outcome

@@ -17,10 +17,6 @@ pub record Scans (big : Bool) (offset : ℕ) (bytes old new : List ℕ) (found :
   pub unpaired : found.unpaired ≡ count_by is_ill_formed (split_items big bytes)
   pub few : found.chars + found.unpaired ≤ found.taken
 
--- the text `old` became `new`: a prefix of the lines was appended, possibly none or all of them
-abbrev pub AppendsFront : List ℕ → List ℕ → List ℕ → Type 0
-AppendsFront old new lines = (n : ℕ) × (new ≡ old ++ take n lines)
-
 -- the item of an unpaired surrogate
 abbrev pub lone : ℕ → Item
 lone unit = if is_high_surrogate unit then lone_lead unit else lone_trail unit

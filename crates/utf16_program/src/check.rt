@@ -40,7 +40,7 @@ pub fn check<R: Read, W: Write, A: Allocator>(
     ensures writes { Counts writer.old writer.new (writes_failed result) }
 {
     let mut checker = Checker::new(big_endian);
-    let mut lines = String::new(alloc);
+    let mut lines = Vec::new(alloc);
     let mut block = [0; BLOCK_LEN];
     let mut pending = 0;
     loop {
@@ -91,7 +91,7 @@ fn read_behind<R: Read>(
 fn check_block<W: Write, A: Allocator>(
     checker: &mut Checker,
     block: &[u8],
-    lines: &mut String<A>,
+    lines: &mut Vec<u8, A>,
     writer: &mut Watched<W>,
 ) -> Result<usize, Outcome>
     requires fits { checker_offset checker.old + length block.now < 2 ^ 64 }
@@ -108,7 +108,7 @@ fn check_block<W: Write, A: Allocator>(
     let Ok(taken) = checker.feed(block, lines) else {
         return Err(Outcome::Memory);
     };
-    let Ok(()) = writer.write_all(lines.as_bytes()) else {
+    let Ok(()) = writer.write_all(lines) else {
         return Err(Outcome::Write);
     };
     Ok(taken)
@@ -118,7 +118,7 @@ fn check_block<W: Write, A: Allocator>(
 fn end<W: Write, A: Allocator>(
     checker: Checker,
     pending: &[u8],
-    lines: String<A>,
+    lines: Vec<u8, A>,
     writer: &mut Watched<W>,
 ) -> Outcome
     requires pending { IsPending checker pending.now }
@@ -133,7 +133,7 @@ fn end<W: Write, A: Allocator>(
     let Ok(well_formed) = checker.finish(pending, &mut lines) else {
         return Outcome::Memory;
     };
-    let Ok(()) = writer.write_all(lines.as_bytes()) else {
+    let Ok(()) = writer.write_all(&lines) else {
         return Outcome::Write;
     };
     let Ok(()) = writer.flush() else {

@@ -1,34 +1,129 @@
-//! A line of a report, which is appended whole or not at all.
+//! The lines of a report, which are appended to bytes.
 
-ghost use Rattle.std.specs.Prelude.{◌≡◌, ◌++◌, IfOk, IsOk, OnErr, OnOk, string_bytes};
-ghost use Rattle.std.specs.Fmt.InlineText.{inline_text};
+ghost use Rattle.std.specs.Prelude.{◌≡◌, ◌<◌, [], ◌∷◌, flat_map, true};
+ghost use Rattle.std.specs.Fmt.{digit_glyph, digits};
+ghost use Rattle.utf16_program.specs.Lines.{Puts};
+ghost use Rattle.utf16_program.specs.Report.{count_line, ill_formed_line, tail_line};
+ghost use Rattle.utf16_program.specs.Scans.{lone};
 
+use itoa::Buffer;
 use std::alloc::{AllocError, Allocator};
-use std::fmt::{self, InlineText};
+use utf16_units::is_leading_surrogate;
 
-// The length in bytes of the longest line, which has three numbers of 20 digits.
-const LINE_LEN: usize = 96;
-
-/// A line before it is appended.
-pub type Line = InlineText<LINE_LEN>;
-
-/// Appends a line.
+/// Appends the line of an unpaired surrogate at an offset.
 ///
 /// # Errors
 ///
-/// If allocation fails, or if the line was not written, which does not happen, since a `Line` has
-/// space for it. In that case nothing is appended.
-pub fn append<A: Allocator>(
-    line: Result<Line, fmt::Error>,
-    lines: &mut String<A>,
+/// If allocation fails. In that case the first bytes of the line may be appended.
+pub fn append_unpaired<A: Allocator>(
+    offset: u64,
+    unit: u16,
+    lines: &mut Vec<u8, A>,
 ) -> Result<(), AllocError>
-    ensures written { OnOk result (IsOk line) }
-    ensures appended { OnOk result (IfOk line (λ line.
-        string_bytes lines.new ≡ string_bytes lines.old ++ inline_text line)) }
-    ensures err { OnErr result (string_bytes lines.new ≡ string_bytes lines.old) }
+    ensures { Puts lines.old lines.new result (ill_formed_line offset (lone unit)) }
 {
-    match line {
-        Ok(line) => lines.push_str(line.as_str()),
-        Err(_) => Err(AllocError),
+    let kind: &'static [u8] = if is_leading_surrogate(unit) {
+        b"): unpaired leading surrogate "
+    } else {
+        b"): unpaired trailing surrogate "
+    };
+    append(
+        &[
+            b"0x",
+            hex(offset, &mut [0; 16]),
+            b" (",
+            Buffer::new().format(offset).as_bytes(),
+            kind,
+            hex(unit as u64, &mut [0; 16]),
+            b"\n",
+        ],
+        lines,
+    )
+}
+
+/// Appends the line of an incomplete character at an offset.
+///
+/// # Errors
+///
+/// If allocation fails. In that case the first bytes of the line may be appended.
+pub fn append_incomplete<A: Allocator>(
+    offset: u64,
+    lines: &mut Vec<u8, A>,
+) -> Result<(), AllocError>
+    ensures { Puts lines.old lines.new result (tail_line offset (0 ∷ [])) }
+{
+    append(
+        &[
+            b"0x",
+            hex(offset, &mut [0; 16]),
+            b" (",
+            Buffer::new().format(offset).as_bytes(),
+            b"): incomplete character\n",
+        ],
+        lines,
+    )
+}
+
+/// Appends the line that counts.
+///
+/// # Errors
+///
+/// If allocation fails. In that case the first bytes of the line may be appended.
+pub fn append_counts<A: Allocator>(
+    bytes: u64,
+    chars: u64,
+    ill_formed: u64,
+    lines: &mut Vec<u8, A>,
+) -> Result<(), AllocError>
+    ensures { Puts lines.old lines.new result (count_line bytes chars ill_formed) }
+{
+    append(
+        &[
+            b"bytes: ",
+            Buffer::new().format(bytes).as_bytes(),
+            b", characters: ",
+            Buffer::new().format(chars).as_bytes(),
+            b", ill-formed: ",
+            Buffer::new().format(ill_formed).as_bytes(),
+            b"\n",
+        ],
+        lines,
+    )
+}
+
+// Appends the parts of a line.
+fn append<A: Allocator>(parts: &[&[u8]], lines: &mut Vec<u8, A>) -> Result<(), AllocError>
+    ensures { Puts lines.old lines.new result (flat_map (λ p. p.now) parts.now) }
+{
+    for part in parts {
+        lines.extend_from_slice(part)?;
+    }
+    Ok(())
+}
+
+// Writes the digits of a number in base 16 to the end of a buffer, and returns them.
+fn hex(number: u64, buffer: &mut [u8; 16]) -> &[u8]
+    ensures { result.now ≡ digits 16 true number }
+{
+    let mut left = number;
+    let mut at = 16;
+    loop {
+        at -= 1;
+        buffer[at] = hex_digit(left % 16);
+        left /= 16;
+        if left == 0 {
+            return &buffer[at..];
+        }
+    }
+}
+
+fn hex_digit(digit: u64) -> u8
+    requires { digit < 16 }
+    ensures { result ≡ digit_glyph true digit }
+{
+    if digit < 10 {
+        b'0' + digit as u8
+    } else {
+        b'A' - 10 + digit as u8
     }
 }

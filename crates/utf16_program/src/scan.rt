@@ -1,16 +1,14 @@
 //! The ill-formed sequences of bytes in a given byte order.
 
-ghost use Rattle.std.specs.Prelude.{◌≡◌, ◌+◌, ◌<◌, ◌^◌, IfOk, OnErr, count_by, length, string_bytes};
-ghost use Rattle.std.specs.Fmt.InlineText.{inline_text};
+ghost use Rattle.std.specs.Prelude.{◌≡◌, ◌+◌, ◌<◌, ◌^◌, IfOk, OnErr, length, vec_capacity, vec_len};
 ghost use Rattle.utf16_units.specs.Split.{split_items};
-ghost use Rattle.utf16_program.specs.Report.{ill_formed_line, ill_formed_lines, is_ill_formed};
-ghost use Rattle.utf16_program.specs.Scans.{AppendsFront, IsFront, Scans, lone};
+ghost use Rattle.utf16_program.specs.Report.{ill_formed_lines};
+ghost use Rattle.utf16_program.specs.Scans.{IsFront, Scans};
 
-use crate::lines::{Line, append};
+use crate::lines::append_unpaired;
 use std::alloc::{AllocError, Allocator};
-use std::fmt::{self, Write};
 use utf16_units::text::count_chars;
-use utf16_units::{BE, LE, Utf16Order, is_leading_surrogate, validate_raw_utf16};
+use utf16_units::{BE, LE, Utf16Order, validate_raw_utf16};
 
 /// What a scan found.
 #[derive(Clone, Copy)]
@@ -28,8 +26,7 @@ pub struct Found {
 ///
 /// # Errors
 ///
-/// If allocation fails. In that case a prefix of the lines is appended. A scan that appends no line
-/// does not fail.
+/// If the capacity does not suffice and allocation fails. In that case the lines are unchanged.
 ///
 /// # Precondition
 ///
@@ -42,14 +39,13 @@ pub fn scan<A: Allocator>(
     big_endian: bool,
     offset: u64,
     bytes: &[u8],
-    lines: &mut String<A>,
+    lines: &mut Vec<u8, A>,
 ) -> Result<Found, AllocError>
     requires { offset + length bytes.now < 2 ^ 64 }
-    ensures found { IfOk result (Scans big_endian offset bytes.now (string_bytes lines.old)
-        (string_bytes lines.new)) }
-    ensures nothing { OnErr result (0 < count_by is_ill_formed (split_items big_endian bytes.now)) }
-    ensures err { OnErr result (AppendsFront (string_bytes lines.old) (string_bytes lines.new)
-        (ill_formed_lines big_endian offset (split_items big_endian bytes.now))) }
+    ensures found { IfOk result (Scans big_endian offset bytes.now lines.old.items lines.new.items) }
+    ensures full { OnErr result (vec_capacity lines.old < vec_len lines.old
+        + length (ill_formed_lines big_endian offset (split_items big_endian bytes.now))) }
+    ensures err { OnErr result (lines.new.items ≡ lines.old.items) }
 {
     if big_endian {
         scan_in::<BE, A>(offset, bytes, lines)
@@ -62,15 +58,15 @@ pub fn scan<A: Allocator>(
 fn scan_in<E: Utf16Order, A: Allocator>(
     offset: u64,
     bytes: &[u8],
-    lines: &mut String<A>,
+    lines: &mut Vec<u8, A>,
 ) -> Result<Found, AllocError>
     requires { offset + length bytes.now < 2 ^ 64 }
-    ensures found { IfOk result (Scans E.BIG offset bytes.now (string_bytes lines.old)
-        (string_bytes lines.new)) }
-    ensures nothing { OnErr result (0 < count_by is_ill_formed (split_items E.BIG bytes.now)) }
-    ensures err { OnErr result (AppendsFront (string_bytes lines.old) (string_bytes lines.new)
-        (ill_formed_lines E.BIG offset (split_items E.BIG bytes.now))) }
+    ensures found { IfOk result (Scans E.BIG offset bytes.now lines.old.items lines.new.items) }
+    ensures full { OnErr result (vec_capacity lines.old < vec_len lines.old
+        + length (ill_formed_lines E.BIG offset (split_items E.BIG bytes.now))) }
+    ensures err { OnErr result (lines.new.items ≡ lines.old.items) }
 {
+    let before = lines.len();
     let mut found = Found {
         taken: 0,
         chars: 0,
@@ -83,7 +79,10 @@ fn scan_in<E: Utf16Order, A: Allocator>(
         let Some(unit) = front.unpaired else {
             return Ok(found);
         };
-        append(unpaired_line(offset + found.taken as u64, unit), lines)?;
+        if let Err(error) = append_unpaired(offset + found.taken as u64, unit, lines) {
+            lines.truncate(before);
+            return Err(error);
+        }
         found.taken += 2;
         found.unpaired += 1;
     }
@@ -119,23 +118,4 @@ fn front_of<E: Utf16Order>(bytes: &[u8]) -> Front
         chars: count_chars::<E>(front),
         unpaired,
     }
-}
-
-// Returns the line of an unpaired surrogate at an offset.
-fn unpaired_line(offset: u64, unit: u16) -> Result<Line, fmt::Error>
-    ensures { IfOk result (λ line. inline_text line ≡ ill_formed_line offset (lone unit)) }
-{
-    let mut line = Line::new();
-    if is_leading_surrogate(unit) {
-        writeln!(
-            line,
-            "0x{offset:X} ({offset}): unpaired leading surrogate {unit:X}"
-        )?;
-    } else {
-        writeln!(
-            line,
-            "0x{offset:X} ({offset}): unpaired trailing surrogate {unit:X}"
-        )?;
-    }
-    Ok(line)
 }

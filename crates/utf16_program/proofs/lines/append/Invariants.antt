@@ -1,0 +1,8 @@
+use Rattle.std.proofs.Common.{◌≡◌, ◌≤◌, ◌++◌, take, vec_capacity}
+use Rattle.std.specs.List.{flat_map}
+use Rattle.utf16_program.proofs.lines.append.Given as goal
+
+abbrev pub invariant-loop-part : goal.invariant-loop-part
+invariant-loop-part g l =
+    (l.lines.items ≡ l.fn.lines.items ++ flat_map (λ p. p.now) (take l.part-index l.parts))
+    × (vec_capacity l.fn.lines ≤ vec_capacity l.lines)

@@ -1,0 +1,5 @@
+use Rattle.std.proofs.Common.{append_assoc}
+use Rattle.utf16_program.proofs.lines.append_counts.Goals as goal
+
+pub returns : goal.returns
+returns g c = simp append_assoc (rw (c.as_bytes.ensures.value, c.format.ensures.text, c.as_bytes-2.ensures.value, c.format-2.ensures.text, c.as_bytes-3.ensures.value, c.format-3.ensures.text) at c.append.ensures)
