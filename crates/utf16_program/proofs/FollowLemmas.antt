@@ -65,9 +65,6 @@ module _ (order : Option Bool) (big : Bool) (from : ℕ) (bytes : List ℕ) (wit
       more_count : (p : Item → Bool) → count_by p (items_in order (bytes ++ back)) ≡ count_by p (split_items big text) + count_by p (split_items big (kept ++ back))
       more_count p = ap (count_by p) (begun_items back ∙ more_items) ∙ count-append p (split_items big text) (split_items big (kept ++ back))
 
-      no_bom : later + bom_len (Some big) (kept ++ back) ≡ later
-      no_bom = omega arith
-
       pub more_lines : lines_from order offset (bytes ++ back) ≡ lines_from order offset bytes ++ lines_from (Some big) later (kept ++ back)
       more_lines =
           begun_lines back offset ∙ ap (ill_formed_lines big (offset + from)) more_items

@@ -3,6 +3,7 @@ use Rattle.std.proofs.Common.{◌≡◌, ℕ, zero, suc, ◌+◌, ◌-◌, ◌/�
 use Rattle.std.proofs.lemmas.Bool.{ne_eqb}
 use Rattle.std.proofs.lemmas.Grind.{drop-set_at}
 use Rattle.std.proofs.lemmas.List.{take-take}
+use Rattle.std.proofs.lemmas.Result.{on_err_weaker, on_ok_weaker}
 use Rattle.std.specs.Fmt.{digit_glyph, digits_onto}
 use Rattle.std.specs.Prelude.{IsErr, Vec}
 use Rattle.utf16_program.specs.Lines.{Puts}
@@ -13,22 +14,16 @@ still_kept old mid new front so_far kept =
     sym (take-take (length old) (length mid) new (omega (arith, ap length so_far, length-append old front)))
     ∙ ap (take (length old)) (kept ∙ so_far) ∙ take_at old front (length old) refl
 
-module _ {A E : Type 0} (old mid new : Vec ℕ A) where
-  -- `front` was appended, and then `text`
-  pub Puts-then : (front text : List ℕ) (result : Result (Unit {0}) E) → mid.items ≡ old.items ++ front → vec_capacity old ≤ vec_capacity mid → Puts mid new result text
-      → Puts old new result (front ++ text)
-  Puts-then front text (Ok done) so_far grows put = record {
-    appended = put.appended ∙ ap (λ b. b ++ text) so_far ∙ append_assoc old.items front text;
-    kept = still_kept old.items mid.items new.items front so_far put.kept;
-    full = tt;
-    grows = omega (arith, grows, put.grows);
-  }
-  Puts-then front text (Err error) so_far grows put = record {
-    appended = tt;
-    kept = still_kept old.items mid.items new.items front so_far put.kept;
-    full = omega (arith, grows, put.full, ap length so_far, length-append old.items front, length-append front text, old.ok.0, mid.ok.0);
-    grows = omega (arith, grows, put.grows);
-  }
+-- `front` was appended, and then `text`
+pub Puts-then : {A E : Type 0} (old mid new : Vec ℕ A) (front text : List ℕ) (result : Result (Unit {0}) E) → mid.items ≡ old.items ++ front → vec_capacity old ≤ vec_capacity mid
+    → Puts mid new result text → Puts old new result (front ++ text)
+Puts-then old mid new front text result so_far grows put = record {
+  appended = on_ok_weaker result (λ wrote. wrote ∙ ap (λ b. b ++ text) so_far ∙ append_assoc old.items front text) put.appended;
+  kept = still_kept old.items mid.items new.items front so_far put.kept;
+  full = on_err_weaker result
+      (λ full. omega (arith, grows, full, ap length so_far, length-append old.items front, length-append front text, old.ok.0, mid.ok.0)) put.full;
+  grows = omega (arith, grows, put.grows);
+}
 
 -- the capacity did not suffice for the text, of which `front` was appended
 pub Puts-err : {A E : Type 0} (old new : Vec ℕ A) (front text : List ℕ) (result : Result (Unit {0}) E) → IsErr result → new.items ≡ old.items ++ front → vec_capacity old ≤ vec_capacity new

@@ -30,19 +30,6 @@ pub record Scanned (big : Bool) (offset : ℕ) (bytes old new : List ℕ) (taken
   pub few : chars + unpaired ≤ taken
   pub text : new ≡ old ++ ill_formed_lines big offset items
 
-pub Scanned-start : (big : Bool) (offset : ℕ) (bytes old : List ℕ) → Scanned big offset bytes old old 0 0 0
-Scanned-start big offset bytes old = record {
-  items = [];
-  first = refl;
-  tail = refl;
-  long = refl;
-  within = omega arith;
-  good = refl;
-  bad = refl;
-  few = omega arith;
-  text = sym (append-nil old);
-}
-
 pub OnErr-always : {A E P : Type 0} (r : Result A E) → P → OnErr r P
 OnErr-always (Ok done) holds = tt
 OnErr-always (Err error) holds = holds
@@ -90,10 +77,6 @@ Scans-of big offset bytes old new found all tail =
       unpaired = all.bad ∙ ap (count_by is_ill_formed) (sym items);
       few = all.few;
     }
-
-no_items : (big : Bool) → split_items big [] ≡ []
-unfolding split_items
-no_items big = refl
 
 no_tail : (big : Bool) → split_tail big [] ≡ []
 unfolding split_tail
