@@ -1,6 +1,5 @@
--- Bounds on the units of a block, by the greatest and the least of its lanes.
-use Rattle.std.proofs.Common.{◌≡◌, ℕ, ◌+◌, ◌-◌, ◌*◌, ◌^◌, ◌<◌, ◌≤◌, ◌⊎◌, Bool, true, false, cond, ltb, ltb-true, ltb-false, inl, inr, List, [], ◌∷◌, ◌++◌, All, length, map, get_or, slice_index, refl, sym, ap, ap₂, ◌∙◌, subst, ⊎_elim, arith}
-use Rattle.std.proofs.lemmas.Bool.{cases_lt}
+-- Bounds on the units of a block, by the least of its lanes and by a mask of them.
+use Rattle.std.proofs.Common.{◌≡◌, ℕ, ◌+◌, ◌-◌, ◌*◌, ◌^◌, ◌<◌, ◌≤◌, Bool, true, false, cond, ltb, ltb-true, ltb-false, List, [], ◌∷◌, ◌++◌, All, length, map, get_or, slice_index, refl, sym, ap, ap₂, ◌∙◌, subst, arith}
 use Rattle.std.proofs.lemmas.List.Elements.{All-append, All-cons, All-from_get_or, All-get_or, All-head, All-nil, All-tail}
 use Rattle.std.proofs.lemmas.Simd.{get_or-sel_l, get_or-zip2, length-chunk, length-sel_l, length-zip2, tops_compared}
 use Rattle.std.proofs.Math.Nat.{two-pow-succ}
@@ -8,9 +7,7 @@ use lib.Lanes.{chunk, mask_l, sel_l, top, zip2}
 use mir.Syntax.{Width}
 use mir.Val.{bits, hbits}
 use Rattle.utf16_units.specs.Lanes.{HasLanes}
-use Rattle.utf16_to_utf8.specs.Lanes.{added_len, folded, plus}
-use Rattle.utf16_to_utf8.proofs.AddedLemmas.{added_len-three, surrogate-is}
-use Rattle.utf16_to_utf8.proofs.BlockLemmas.{halves, low-is, narrow-kind}
+use Rattle.utf16_to_utf8.proofs.BlockLemmas.{halves}
 
 -- a choice by the comparison of the lanes of two vectors
 pub lanes_of_choice : (n : ℕ) (w : Width) (t : ℕ → ℕ → Bool) (x y a b : List ℕ) → length x ≡ n → length y ≡ n → length a ≡ n → length b ≡ n
@@ -66,13 +63,6 @@ module _ (P : ℕ → Type 0) (a b m : List ℕ) where
   )
 
 module _ (x y m limit : ℕ) where
-  choice-above : m ≡ cond (ltb x y) y x → m < limit → (x < limit) × (y < limit)
-  choice-above is below = go (ltb x y) refl
-    where
-      go : (b : Bool) → ltb x y ≡ b → (x < limit) × (y < limit)
-      go true e = let is' = is ∙ ap (λ b. cond b y x) e in (omega (arith, is', below, ltb-true x y e), omega (arith, is', below))
-      go false e = let is' = is ∙ ap (λ b. cond b y x) e in (omega (arith, is', below), omega (arith, is', below, ltb-false x y e))
-
   choice-below : m ≡ cond (ltb x y) x y → limit ≤ m → (limit ≤ x) × (limit ≤ y)
   choice-below is above = go (ltb x y) refl
     where
@@ -80,19 +70,7 @@ module _ (x y m limit : ℕ) where
       go true e = let is' = is ∙ ap (λ b. cond b x y) e in (omega (arith, is', above), omega (arith, is', above, ltb-true x y e))
       go false e = let is' = is ∙ ap (λ b. cond b x y) e in (omega (arith, is', above, ltb-false x y e), omega (arith, is', above))
 
-  choice-one : m ≡ cond (ltb x y) x y → m < limit → (x < limit) ⊎ (y < limit)
-  choice-one is below = go (ltb x y) refl
-    where
-      go : (b : Bool) → ltb x y ≡ b → (x < limit) ⊎ (y < limit)
-      go true e = let is' = is ∙ ap (λ b. cond b x y) e in inl (omega (arith, is', below))
-      go false e = let is' = is ∙ ap (λ b. cond b x y) e in inr (omega (arith, is', below))
-
-pub below_greater : (n limit : ℕ) (a b m : List ℕ) → length a ≡ n → length b ≡ n → HasLanes n m (λ i. cond (ltb (slice_index a i) (slice_index b i)) (slice_index b i) (slice_index a i))
-    → All (λ u. u < limit) m → All (λ u. u < limit) a × All (λ u. u < limit) b
-below_greater n limit a b m pa pb lanes = both_by (λ u. u < limit) a b m (pa ∙ sym lanes.len) (pb ∙ sym lanes.len) (λ i lt below.
-    choice-above _ _ _ limit (lanes.lanes i (omega (arith, lt, lanes.len))) below)
-
--- the halves of some units, and the larger or the smaller ones of their lanes
+-- the halves of some units, and the smaller ones of their lanes
 module _ (n limit : ℕ) (units a b m : List ℕ) (long : length units ≡ n + n) (pa : a ≡ chunk 0 n units) (pb : b ≡ chunk n n units) where
   both : (P : ℕ → Type 0) → All P a × All P b → All P units
   both P all = subst (All P) (ap₂ (λ x y. x ++ y) pa pb ∙ sym (halves n units long)) (All-append P a b all.0 all.1)
@@ -103,22 +81,6 @@ module _ (n limit : ℕ) (units a b m : List ℕ) (long : length units ≡ n + n
   length-b : length b ≡ n
   length-b = ap length pb ∙ length-chunk n n units (omega (arith, long))
 
-  pub below_larger : HasLanes n m (λ i. cond (ltb (slice_index a i) (slice_index b i)) (slice_index b i) (slice_index a i)) → All (λ u. u < limit) m → All (λ u. u < limit) units
-  below_larger lanes all = both (λ u. u < limit) (below_greater n limit a b m length-a length-b lanes all)
-
   pub from_smaller : HasLanes n m (λ i. cond (ltb (slice_index a i) (slice_index b i)) (slice_index a i) (slice_index b i)) → All (λ u. limit ≤ u) m → All (λ u. limit ≤ u) units
   from_smaller lanes all = both (λ u. limit ≤ u) (both_by (λ u. limit ≤ u) a b m (length-a ∙ sym lanes.len) (length-b ∙ sym lanes.len)
       (λ i lt above. choice-below _ _ _ limit (lanes.lanes i (omega (arith, lt, lanes.len))) above) all)
-
--- ---- the kinds of units
-
-pub folded-wide : (u : ℕ) → u < 0x1_0000 → 0x800 ≤ folded u → added_len u ≡ 3
-folded-wide u below above =
-    let parts = choice-below u (plus u 0x2800) (folded u) 0x800 refl above in
-    let high = parts.1 in
-    added_len-three u below parts.0 (⊎_elim (λ (a : u < 0xD800). inl a) (λ (b : 0xD800 ≤ u). inr (omega (arith, b, below, high))) (cases_lt u 0xD800))
-
-pub folded-narrow : (u : ℕ) → u < 0x1_0000 → folded u < 0x800 → added_len u ≤ 2
-folded-narrow u below low = ⊎_elim (λ (a : u < 0x800). narrow-kind u below (inl (low-is u a)))
-    (λ (b : plus u 0x2800 < 0x800). narrow-kind u below (inr (surrogate-is u below (omega (arith, b, below)) (omega (arith, b, below)))))
-    (choice-one u (plus u 0x2800) (folded u) 0x800 refl low)

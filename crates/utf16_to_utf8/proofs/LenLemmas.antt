@@ -1,10 +1,10 @@
 -- How many bytes units add, by the bits of their classes.
-use Rattle.std.proofs.Common.{◌≡◌, ℕ, zero, suc, ◌+◌, ◌*◌, ◌<◌, ◌≤◌, Bool, true, false, cond, ltb, List, [], ◌∷◌, ◌++◌, All, length, get_or, replicate, refl, sym, ap, ◌∙◌, ⊎_elim, arith, count_by, encode_utf8_all, Fits, w8, w16, length-append, sum_by, lt-ltb, le-ltb, inl}
+use Rattle.std.proofs.Common.{◌≡◌, ℕ, zero, suc, ◌+◌, ◌*◌, ◌<◌, ◌≤◌, Bool, true, false, cond, ltb, List, [], ◌∷◌, ◌++◌, All, length, get_or, map, replicate, refl, sym, ap, ◌∙◌, ⊎_elim, arith, count_by, count_ones, encode_utf8_all, Fits, w8, w16, length-append, sum_by, lt-ltb, le-ltb, inl}
 use Rattle.std.proofs.lemmas.List.Elements.{All-head, All-tail}
 use Rattle.std.proofs.lemmas.List.Sums.{sum_by-cons}
 use Rattle.std.proofs.lemmas.Bool.{cases_lt}
-use Rattle.std.proofs.lemmas.Simd.{Each1-from_get_or}
-use lib.Lanes.{Each1}
+use Rattle.std.proofs.lemmas.Simd.{Each1-from_get_or, ones-mask_l}
+use lib.Lanes.{Each1, mask_l}
 use Rattle.utf16_units.specs.Encoding.{IsUtf16, text_of, units_of}
 use Rattle.utf16_to_utf8.specs.Lanes.{added_len, is_surrogate}
 use Rattle.utf16_to_utf8.specs.Utf8.{unit_utf8, units_utf8}
@@ -60,7 +60,7 @@ by_three u below = ap (λ s. added_len u + (cond (is_low u) 1 0 + cond s 1 0 + c
     ])
     (cases_lt u 0x800)
 
-pub added-counted : (units : List ℕ) → Each1 (Fits w16) units
+added-counted : (units : List ℕ) → Each1 (Fits w16) units
     → sum_by added_len units + count_by is_low units + count_by has_surrogate_byte units + count_by (λ u. ltb u 0x80) units ≡ 3 * length units
 added-counted [] fit = refl
 added-counted (u ∷ units) fit = omega (
@@ -71,6 +71,18 @@ added-counted (u ∷ units) fit = omega (
   sum_by-cons (λ v. cond (is_low v) 1 0) u units,
   sum_by-cons (λ v. cond (has_surrogate_byte v) 1 0) u units,
   sum_by-cons (λ v. cond (ltb v 0x80) 1 0) u units,
+)
+
+-- from the number of bits in a mask of each
+pub len-counted : (units : List ℕ) (low surrogate ascii : ℕ) → Each1 (Fits w16) units
+    → low ≡ mask_l (map is_low units) → surrogate ≡ mask_l (map has_surrogate_byte units) → ascii ≡ mask_l (map (λ u. ltb u 0x80) units)
+    → sum_by added_len units + count_ones low + count_ones surrogate + count_ones ascii ≡ 3 * length units
+len-counted units low surrogate ascii fit is_low-bits surrogate-bits ascii-bits = omega (
+  arith,
+  added-counted units fit,
+  ap count_ones is_low-bits ∙ ones-mask_l is_low units,
+  ap count_ones surrogate-bits ∙ ones-mask_l has_surrogate_byte units,
+  ap count_ones ascii-bits ∙ ones-mask_l (λ u. ltb u 0x80) units,
 )
 
 pub added-zeros : (k : ℕ) (units : List ℕ) → sum_by added_len (units ++ replicate k 0) ≡ sum_by added_len units + k

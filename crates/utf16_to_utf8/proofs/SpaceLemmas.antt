@@ -1,15 +1,21 @@
 -- How much space a text in UTF-8 takes and leaves.
-use Rattle.std.proofs.Common.{◌≡◌, ℕ, ◌+◌, ◌*◌, ◌/◌, ◌%◌, ◌<◌, ◌≤◌, ◌⊎◌, ◌++◌, Bool, List, ⊎_elim, ap, arith, drop, encode_utf8_all, length, length-append, length-drop, length-take, length-take-le, subst, sym, take, take-append-drop, take_all, ◌∙◌}
+use Rattle.std.proofs.Common.{◌≡◌, ℕ, ◌+◌, ◌*◌, ◌/◌, ◌%◌, ◌<◌, ◌≤◌, ◌⊎◌, ◌++◌, Bool, List, ⊎_elim, ap, append-nil, arith, drop, encode_utf8_all, length, length-append, length-drop, length-take, length-take-le, subst, sym, take, take-append-drop, take_all, ◌∙◌}
 use Rattle.std.proofs.lemmas.Bool.{cases_lt}
+use Rattle.std.proofs.lemmas.List.{nil_from_length}
 use Rattle.std.specs.Prelude.{min}
 use Rattle.utf16_units.specs.Encoding.{IsUtf16, text_of, utf8_of}
 use Rattle.utf16_units.proofs.BackChar.{size-even}
-use Rattle.utf16_units.proofs.EncodingLemmas.{IsUtf16-rest, length-text, text_of-append}
+use Rattle.utf16_units.proofs.EncodingLemmas.{IsUtf16-rest, length-text, text_of-append, text_of-nil}
 use Rattle.utf16_units.proofs.PieceLemmas.{encodes-le-size, utf8-append}
 
 -- a text in UTF-8 fits in the buffer that it was written to
 pub written-fits : (out text : List ℕ) (written : ℕ) → take written out ≡ text → written ≡ length text → written ≤ length out
 written-fits out text written is long = omega (arith, length-take written out, ap length is, long)
+
+-- once nothing is left of a text, all of it is written
+pub all-written : (big : Bool) (rest done whole : List ℕ) → length rest ≡ 0 → done ++ utf8_of big rest ≡ whole → done ≡ whole
+all-written big rest done whole none so =
+    sym (append-nil done) ∙ ap (λ t. done ++ encode_utf8_all t) (sym (ap (text_of big) (nil_from_length rest none) ∙ text_of-nil big)) ∙ so
 
 -- a text takes at most three bytes for each of its code units
 pub few-bytes : (big : Bool) (raw out : List ℕ) (read written : ℕ) → IsUtf16 big (take read raw) → read ≤ length raw → written ≤ length out

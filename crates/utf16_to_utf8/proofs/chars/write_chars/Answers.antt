@@ -1,11 +1,11 @@
-use Rattle.std.proofs.Common.{◌≡◌, ◌-◌, ◌++◌, ◌∙◌, [], ap, ap₂, append-nil, append_assoc, arith, drop, encode_utf8_all, eqb-true, length, length-drop, refl, rules, subst, sym, take, take_all}
-use Rattle.std.proofs.lemmas.List.{nil_from_length}
+use Rattle.std.proofs.Common.{◌≡◌, ◌-◌, ◌++◌, ◌∙◌, ap, ap₂, append_assoc, arith, drop, encode_utf8_all, eqb-true, length, length-drop, refl, rules, subst, sym, take, take_all}
 use Rattle.std.proofs.lemmas.Str.{length-encode}
 use Rattle.std.specs.Char.{encode_utf8}
 use Rattle.utf16_units.specs.Encoding.{IsUtf16, text_of, utf8_of}
 use Rattle.utf16_units.proofs.BackChar.{size-even}
-use Rattle.utf16_units.proofs.EncodingLemmas.{length-text, text_of-nil}
+use Rattle.utf16_units.proofs.EncodingLemmas.{length-text}
 use Rattle.utf16_units.proofs.ShownLemmas.{len_utf8-le}
+use Rattle.utf16_to_utf8.proofs.SpaceLemmas.{all-written}
 use Rattle.utf16_to_utf8.proofs.chars.write_chars.Goals as goal
 
 pub loop-rest-init : goal.loop-rest-init
@@ -47,11 +47,8 @@ loop-rest-preserved g c =
 
 pub returns-clause-utf8 : goal.returns-clause-utf8
 returns-clause-utf8 g c =
-    let big = g.E.Utf16Order.BIG in
     let rest = c.loop-rest.rest.now in
-    let done = take c.loop-rest.end c.loop-rest.out in
-    let none : rest ≡ [] = nil_from_length rest (eqb-true (length rest) 0 (search rules)) in
-    sym (append-nil done) ∙ ap (λ t. done ++ encode_utf8_all t) (sym (ap (text_of big) none ∙ text_of-nil big)) ∙ c.loop-rest.invariant.written
+    all-written g.E.Utf16Order.BIG rest _ _ (eqb-true (length rest) 0 (search rules)) c.loop-rest.invariant.written
 
 pub returns-clause-fits : goal.returns-clause-fits
 returns-clause-fits g c =
