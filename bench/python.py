@@ -145,8 +145,7 @@ def ill_formed():
 
 def main():
     version = ".".join(map(str, sys.version_info[:3]))
-    implementation = getattr(dethrux, "implementation", "ctypes")
-    print(f"CPython {version}, dethrux {dethrux.__version__} ({implementation}).", end=" ")
+    print(f"CPython {version}, dethrux {dethrux.__version__}.", end=" ")
     print("CPython's times in µs, then how many times as fast the package is.\n")
     ways = [
         f"{way}: {each}"

@@ -98,7 +98,8 @@ built() {
 
 make_linux() {
     built x86_64-linux-gnu "${CC:-cc}" install.sh docs/PYTHON.md \
-        bindings/python/{README.md,build_backend.py,pyproject.toml,src}
+        bindings/python/{MANIFEST.in,README.md,pyproject.toml,setup.py,src} \
+        dist/src/linux-x86-64-v{2,3}.s
 }
 
 make_arm64() {

@@ -1,59 +1,50 @@
 #!/usr/bin/env bash
-# Makes the Python package's wheels for Linux on x86-64 and on ARM64 and its source distribution in
-# FOLDER (by default packaging/out), and prints their paths. The wheels for every Python have the
-# library; another one, for the Python that is python3 and this machine, also has the extension in
-# C. It needs Python with its headers, cc, and for the other machine aarch64-linux-gnu-gcc or
-# x86_64-linux-gnu-gcc, but no network. It leaves out a wheel that it cannot make, says why, and
-# ends with status 1. The same tree and the same compilers give the same bytes.
+# Makes the Python package's source distribution, and of it the wheel for the Python that is python3
+# and this machine, in FOLDER (by default packaging/out), and prints their paths. It needs a C
+# compiler, and Python with its headers, setuptools and pip. pip builds the wheel with the wheels of
+# setuptools and of wheel that are in the folder WHEELS, else with those that
+# bindings/python/offline.sh finds, else it downloads them. If the wheel needs a newer glibc than
+# 2.34, it is left out, with status 1. The same tree and the same compiler give the same bytes.
 #
 #     packaging/wheels.sh [FOLDER]
 set -euo pipefail
 here=$(cd "$(dirname "${BASH_SOURCE[0]}")" && pwd)
-package=$(dirname "$here")/bindings/python
-# A wheel has what is compiled here, not a library that this names.
-unset DETHRUX_LIBRARY
+top=$(dirname "$here")
+name=dethrux-$(< "$top/VERSION")
+platform=manylinux_2_34_$(uname -m)
+# The least time that a ZIP file can have.
+export SOURCE_DATE_EPOCH=315532800 PYTHONDONTWRITEBYTECODE=1
 
-# Whether cc is for a machine.
-is_own() {
-    [[ $(cc -dumpmachine 2> /dev/null) == "$1"-* ]]
+# Writes the source distribution. setuptools writes into the folder that it builds, so that is a
+# copy.
+make_sources() {
+    mkdir "$room/tree"
+    (cd "$top" && cp -R --parents \
+        bindings/python/{MANIFEST.in,README.md,pyproject.toml,setup.py,src} include/dethrux.h \
+        dist/src LICENSE-{APACHE,MIT} THIRD-PARTY.md "$room/tree/")
+    find "$room/tree" \( -name '*.so' -o -name '*.egg-info' -o -name __pycache__ \) -prune \
+        -exec rm -r {} +
+    (cd "$room/tree/bindings/python" && python3 setup.py -q sdist --dist-dir "$room") > "$room/said"
+    tar -C "$room" -xf "$room/$name.tar.gz"
+    tar -C "$room" --sort=name --format=gnu --owner=0 --group=0 --numeric-owner \
+        --mtime="@$SOURCE_DATE_EPOCH" --mode=u=rwX,go=rX -cf - "$name" | gzip -9n
 }
 
-# Prints the C compiler for a machine.
-compiler_for() {
-    if is_own "$1"; then
-        echo cc
-    else
-        echo "$1-linux-gnu-gcc"
-    fi
-}
-
-# Runs build_wheel or build_sdist of the backend, with the extension or without it, and prints the
-# path of what it makes.
-build() {
-    (cd "$package" && PYTHONDONTWRITEBYTECODE=1 python3 - "$1" "$folder" "$2" << 'END'
-import sys
-
-import build_backend
-
-_, call, folder, extension = sys.argv
-print(folder, getattr(build_backend, call)(folder, {"extension": extension}), sep="/")
-END
-    )
-}
-
-# Makes a wheel, and prints its path if it is one for every Linux.
+# Writes the wheel to a folder.
 make_wheel() {
-    local machine=$1 compiler=$2 extension=$3 wheel
-    wheel=$(CC=$compiler build build_wheel "$extension")
-    if [[ $wheel != *-manylinux_2_34_"$machine".whl ]]; then
-        echo "wheels.sh: $wheel needs a newer glibc than 2.34: use an older $compiler" >&2
-        status=1
-    elif [[ $extension = yes && $wheel = *-py3-* ]]; then
-        echo 'wheels.sh: there is no wheel with the extension' >&2
-        status=1
-    else
-        echo "$wheel"
-    fi
+    printf '[bdist_wheel]\nplat_name = %s\n' "$platform" > "$room/config"
+    DIST_EXTRA_CONFIG=$room/config python3 -m pip wheel -q --no-deps --no-cache-dir \
+        --disable-pip-version-check ${WHEELS:+--no-index --find-links "$WHEELS"} \
+        --wheel-dir "$room/made" "$folder/$name.tar.gz"
+}
+
+# Prints the newest version of glibc that the wheel needs.
+needed() {
+    local extension
+    python3 -m zipfile -e "$room"/made/*.whl "$room/unpacked"
+    find "$room/unpacked" -name '*.so' | while read -r extension; do
+        readelf --version-info "$extension"
+    done | grep -oE 'GLIBC_[0-9A-Z_.]+' | sort -V | tail -n 1
 }
 
 if [ $# -gt 1 ] || [[ ${1-.} == -* ]]; then
@@ -63,16 +54,21 @@ fi
 folder=${1-$here/out}
 mkdir -p "$folder"
 folder=$(cd "$folder" && pwd)
-status=0
-for machine in x86_64 aarch64; do
-    compiler=$(compiler_for "$machine")
-    if ! command -v "$compiler" > /dev/null; then
-        echo "wheels.sh: there is no $compiler, so there is no wheel for $machine" >&2
-        status=1
-        continue
-    fi
-    make_wheel "$machine" "$compiler" no
-    ! is_own "$machine" || make_wheel "$machine" "$compiler" yes
-done
-build build_sdist no
-exit $status
+room=$(mktemp -d)
+trap 'rm -rf "$room"' EXIT
+umask 022
+if [ -z "${WHEELS:-}" ] && "$top/bindings/python/offline.sh" "$room/build" 2> "$room/said"; then
+    WHEELS=$room/build
+fi
+make_sources > "$room/sources"
+mv "$room/sources" "$folder/$name.tar.gz"
+echo "$folder/$name.tar.gz"
+make_wheel
+newest=$(needed)
+wheel=$(basename "$room"/made/*.whl)
+if [[ ! $newest =~ ^GLIBC_2\.([0-9]+)(\.[0-9]+)?$ ]] || ((BASH_REMATCH[1] > 34)); then
+    echo "wheels.sh: $wheel needs $newest, not 2.34 or older: use an older compiler" >&2
+    exit 1
+fi
+mv "$room/made/$wheel" "$folder/"
+echo "$folder/$wheel"

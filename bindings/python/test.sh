@@ -1,19 +1,19 @@
 #!/usr/bin/env bash
 # Installs the package with pip in an empty virtual environment, without network and without rt.
 # There it runs the first program of docs/PYTHON.md, the unit tests, CPython's tests of UTF-16 with
-# these codecs, and the tables of cases: with the extension in C, and over ctypes. It installs the
-# wheels and the source distribution that packaging/wheels.sh makes. mypy checks the types. A tool
-# that is missing is a failure, which names its Debian package. The last line is 'N passed, M
-# failed'. PYTHON names another Python, which has its headers. DETHRUX_LIBRARY names the shared
-# library for the package; without it cc makes one of the assembly in dist/. DETHRUX_CALLS is how
-# many calls may not take memory (200000).
+# these codecs, and the tables of cases, these with the extension for each processor level. It
+# installs the wheel that packaging/wheels.sh makes of the source distribution. mypy checks the
+# types. A tool that is missing is a failure, which names its Debian package. The last line is 'N
+# passed, M failed'. PYTHON names another Python, which has its headers and setuptools; WHEELS names
+# a folder with the wheels of setuptools and of wheel for it, which Python 3.12 and later do not
+# have. DETHRUX_CALLS is how many calls may not take memory (200000).
 set -uo pipefail
 here=$(cd "$(dirname "${BASH_SOURCE[0]}")" && pwd)
 top=$(cd "$here/../.." && pwd)
 room=$(mktemp -d)
 trap 'rm -rf "$room"' EXIT
 export PYTHONDONTWRITEBYTECODE=1
-unset PYTHONPATH PYTHONHOME
+unset PYTHONPATH PYTHONHOME CC
 passed=0
 failed=0
 
@@ -58,9 +58,16 @@ make_environment() {
     "$python" -m venv "$room/venv"
 }
 
+# Copies the tree, since setuptools writes into the folder that it builds.
+copy_tree() {
+    mkdir "$room/tree" && cd "$top" && cp -R --parents bindings/python/{*.*,src} include dist \
+        LICENSE-{APACHE,MIT} THIRD-PARTY.md "$room/tree"
+}
+
 # Runs pip without network, with the compiler of the system and without rt.
 install_with_pip() {
-    PATH=/usr/bin:/bin "$room/venv/bin/pip" install --no-index --disable-pip-version-check "$@"
+    PATH=/usr/bin:/bin "$room/venv/bin/pip" install --no-index --find-links "$WHEELS" \
+        --no-cache-dir --disable-pip-version-check "$@"
 }
 
 # Whether a program prints what its page says, given the bytes that the page makes.
@@ -103,7 +110,7 @@ unit_tests() {
 
 # Whether each module of tests is run.
 runs_all() {
-    diff <(printf '%s.py\n' "${for_each[@]}" "${once[@]}" | sort) <(cd "$here/tests" && ls test_*.py)
+    diff <(printf '%s.py\n' "${modules[@]}") <(cd "$here/tests" && ls test_*.py)
 }
 
 # The tables that C, Rust and JavaScript also check.
@@ -111,73 +118,42 @@ cases() {
     "$room/venv/bin/python" "$top/examples/c/check.py"
 }
 
-# Makes the wheels and the source distribution, twice: with the same bytes.
+# The same with the extension that every processor runs.
+cases_of_the_base() {
+    local package
+    package=$("$room/venv/bin/python" -c 'import dethrux; print(*dethrux.__path__)') &&
+        cp -R "$package" "$room/base/" && rm -r "$room/base/dethrux/_x86_64_v3" &&
+        PYTHONPATH=$room/base "$room/venv/bin/python" "$top/examples/c/check.py"
+}
+
+# Makes the source distribution, and the wheel, which pip makes of it.
 make_wheels() {
-    local umask
-    for umask in 022 077; do
-        (umask $umask && "$top/packaging/wheels.sh" "$room/wheels-$umask") || return
-    done
-    diff -r "$room"/wheels-{022,077}
+    WHEELS=$WHEELS PATH=$tools:$PATH "$top/packaging/wheels.sh" "$room/wheels"
 }
 
-# Whether wheels.sh leaves out a wheel for this machine that is not for every Linux, and, without a
-# compiler for the other machine, that wheel.
+# Whether wheels.sh leaves out a wheel that is not for every Linux, and makes the same source
+# distribution again.
 leaves_out_wheels() {
-    local bin=$room/bin tool
-    mkdir "$bin"
-    for tool in bash dirname env mkdir; do
-        ln -s "$(command -v $tool)" "$bin/$tool"
-    done
-    ln -s "$("$python" -c 'import sys; print(sys.executable)')" "$bin/python3"
-    cat > "$bin/cc" << 'END'
-#!/bin/bash
-[ "$1" != -dumpmachine ] || { echo x86_64-linux-gnu; exit; }
-printf '\177ELF%14s\076\0' '' > "${@: -1}"
+    local wheel
+    wheel=$(basename "$room"/wheels/*.whl)
+    printf '#!/bin/sh\necho GLIBC_2.4 GLIBC_2.35\n' > "$tools/readelf"
+    chmod +x "$tools/readelf"
+    ! (umask 077 && WHEELS=$WHEELS PATH=$tools:$PATH "$top/packaging/wheels.sh" "$room/left") \
+        > "$room/paths" 2> "$room/lines" && diff - "$room/lines" << END &&
+wheels.sh: $wheel needs GLIBC_2.35, not 2.34 or older: use an older compiler
 END
-    chmod +x "$bin/cc"
-    local left=$room/left/dethrux-$(< "$top/VERSION") own
-    own=$("$python" -c 'import sys; print("cp{0}{1}-cp{0}{1}{2}".format(
-        *sys.version_info[:2], sys.abiflags))')
-    ! PATH=$bin "$top/packaging/wheels.sh" "$room/left" > "$room/paths" 2> "$room/lines" &&
-        diff - "$room/lines" << END && diff <(echo "$room/left"/*.tar.gz) "$room/paths"
-wheels.sh: $left-py3-none-linux_x86_64.whl needs a newer glibc than 2.34: use an older cc
-wheels.sh: $left-$own-linux_x86_64.whl needs a newer glibc than 2.34: use an older cc
-wheels.sh: there is no aarch64-linux-gnu-gcc, so there is no wheel for aarch64
-END
+        diff <(ls "$room"/left/*) "$room/paths" && cmp "$room"/{left,wheels}/*.tar.gz
 }
 
-# Whether the libraries of all wheels need no newer glibc than the wheels' names say.
-needs_old_glibc() {
-    local wheel library newest
-    for wheel in "$room"/wheels-022/*-py3-*.whl; do
-        "$python" -m zipfile -e "$wheel" "$room/${wheel##*_2_34_}"
-    done
-    "$python" -m zipfile -e "$room"/wheels-022/*-cp*.whl "$room/native.whl"
-    for library in "$room"/*.whl/dethrux/*.so*; do
-        newest=$(readelf --version-info "$library" | grep -o 'GLIBC_[0-9A-Z_.]*' |
-            sort -V | tail -n 1)
-        echo "$library: $newest"
-        [[ $newest =~ ^GLIBC_2\.([0-9]+)(\.[0-9]+)?$ ]] && ((BASH_REMATCH[1] <= 34)) || return
-    done
-}
-
-# Whether Python takes this library from an installed folder, and calls it. Words before python are
-# those that run it.
-takes_library() {
-    local folder=$1 library=$2
+# Whether Python takes this extension from an installed folder, and calls it. Words after it are
+# those that run Python.
+takes_extension() {
+    local folder=$1 place=$2
     shift 2
     PYTHONPATH=$room/$folder "$@" "$room/venv/bin/python" -c '
-import sys, dethrux
+import dethrux
 assert dethrux.to_utf8(b"\0\xe9", "big").output == "é".encode()
-print(dethrux._library._library._name)' | diff - <(echo "$room/$folder/dethrux/$library")
-}
-
-# Whether a program of the other machine loads the library of its wheel, and calls it.
-calls_other_library() {
-    "$other-linux-gnu-gcc" -I"$top/include" "$here/tests/load.c" -o "$room/load" &&
-        "qemu-$other" -L "/usr/$other-linux-gnu" "$room/load" \
-            "$room/$other.whl/dethrux/libdethrux.so.0.2" > "$room/found" &&
-        diff - "$room/found" <<< '2000 Grüße😀'
+print(dethrux._native.__file__)' | diff - <(echo "$room/$folder/dethrux/$place$extension")
 }
 
 # Whether the extension compiles without a warning, with both compilers.
@@ -192,67 +168,46 @@ compile_strictly() {
     done
 }
 
-# Whether the functions of an installed folder are those of this implementation.
-has_implementation() {
-    PYTHONPATH=$room/$1 "$room/venv/bin/python" -c '
-import sys, dethrux
-sys.exit(dethrux.implementation != sys.argv[1])' "$2"
-}
-
 # What packaging/wheels.sh makes.
 test_wheels() {
-    local machine other=aarch64 best=libdethrux.so.0.2 version
-    version=$("$python" -c 'import sys; print("cp%d%d" % sys.version_info[:2])')
-    machine=$(uname -m)
-    [ "$machine" = x86_64 ] || other=x86_64
-    count 'a compiler for another machine' \
-        has "$other-linux-gnu-gcc" "gcc-${other/_/-}-linux-gnu" || return
-    count 'an emulator' has "qemu-$other" qemu-user || return
-    ! grep -q -w avx2 /proc/cpuinfo || best=libdethrux-x86-64-v3.so.0.2
-    count 'the wheels, twice' make_wheels
-    count 'wheels that cannot be made' leaves_out_wheels
-    count 'the glibc of the wheels' needs_old_glibc
+    local best='' tools=$room/bin extension
+    extension=_native$("$python" -c 'import sysconfig
+print(sysconfig.get_config_var("EXT_SUFFIX"))')
+    mkdir "$tools" && ln -s "$(command -v "$python")" "$tools/python3"
+    ! grep -q -w avx2 /proc/cpuinfo || best=_x86_64_v3/
+    count 'the wheel and the sources' make_wheels || return
+    count 'a wheel for a newer glibc' leaves_out_wheels
     count 'pip install of the wheel' \
-        install_with_pip --target "$room/wheel" "$room"/wheels-022/*-"$version"-*_"$machine".whl
-    count 'the library of the wheel' takes_library wheel $best
-    count 'the extension of the wheel' has_implementation wheel c
-    count 'pip install of the wheel for every Python' \
-        install_with_pip --target "$room/pure" "$room"/wheels-022/*-py3-*_"$machine".whl
-    count 'the library of the wheel for every Python' takes_library pure $best
-    count 'no extension in the wheel for every Python' has_implementation pure ctypes
-    count 'pip install of the sources' \
-        install_with_pip --target "$room/sources" "$room"/wheels-022/*.tar.gz
-    count 'the library of the sources' takes_library sources $best
-    count 'the extension of the sources' has_implementation sources c
-    [ "$machine" != x86_64 ] || count 'the wheel without AVX2' \
-        takes_library wheel libdethrux.so.0.2 qemu-x86_64 -cpu Nehalem
-    count "the wheel for $other, without Python" calls_other_library
+        install_with_pip --target "$room/wheel" "$room"/wheels/*.whl
+    count 'the extension of the wheel' takes_extension wheel "$best"
+    [ "$(uname -m)" != x86_64 ] || {
+        count 'an emulator' has qemu-x86_64 qemu-user
+        count 'the wheel without AVX2' takes_extension wheel '' qemu-x86_64 -cpu Nehalem
+    }
 }
 
 python=${PYTHON:-python3}
 count 'Python' has "$python" python3 || finish
 count 'a C compiler for the tests' has cc gcc || finish
 count 'the headers of Python' has_headers || finish
+if [ -z "${WHEELS:-}" ]; then
+    WHEELS=$room/build
+    count 'what pip builds with' env PYTHON="$python" "$here/offline.sh" "$WHEELS" || finish
+fi
 count 'a virtual environment' make_environment || finish
-count 'pip install' install_with_pip "$here" || finish
-unset DETHRUX_LIBRARY
+count 'a copy of the tree' copy_tree || finish
+count 'pip install' install_with_pip "$room/tree/bindings/python" || finish
+count 'what the tests build with' install_with_pip setuptools || finish
 count 'the first program' first_program
 count 'the page has the first program' page_has_program
-# The tests of either implementation, and the ones that run once.
-for_each=(test_calls test_codecs test_cpython test_package test_wtf8)
-once=(test_build test_native)
+modules=(test_build test_calls test_codecs test_cpython test_native test_package test_wtf8)
 count 'each module of tests' runs_all
-for DETHRUX_IMPLEMENTATION in c ctypes; do
-    export DETHRUX_IMPLEMENTATION
-    for module in "${for_each[@]}"; do
-        unit_tests $module
-    done
-    count "the tables of cases, $DETHRUX_IMPLEMENTATION" cases
-done
-unset DETHRUX_IMPLEMENTATION
-for module in "${once[@]}"; do
+for module in "${modules[@]}"; do
     unit_tests $module
 done
+count 'the tables of cases' cases
+mkdir "$room/base"
+[ "$(uname -m)" != x86_64 ] || count 'the tables of cases, x86-64-v2' cases_of_the_base
 count 'the warnings of the C compiler' compile_strictly
 test_wheels
 count 'mypy --strict' check_types

@@ -1,6 +1,6 @@
 # The references that the tools of each language make: Doxygen's for C and C++, the manual pages,
 # rustdoc's for both Rust crates. The Python package's reference is read from its source, since the
-# package cannot be imported if the library is not built.
+# package cannot be imported if its extension is not built.
 import ast
 import html
 import os
@@ -15,6 +15,8 @@ from pages import MARKDOWN, SITE, TOP, Missing, frame, link, markdown, need, run
 # Where Debian has the sources of Rust packages, from which cargo makes them without a network.
 REGISTRY = pathlib.Path("/usr/share/cargo/registry")
 PACKAGE = TOP / "bindings/python/src/dethrux"
+# A function of the extension in C: its name, and the strings of its documentation.
+FUNCTION = re.compile(r'^ *X\((\w+), \d, \w+, *"[^"]*",((?:[\s\\]*"(?:\\.|[^"\\])*")+)\)', re.M)
 PROGRAMS = ("utf16_cat", "utf16_enc", "utf16_check")
 # Doxygen's lists of all names, to which no other page of it leads.
 INDEX = re.compile(r"index|functions|globals|namespace(?:s|members)|files|classes")
@@ -143,6 +145,7 @@ def build_python(tree):
         for node in parsed.body:
             name = getattr(node, "name", None) or assigned(node)
             found.setdefault(name, (node, f"bindings/python/src/dethrux/{module}.py"))
+    found |= {it.name: (it, "bindings/python/src/dethrux/_native.c") for it in native()}
     parts, lost = ["# The Python package `dethrux`", docs_of(package)], []
     parts.append("[PYTHON](../tree/docs/PYTHON.html) is the guide.")
     parts.append(", ".join(f"[`{it}`](#{it})" for it in exported))
@@ -154,6 +157,19 @@ def build_python(tree):
             lost += [f"{path}: {it} has no documentation" for it in undocumented(name, node)]
     write("python/index.html", "Python", markdown("\n\n".join(parts) + "\n"))
     return lost
+
+
+def native():
+    """The functions of the extension: their types, with the documentation and the line in C."""
+    source = (PACKAGE / "_native.c").read_text()
+    rows = {it[1]: it for it in FUNCTION.finditer(source)}
+    for node in ast.parse((PACKAGE / "_native.pyi").read_text()).body:
+        if isinstance(node, ast.FunctionDef):
+            row = rows[node.name]
+            words = ast.literal_eval("(" + row[2].replace("\\\n", "") + ")")
+            node.body = [ast.Expr(ast.Constant(words))]
+            node.lineno = source.count("\n", 0, row.start(1)) + 1
+            yield node
 
 
 def assigned(node):

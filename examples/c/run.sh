@@ -1,6 +1,6 @@
 #!/usr/bin/env bash
-# Builds the library libdethrux.a and the examples in C, in C++ and in Python over a shared object,
-# and runs them: the tables of cases, the programs of docs/C.md and docs/CPP.md, and all in C under
+# Builds the library libdethrux.a and the examples in C and in C++, and the package for Python, and
+# runs them: the tables of cases, the programs of docs/C.md and docs/CPP.md, and all in C under
 # valgrind. A missing tool is a failure. The last line is 'N passed, M failed'. With --over-ci the
 # library is built over the libraries that rt ci has just proved, and with --library FILE it is not
 # built: FILE is tested. With --headers c it is not built either, and only what tests the headers
@@ -237,13 +237,9 @@ resumes() {
     [ $? = 1 ] && { printf 'abc%.0s' {1..9}; printf '\xC3\xA4\xF0\x9F\x98\x80'; } | cmp - "$room/found"
 }
 
-shared() {
-    cc -shared -o "$room/libdethrux.so" -Wl,--whole-archive "$archive" -Wl,--no-whole-archive
-}
-
 check_python() {
-    PYTHONDONTWRITEBYTECODE=1 PYTHONPATH="$top/bindings/python/src" \
-        DETHRUX_LIBRARY="$room/libdethrux.so" python3 "$here/check.py"
+    "$top/bindings/python/build.sh" "$room/package" &&
+        PYTHONDONTWRITEBYTECODE=1 PYTHONPATH=$room/package python3 "$here/check.py"
 }
 
 test_c() {
@@ -330,6 +326,6 @@ fi
 test_cxx
 if [ -z "$headers" ]; then
     has valgrind 'memory in C and C++' && memory_in_c && memory_in_cxx
-    has python3 'Python' && count 'the shared object' shared && count 'the cases in Python' check_python
+    has python3 'Python' && count 'the cases in Python' check_python
 fi
 result

@@ -11,9 +11,8 @@ cd "$room" || exit 1
 passed=0
 failed=0
 
-export PYTHONDONTWRITEBYTECODE=1 PYTHONUTF8=1 PYTHONPATH=$top/bindings/python/src
-export DETHRUX_LIBRARY=$room/libdethrux.so
-cc -shared -o libdethrux.so -Wl,--whole-archive "$archive" -Wl,--no-whole-archive || exit 1
+export PYTHONDONTWRITEBYTECODE=1 PYTHONUTF8=1 PYTHONPATH=$room/package
+"$top/bindings/python/build.sh" package || exit 1
 
 # Runs both programs of a recipe on `input`, and compares their output with the last argument.
 prints() {

@@ -23,17 +23,17 @@ if [ -z "$python" ]; then
     exit 1
 fi
 
-if ! libraries=$("$top/packaging/build.sh"); then
-    echo 'failed: the build'
-    echo '0 passed, 1 failed'
-    exit 1
-fi
 if [ "${1:-}" = --small ]; then
     shift
     set -- --text-size 12MiB --random-size 3MiB --part-size 256KiB --no-speed "$@"
 fi
 room=$(mktemp -d -p "${ROOM:-${TMPDIR:-/tmp}}")
 trap 'rm -rf "$room"' EXIT
-export DETHRUX_LIBRARY=$libraries/libdethrux.so
-export PYTHONPATH=$top/bindings/python/src PATH=$top/packaging/out:$PATH
+if ! "$top/packaging/build.sh" > /dev/null ||
+    ! PYTHON=$python "$top/bindings/python/build.sh" "$room/package"; then
+    echo 'failed: the build'
+    echo '0 passed, 1 failed'
+    exit 1
+fi
+export PYTHONPATH=$room/package PATH=$top/packaging/out:$PATH
 cd "$room" && "$python" "$here/trial.py" "$@"

@@ -134,6 +134,14 @@ def spread(raw):
     return memoryview(longer)[::2]
 
 
+def rows(raw):
+    """Return a view of every other row of two bytes of a table, or of bytes if there are none."""
+    if not raw or len(raw) % 2:
+        return spread(raw)
+    pairs = [raw[at : at + 2] + b"\xaa\xaa" for at in range(0, len(raw), 2)]
+    return memoryview(bytearray(b"".join(pairs))).cast("B", [len(raw), 2])[::2]
+
+
 def inside(raw):
     """Return a view of the middle of a longer buffer."""
     return memoryview(bytearray(b"\xaa\xaa" + raw + b"\xaa"))[2:-1]
@@ -184,19 +192,18 @@ _MEMORY, _READ = [], 0x100
 # Buffers that a call may write to.
 WRITABLE = (bytearray, lambda raw: memoryview(bytearray(raw)), inside, units, mapped_memory)
 WRITABLE += (lambda raw: (ctypes.c_ubyte * len(raw)).from_buffer_copy(raw),)
-# Buffers that nobody may write to: they are read in place.
+# Buffers that nobody may write to.
 CONSTANT = (bytes, Bytes, memoryview, inside_bytes, mapped, lambda raw: memoryview(mapped(raw)))
 CONSTANT += (lambda raw: memoryview(raw).cast("B", [len(raw), 1]) if raw else b"",)
 CONSTANT += (lambda raw: memoryview(raw) if len(raw) % 2 else memoryview(raw).cast("H"),)
-# Buffers that are not in one piece.
-IN_PIECES = (spread, lambda raw: memoryview(raw[::-1])[::-1])
-# Buffers that the functions in Python copy.
-COPIED = (*WRITABLE, *IN_PIECES)
-COPIED += (lambda raw: memoryview(bytearray(raw)).toreadonly(),)
-COPIED += (lambda raw: memoryview(mapped_memory(raw)).toreadonly(), without_object)
+# Buffers that are not in one piece: they are copied.
+IN_PIECES = (spread, rows, lambda raw: memoryview(raw[::-1])[::-1])
+# All buffers that a call reads.
+READABLE = (*CONSTANT, *WRITABLE, *IN_PIECES)
+READABLE += (lambda raw: memoryview(bytearray(raw)).toreadonly(),)
+READABLE += (lambda raw: memoryview(mapped_memory(raw)).toreadonly(), without_object)
 if sys.version_info >= (3, 12):
-    COPIED += (OwnBuffer,)
-READABLE = (*CONSTANT, *COPIED)
+    READABLE += (OwnBuffer,)
 # Buffers that a call that writes in place refuses.
 UNWRITABLE = (bytes, memoryview, mapped, spread)
 UNWRITABLE += (lambda raw: memoryview(bytearray(raw)).toreadonly(),)

@@ -1,7 +1,6 @@
 """The codecs, compared with CPython's: results, errors, streams, files and threads."""
 
 import codecs
-import ctypes
 import io
 import itertools
 import os
@@ -341,10 +340,8 @@ class Handlers(unittest.TestCase):
                         self.assertEqual(buffer, bytes(len(raw)))
                     buffer.append(0)
                 text = "a?bc?d", len(raw)
-                # With ctypes a buffer that somebody may write to is copied, and not held.
-                held = BufferError if dethrux.implementation == "c" else text
-                expected = [text, text] if change == "write" else [BufferError, held]
-                self.assertEqual(found, expected)
+                expected = text if change == "write" else BufferError
+                self.assertEqual(found, [expected] * 2)
 
     def test_buffers_in_pieces(self):
         for order, codec in CODECS.items():
@@ -480,7 +477,7 @@ class Streams(unittest.TestCase):
                 set_nomemory(start, start + 1)
                 try:
                     found = getattr(coder, method)(chunk)
-                except (MemoryError, ctypes.ArgumentError):
+                except MemoryError:
                     pass
                 finally:
                     remove_mem_hooks()

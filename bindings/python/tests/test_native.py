@@ -1,8 +1,8 @@
-"""The extension in C: what it does itself and what it leaves to Python, memory, threads."""
+"""The extension in C: kinds of str, arguments, memory, threads, interpreters."""
 
 import array
+import ast
 import codecs
-import ctypes
 import gc
 import importlib.machinery
 import importlib.util
@@ -13,26 +13,30 @@ import os
 import pickle
 import platform
 import random
-import re
 import resource
+import shutil
 import subprocess
 import sys
+import sysconfig
 import tempfile
 import threading
 import unittest
 import weakref
 from pathlib import Path
+from unittest import mock
 
 import dethrux
-from dethrux import _calls, _codecs, _implementation, _library
-from expected import CODECS, ORDERS, STDLIB, UTF8, Index, mapped, utf16
+from dethrux import _native, _types
+from expected import CODECS, ORDERS, STDLIB, mapped
 from test_calls import outcome
 
 # How many calls may not take memory: a million with DETHRUX_CALLS=1000000.
 CALLS = int(os.environ.get("DETHRUX_CALLS") or 200_000)
-PYTHON = _implementation.in_python
-C = {name: getattr(sys.modules[function.__module__], name) for name, function in PYTHON.items()}
-NATIVE = _implementation._native
+C = {name: it for name, it in vars(_native).items() if inspect.isbuiltin(it)}
+# Those that change an argument.
+IN_PLACE = {"swap_byte_order", "make_well_formed"}
+OF_STREAMS = {"feed_decoder", "feed_encoder", "finish_decoder", "finish_encoder"}
+TOP = Path(os.environ.get("DETHRUX_TOP") or Path(__file__).resolve().parents[3])
 # The shortest input for which the GIL is given up, and how much is copied and swapped at a time.
 LONG, BLOCK = 1 << 16, 1 << 14
 # A character of each kind of str, and the greatest and least ones around them.
@@ -81,14 +85,27 @@ def of_package(function):
     return entered
 
 
+def parameters(name):
+    """Return the names of the parameters of a function."""
+    return list(inspect.signature(C[name]).parameters)
+
+
 def arguments(name, raw=b"a\0b\0", text="ab", utf8=b"ab"):
     """Return arguments of the right types for a function."""
+    rest = {"byteorder": "little", "first_byteorder": "little", "second_byteorder": "big"}
+    rest |= {"state": bytearray(4), "order": 0, "chunk": raw, "at": 1, "pattern": raw}
+    rest |= {"length": 9, "count": 2, "index": 1, "second": raw, "default": "little"}
+    names = parameters(name)
     if name.startswith("feed_"):
-        return _library.State(), 0, raw, None
-    names = list(inspect.signature(PYTHON[name]).parameters)
+        return bytearray(4), 0, raw, None
+    if names[0] in rest:
+        return tuple(rest[each] for each in names)
     first = text if names[0] == "text" or name.endswith("_encode") else raw
-    first = utf8 if names[0] == "utf8" else first
-    return (first, "little") if "byteorder" in names[1:2] else (first,)
+    first = utf8 if names[0] in ("utf8", "wtf8") else first
+    if name in IN_PLACE:
+        first = raw if isinstance(raw, bytearray) else bytearray(raw)
+    more = [] if name.startswith("utf_16") else names[1:]
+    return (first, *(rest[each] for each in more if each in rest))
 
 
 class Texts(unittest.TestCase):
@@ -303,74 +320,31 @@ class Blocks(unittest.TestCase):
 
 
 class Functions(unittest.TestCase):
-    """Which function does what, and that both have the same interface."""
+    """Their names, their types, and arguments that do not fit."""
 
-    def test_all_are_there(self):
-        self.assertEqual(dethrux.implementation, "c")
-        self.assertEqual(len(PYTHON), 25)
+    def test_the_types(self):
+        """`_native.pyi` has each function, with its parameters and their defaults."""
+        path = Path(dethrux.__file__).with_name("_native.pyi")
+        declared = {}
+        for node in ast.parse(path.read_text()).body:
+            if isinstance(node, ast.FunctionDef):
+                names = [each.arg for each in node.args.args]
+                self.assertTrue(node.returns and all(each.annotation for each in node.args.args))
+                declared[node.name] = names, [*map(ast.literal_eval, node.args.defaults)]
+        found = {}
         for name, function in C.items():
-            self.assertTrue(inspect.isbuiltin(function), name)
-            self.assertIs(function, getattr(NATIVE, name))
-            self.assertFalse(inspect.isbuiltin(PYTHON[name]), name)
+            each = inspect.signature(function).parameters.values()
+            self.assertEqual({one.kind for one in each}, {inspect.Parameter.POSITIONAL_OR_KEYWORD})
+            defaults = [one.default for one in each if one.default is not inspect.Parameter.empty]
+            found[name] = [one.name for one in each], defaults
+        self.assertEqual(found, declared)
 
-    def test_the_same_interface(self):
+    def test_names(self):
         for name, function in C.items():
-            ours, theirs = (
-                [(each.name, each.kind, each.default) for each in signature.parameters.values()]
-                for signature in map(inspect.signature, (function, PYTHON[name]))
-            )
-            self.assertEqual(ours, theirs, name)
-            documentation = inspect.getdoc(PYTHON[name]).partition("\n\n")[0].replace("\n", " ")
-            self.assertEqual(inspect.getdoc(function), documentation)
-
-    def test_pickle(self):
-        for name, function in C.items():
+            self.assertEqual((function.__name__, function.__module__), (name, "dethrux._native"))
+            self.assertRegex(function.__doc__, r"^[A-Z].*[.]")
             self.assertIs(pickle.loads(pickle.dumps(function)), function)
-            self.assertEqual(function.__module__, PYTHON[name].__module__)
-
-    def test_common_calls_stay_in_c(self):
-        raws = "a", "\xe9", "\u4e00", "\U0001f600"
-        for name, text in itertools.product(C, raws):
-            raw, utf8 = text.encode("utf-16-le"), text.encode()
-            given = arguments(name, raw, text, utf8)
-            with self.subTest(name=name, text=text):
-                self.assertEqual(of_package(lambda: C[name](*given)), [])
-                parameters = list(inspect.signature(PYTHON[name]).parameters)
-                named = dict(zip(parameters, given))
-                self.assertEqual(of_package(lambda: C[name](**named)), [])
-                if "capacity" in parameters and len(given) < 4:
-                    for capacity in (0, 3, None, 2**40):
-                        self.assertEqual(of_package(lambda: C[name](*given, capacity)), [])
-                if "errors" in parameters:
-                    for errors in ("strict", "replace", "nothing"):
-                        self.assertEqual(of_package(lambda: C[name](*given, errors=errors)), [])
-        for buffer in (bytearray(b"a\0"), memoryview(b"a\0"), array.array("H", b"a\0")):
-            for name in C:
-                if not name.startswith("feed_") and "encode" not in name.split("_")[-1:]:
-                    given = arguments(name, buffer, "a", buffer)
-                    self.assertEqual(of_package(lambda: C[name](*given)), [], name)
-
-    def test_lossy_calls_stay_in_c(self):
-        for raw in (b"\0\xdc", b"a\0\0\xd8b\0", b"a\0b"):
-            self.assertEqual(
-                of_package(lambda: dethrux.decode_to_utf8(raw, "little", "replace")), []
-            )
-            self.assertEqual(
-                of_package(lambda: dethrux.encode_from_utf8(b"\xff", "little", "replace")), []
-            )
-            for name in ("to_utf8", "to_utf8_lossy", "to_utf8_partial", "validate"):
-                self.assertEqual(of_package(lambda: C[name](raw, "little")), [])
-        for raw in (b"a", b"a\0\x3d\xd8", b"a\0\x3d\xd8\0", b"\0\xdc"):
-            for errors in ("replace", "ignore", "surrogatepass", "backslashreplace"):
-                for final in (False, True):
-                    given = raw, errors, final
-                    self.assertEqual(of_package(lambda: C["utf_16_le_decode"](*given)), [])
-                self.assertEqual(of_package(lambda: dethrux.decode(raw, "big", errors)), [])
-                self.assertEqual(of_package(lambda: dethrux.decode_to_utf8(raw, "big", errors)), [])
-        for errors in ("replace", "ignore", "surrogatepass", "backslashreplace"):
-            self.assertEqual(of_package(lambda: dethrux.encode("\udc00", "big", errors)), [])
-            given = b"a\xed\xb0\x80", "big", errors
-            self.assertEqual(of_package(lambda: dethrux.encode_from_utf8(*given)), [])
+            self.assertIs(getattr(dethrux, name, function), function)
 
     def test_the_codecs_stay_in_c(self):
         text = "a\xe9\u4e00\U0001f600"
@@ -383,68 +357,113 @@ class Functions(unittest.TestCase):
             self.assertEqual(raw.decode(codec), text)
             self.assertEqual(text.encode(codec), raw)
 
-    def check_both(self, name, *given, **named):
-        """Both implementations return the same, of the same types, or raise the same."""
-
-        def call(function):
-            try:
-                return function(*given, **named)
-            except Exception as error:
-                return type(error), str(error)
-
-        found, expected = call(C[name]), call(PYTHON[name])
-        self.assertEqual(found, expected, (name, given, named))
-        self.assertIs(type(found), type(expected))
-        if isinstance(found, tuple):
-            self.assertEqual([*map(type, found)], [*map(type, expected)])
-
-    def test_both_return_the_same(self):
-        capacities = (None, 0, 1, 2, 3, 4, 7, 1000, True, Index(3), 2**63, -1, -(2**70), "1", 1.5)
-        handlers = ("strict", "replace", "ignore", "surrogatepass", "surrogateescape", "", 5, None)
-        for name in C:
-            parameters = list(inspect.signature(PYTHON[name]).parameters)
-            if name.startswith("feed_") or name.endswith("encode") or parameters[0] == "text":
-                continue
-            for order in (*ORDERS, "middle", 5):
-                raws = UTF8 if parameters[0] == "utf8" else utf16("little") + utf16("big")
-                for raw in (*raws, *(bytearray(raw) for raw in raws), "a", None):
-                    given = (raw, order) if "byteorder" in parameters else (raw,)
-                    extra = {"capacity": capacities, "errors": handlers}.get(parameters[-1], ())
-                    self.check_both(name, *given)
-                    if raw in (raws[5], raws[8]):
-                        for each in extra:
-                            self.check_both(name, *given, each)
+    def assert_wrong(self, message, name, *given, **named):
+        with self.assertRaisesRegex(TypeError, rf"^{name}\(\) {message}$"):
+            C[name](*given, **named)
 
     def test_wrong_arguments(self):
         for name in C:
-            if name.startswith("feed_"):
-                continue
-            given = arguments(name)
-            self.check_both(name)
-            self.check_both(name, *given, *(None,) * 5)
-            extra = len(inspect.signature(PYTHON[name]).parameters) + 1 - len(given)
-            self.check_both(name, *given, *(None,) * extra)
-            self.check_both(name, *given, other=5)
-            first = next(iter(inspect.signature(PYTHON[name]).parameters))
-            self.check_both(name, *given, **{first: given[0]})
-            self.check_both(name, **{first: given[0]})
-        for final in (0, 1, [], "a", 1.5, None):
-            self.check_both("utf_16_le_decode", b"a\0b", "replace", final)
-            self.check_both("utf_16_le_decode", b"a\0b", final=final)
-        for order in (-1, 0, 1, True, 5):
-            self.check_both("utf_16_encode", "a", "strict", order)
-        for wrong in (b"a", None, 5):
-            self.check_both("encode", wrong, "little")
-            self.check_both("utf_16_le_encode", wrong)
-            self.check_both("utf_16_encode", wrong)
+            names, given = parameters(name), arguments(name)
+            count = len(names)
+            message = rf"takes at most {count} arguments \({count + 1} given\)"
+            self.assert_wrong(message, name, *given, *(None,) * (count + 1 - len(given)))
+            self.assert_wrong(f"missing required argument '{names[0]}' \\(pos 1\\)", name)
+            message = "got an unexpected keyword argument 'other'"
+            self.assert_wrong(message, name, *given, other=5)
+            message = f"got multiple values for argument '{names[0]}'"
+            self.assert_wrong(message, name, *given, **{names[0]: given[0]})
+            required = [
+                each.name
+                for each in inspect.signature(C[name]).parameters.values()
+                if each.default is inspect.Parameter.empty
+            ]
+            for at, missing in enumerate(required):
+                named = dict(zip(required, given))
+                del named[missing]
+                message = rf"missing required argument '{missing}' \(pos {at + 1}\)"
+                self.assert_wrong(message, name, **named)
 
-    def test_final_that_has_no_truth(self):
+    def test_each_parameter_is_a_keyword(self):
+        for name in C:
+            given = arguments(name)
+            named = dict(zip(parameters(name), arguments(name)))
+            self.assertEqual(outcome(lambda: C[name](**named)), outcome(C[name], *given), name)
+            last = named.popitem()
+            found = outcome(lambda: C[name](*arguments(name)[:-1], **dict([last])))
+            self.assertEqual(found, outcome(C[name], *arguments(name)), name)
+
+    def test_states(self):
+        for name in ("feed_decoder", "feed_encoder", "finish_decoder", "finish_encoder"):
+            rest = arguments(name)[1:]
+            for wrong in (bytearray(3), bytearray(5), array.array("H", [0] * 3)):
+                with self.assertRaisesRegex(ValueError, "^a state has four bytes$"):
+                    C[name](wrong, *rest)
+            for wrong in (b"\0" * 4, None, "abcd"):
+                with self.assertRaises((TypeError, BufferError)):
+                    C[name](wrong, *rest)
+            # A length above three is three.
+            state = bytearray(b"abc\xff")
+            output = C[name](state, *rest)
+            output = output if isinstance(output, bytes) else output.output
+            self.assertGreater(len(output), 0)
+            self.assertLess(state[3], 4)
+
+    def test_final_is_a_truth(self):
         class Unknown:
             def __bool__(self):
                 raise KeyError("unknown")
 
+        for name in ("utf_16_le_decode", "utf_16_be_decode"):
+            for final in (0, 1, [], "a", 1.5, None):
+                expected = outcome(getattr(codecs, name), b"a\0b", "replace", bool(final))
+                self.assertEqual(outcome(C[name], b"a\0b", "replace", final), expected)
+                self.assertEqual(C[name](b"a\0b", "replace", final=final), expected)
+            with self.assertRaises(KeyError):
+                C[name](b"a\0", "strict", Unknown())
         with self.assertRaises(KeyError):
-            C["utf_16_le_decode"](b"a\0", "strict", Unknown())
+            C["utf_16_ex_decode"](b"a\0", "strict", 0, Unknown())
+
+    def test_byte_orders_of_the_codecs(self):
+        for order, final in itertools.product((-1, 0, 1, True), (False, True)):
+            for raw in (b"", b"a", b"\xff\xfea\0b", b"\xfe\xff\0a\xd8", b"a\0\0a", b"\0\xdc"):
+                for errors in ("strict", "replace", None):
+                    given = raw, errors, order, final
+                    expected = outcome(codecs.utf_16_ex_decode, *given)
+                    self.assertEqual(outcome(C["utf_16_ex_decode"], *given), expected)
+            expected = codecs.utf_16_encode("a\xe9", "strict", order)
+            self.assertEqual(C["utf_16_encode"]("a\xe9", "strict", order), expected)
+        for wrong in ("a", 1.5, 1 << 99):
+            with self.assertRaises((TypeError, OverflowError)):
+                C["utf_16_ex_decode"](b"a\0", None, wrong)
+            with self.assertRaises((TypeError, OverflowError)):
+                C["utf_16_encode"]("a", None, wrong)
+
+    def test_names_of_handlers_that_are_no_str(self):
+        """They are an error also for well-formed input; None is `strict` for the codecs."""
+        for name in ("decode", "decode_to_utf8", "encode", "encode_from_utf8"):
+            for wrong in (5, b"strict", ["a"]):
+                with self.assertRaises(TypeError):
+                    C[name](*arguments(name), wrong)
+            for wrong in ("ignore\0", "\ud800"):
+                with self.assertRaises(ValueError):
+                    C[name](*arguments(name), wrong)
+            self.assertEqual(C[name](*arguments(name), None), C[name](*arguments(name)))
+            self.assertEqual(C[name](*arguments(name), "not known"), C[name](*arguments(name)))
+
+            class Name(str):
+                pass
+
+            wrong = arguments(name, b"a\0\0\xdc", "a\udc00", b"a\xff")
+            for errors in ("replace", "surrogatepass", "not known", "strict"):
+                expected = self.outcome_of_name(C[name], wrong, errors)
+                self.assertEqual(self.outcome_of_name(C[name], wrong, Name(errors)), expected)
+
+    @staticmethod
+    def outcome_of_name(function, given, errors):
+        try:
+            return outcome(function, *given, errors)
+        except LookupError as error:
+            return str(error)
 
     def test_the_numbers_of_small_buffers(self):
         """Around the capacity that goes through the stack."""
@@ -455,8 +474,15 @@ class Functions(unittest.TestCase):
                 self.assertEqual(dethrux.to_utf8(raw, "big"), (utf8, len(raw), 0, 0))
                 self.assertEqual(dethrux.encode_from_utf8(utf8, "big"), raw)
                 for capacity in (0, 3, 1023, 1024, 1025):
-                    self.check_both("to_utf8", raw, "big", capacity)
-                    self.check_both("from_utf8", utf8, "big", capacity)
+                    found = dethrux.to_utf8(raw, "big", capacity)
+                    chars = min(capacity // len(text[0].encode()), length)
+                    status = dethrux.Status.DONE if chars == length else dethrux.Status.NO_SPACE
+                    self.assertEqual(found, (text[:chars].encode(), 2 * chars, status, 0))
+                    found = dethrux.from_utf8(utf8, "big", capacity)
+                    chars = min(capacity // 2, length)
+                    status = dethrux.Status.DONE if chars == length else dethrux.Status.NO_SPACE
+                    read = len(text[:chars].encode())
+                    self.assertEqual(found, (raw[: 2 * chars], read, status, 0))
 
 
 class Buffers(unittest.TestCase):
@@ -541,8 +567,7 @@ class Buffers(unittest.TestCase):
             self.assertLess(peak, room + BLOCK + 4096, name)
 
 
-# A library whose calls tell whether the thread has the GIL, and need no proof. The other calls of
-# the header do nothing.
+# A library whose calls tell whether the thread has the GIL, and need no proof.
 TELLS_GIL = r"""
 #include "dethrux.h"
 int PyGILState_Check(void);
@@ -556,44 +581,55 @@ static dethrux_progress p(size_t len, size_t capacity) {
     dethrux_progress done = {len, capacity, DETHRUX_DONE, 0};
     return done;
 }
-uint32_t dethrux_version(void) { return DETHRUX_VERSION; }
 dethrux_validity dethrux_validate(P) { HELD; dethrux_validity v = {len, 0, 0}; return v; }
-size_t dethrux_count_chars(P) { HELD; return len; }
+#define SIZE(name) size_t dethrux_##name(P) { HELD; return len; }
+SIZE(count_chars) SIZE(to_utf8_lossy_len) SIZE(to_wtf8_len)
 bool dethrux_is_ascii(P) { HELD; return len; }
-size_t dethrux_to_utf8_lossy_len(P) { HELD; return len; }
 size_t dethrux_from_utf8_len(const uint8_t *b, size_t len) { HELD; return len; }
 size_t dethrux_from_utf8_lossy_len(const uint8_t *b, size_t len) { HELD; return len; }
-dethrux_progress dethrux_to_utf8(P, TO) { return p(len, capacity); }
-dethrux_progress dethrux_to_utf8_lossy(P, TO) { return p(len, capacity); }
-dethrux_progress dethrux_to_utf8_partial(P, TO) { return p(len, capacity); }
-dethrux_progress dethrux_from_utf8(P, TO) { return p(len, capacity); }
-dethrux_progress dethrux_from_utf8_lossy(P, TO) { return p(len, capacity); }
+#define PROGRESS(name) dethrux_progress dethrux_##name(P, TO) { return p(len, capacity); }
+PROGRESS(to_utf8) PROGRESS(to_utf8_lossy) PROGRESS(to_utf8_partial)
+PROGRESS(from_utf8) PROGRESS(from_utf8_lossy) PROGRESS(to_latin1) PROGRESS(from_latin1)
+PROGRESS(to_wtf8) PROGRESS(to_wtf8_partial) PROGRESS(from_wtf8) PROGRESS(from_wtf8_partial)
 dethrux_progress dethrux_decoder_feed(dethrux_decoder *d, P, TO) { return p(len, capacity); }
 dethrux_progress dethrux_encoder_feed(dethrux_encoder *d, P, TO) { return p(len, capacity); }
+dethrux_progress dethrux_decoder_finish(dethrux_decoder *d, TO) { return p(0, 0); }
+dethrux_progress dethrux_encoder_finish(dethrux_encoder *d, dethrux_byte_order o, TO) {
+    return p(0, 0);
+}
 dethrux_inspection dethrux_inspect(P) {
     HELD;
     dethrux_inspection found = {len, len / 2, (dethrux_repertoire) repertoire, DETHRUX_DONE, 0};
     return found;
 }
-dethrux_progress dethrux_to_latin1(P, TO) { return p(len, capacity); }
-dethrux_progress dethrux_from_latin1(P, TO) { return p(len, capacity); }
-dethrux_progress dethrux_to_utf32(dethrux_byte_order order, const uint8_t *utf16, size_t len,
-                                  uint32_t *to, size_t capacity) { return p(len, capacity); }
+dethrux_progress dethrux_to_utf32(P, uint32_t *to, size_t capacity) { return p(len, capacity); }
+dethrux_progress dethrux_to_utf32_lossy(P, uint32_t *to, size_t capacity) { return p(len, 0); }
 dethrux_progress dethrux_from_utf32(dethrux_byte_order order, const uint32_t *utf32, size_t len,
                                     TO) { return p(len, capacity); }
 size_t dethrux_from_utf32_lossy_len(const uint32_t *u, size_t len) { HELD; return 4 * len; }
 void dethrux_swap_byte_order(uint8_t *utf16, size_t len) { HELD; }
+size_t dethrux_make_well_formed(dethrux_byte_order o, uint8_t *b, size_t len) { HELD; return len; }
 dethrux_bom dethrux_detect_bom(P) { dethrux_bom bom = {0, order, DETHRUX_BOM_ABSENT}; return bom; }
-#define NONE(name) void none_##name(void) __asm__("dethrux_" #name); void none_##name(void) {}
+bool dethrux_is_char_boundary(P, size_t at) { HELD; return at; }
+size_t dethrux_floor_char_boundary(P, size_t at) { HELD; return at; }
+uint64_t dethrux_floor_char_boundary_around(P, uint64_t at) { HELD; return at; }
+uint64_t dethrux_shard_offset(uint64_t len, uint64_t count, uint64_t index) { HELD; return len; }
+int32_t dethrux_compare(P, dethrux_byte_order o, const uint8_t *b, size_t n) { HELD; return 0; }
+size_t dethrux_find(P, const uint8_t *pattern, size_t n) { HELD; return 0; }
+size_t dethrux_rfind(P, const uint8_t *pattern, size_t n) { HELD; return 0; }
 """
 # Prints each call that does not give up the GIL if it should, or gives it up if it should not.
 ASKS_GIL = r"""
 import ctypes, sys
-sys.path.insert(0, sys.argv[1])
 import dethrux
-from test_native import C, LONG, arguments, mapped
-library = dethrux._library._library
+sys.path.insert(0, sys.argv[1])
+from test_native import C, IN_PLACE, LONG, arguments, mapped
+library = ctypes.CDLL(dethrux._native.__file__)
 held, repertoire = (ctypes.c_int.in_dll(library, it) for it in ("held", "repertoire"))
+# Calls that read a few bytes, and those that make no call of the library that tells.
+SHORT = {"is_char_boundary", "floor_char_boundary", "floor_char_boundary_around", "shard_offset"}
+SHORT |= {"finish_decoder", "finish_encoder"}
+TELL = set(C) - {"detect_bom", "order_number"}
 count = 0
 
 def check(is_given_up, name, *given):
@@ -607,16 +643,31 @@ def check(is_given_up, name, *given):
 for size in (2, LONG - 2, LONG):
     raw = b"a\0" * (size // 2)
     constant = [raw, memoryview(raw), memoryview(raw)[:], mapped(raw), memoryview(mapped(raw))]
-    constant += [memoryview(raw).cast("H")]
+    constant += [memoryview(raw).cast("H"), memoryview(raw * 2)[::2]]
+    # A copy of a buffer in pieces is nobody else's.
+    constant += [memoryview(bytearray(raw) * 2)[::2]]
     writable = [bytearray(raw), memoryview(bytearray(raw)).toreadonly()]
     writable += [memoryview(bytearray(raw)), memoryview(memoryview(bytearray(raw)).toreadonly())]
     buffers = [(each, size >= LONG) for each in constant] + [(each, False) for each in writable]
     for kind in range(4):
         repertoire.value = kind
-        for (buffer, is_given_up), name in ((buffer, name) for buffer in buffers for name in C):
+        for (buffer, is_given_up), name in ((buffer, name) for buffer in buffers for name in TELL):
             if not name.endswith("encode"):
+                is_given_up = is_given_up and name not in SHORT
+                is_given_up = size >= LONG if name in IN_PLACE else is_given_up
                 check(is_given_up, name, *arguments(name, buffer, "", buffer))
         check(size >= LONG, "decode", raw, "big")
+    for one, other in ((raw, b"a\0"), (b"a\0", raw)):
+        for first, second, is_constant in (
+            (one, other, True),
+            (memoryview(one), mapped(other), True),
+            (bytearray(one), other, False),
+            (one, memoryview(bytearray(other)), False),
+        ):
+            is_given_up = size >= LONG and is_constant
+            check(is_given_up, "compare", first, "little", second, "big")
+            check(is_given_up, "find", first, second, "little")
+            check(is_given_up, "rfind", first, second, "big")
     repertoire.value = 2
     for char, width in (("a", 1), ("\u4e00", 2), ("\U0001f600", 4)):
         text = char * (size // width)
@@ -631,18 +682,23 @@ print(count)
 class Gil(unittest.TestCase):
     def test_who_gives_it_up(self):
         """All calls for a long input that nobody can write to, and no other ones."""
-        top = Path(os.environ.get("DETHRUX_TOP") or Path(__file__).resolve().parents[3])
-        header = (top / "include/dethrux.h").read_text()
-        names = re.findall(r"^(?:DETHRUX_NODISCARD )?\w+ dethrux_(\w+)\(", header, re.MULTILINE)
-        others = [name for name in names if f" dethrux_{name}(" not in TELLS_GIL]
-        program = TELLS_GIL + "".join(f"NONE({name})\n" for name in others)
         with tempfile.TemporaryDirectory() as folder:
-            library = Path(folder) / "libtells.so"
-            words = ["cc", "-shared", "-fPIC", "-w", "-x", "c", "-I", str(top / "include"), "-"]
-            subprocess.run([*words, "-o", str(library)], input=program.encode(), check=True)
+            package = Path(folder) / "dethrux"
+            ignored = shutil.ignore_patterns("*.so", "__pycache__")
+            shutil.copytree(Path(dethrux.__file__).parent, package, ignore=ignored)
+            # examples/slips plants a wrong line next to the package.
+            sources = Path(dethrux.__file__).parent
+            if not sources.joinpath("_native.c").is_file():
+                sources = TOP / "bindings" / "python" / "src" / "dethrux"
+            library = Path(folder) / "tells.c"
+            library.write_text(TELLS_GIL)
+            words = ["cc", "-std=c11", "-shared", "-fPIC", "-w", f"-I{TOP / 'include'}"]
+            words += [f"-I{sysconfig.get_path('include')}", str(sources / "_native.c")]
+            made = package / f"_native{sysconfig.get_config_var('EXT_SUFFIX')}"
+            subprocess.run([*words, str(library), "-o", str(made)], check=True)
             run = subprocess.run(
                 [sys.executable, "-B", "-c", ASKS_GIL, str(Path(__file__).parent)],
-                env={**os.environ, "DETHRUX_LIBRARY": str(library)},
+                env={**os.environ, "PYTHONPATH": folder},
                 stdout=subprocess.PIPE,
                 check=True,
                 text=True,
@@ -656,7 +712,7 @@ class Memory(unittest.TestCase):
     """References, leaks and failures of allocations."""
 
     def calls(self):
-        """Return calls of each function that succeed, that are left to Python, and that fail."""
+        """Return calls of each function that succeed, and that fail."""
         found = []
         texts = ["", "ab", "\xe9", "\u4e00" * 400, "\U0001f600", "\ud800", "a" * LONG]
         # Each block of these needs a wider str than the one before.
@@ -667,8 +723,17 @@ class Memory(unittest.TestCase):
                 utf8 = text.encode("utf-8", "surrogatepass")
                 found.append((C[name], arguments(name, raw, text, utf8)))
             found.append((C[name], arguments(name, bytearray(raws[1]), "a", memoryview(b"ab"))))
-            found.append((C[name], (None, None)))
-            if "errors" in inspect.signature(PYTHON[name]).parameters:
+            spread = memoryview(bytearray(raws[1] * 2))[::2]
+            found.append((C[name], arguments(name, spread, "a", memoryview(b"a.b.")[::2])))
+            found.append((C[name], (None,) * len(parameters(name))))
+            if name not in IN_PLACE | OF_STREAMS:
+                found.append((C[name], arguments(name, memoryview(b""), "", memoryview(b""))))
+            for last in (-1, 5, 1 << 70, "no"):
+                if parameters(name)[-1] in ("capacity", "at", "index", "byteorder"):
+                    given = dict(zip(parameters(name), arguments(name)))
+                    given[parameters(name)[-1]] = last
+                    found.append((C[name], tuple(given.values())))
+            if "errors" in parameters(name):
                 for errors in ("replace", "ignore", "surrogatepass", "backslashreplace"):
                     wrong = "a\udc00b\ud800", b"a\0\0\xdc\0\xd8", b"a\xff\xed\xa0\x80"
                     given = arguments(name, wrong[1], wrong[0], wrong[2])
@@ -685,11 +750,14 @@ class Memory(unittest.TestCase):
     def run_call(function, given):
         try:
             return function(*given)
-        except (UnicodeError, TypeError, ValueError, LookupError) as error:
+        except (ValueError, TypeError, LookupError, OverflowError) as error:
             return type(error)
 
     def setUp(self):
         codecs.register_error("dethrux.test.wide", lambda error: ("\U0001f600" * 9, error.end))
+        # What is there is not searched for cycles again and again.
+        gc.freeze()
+        self.addCleanup(gc.unfreeze)
 
     def test_references(self):
         singletons = [None, True, False, NotImplemented, "", b"", (), "a", b"a", "strict", 0, 1, 2]
@@ -795,7 +863,7 @@ class Memory(unittest.TestCase):
             self.fail(f"there is no _testcapi: apt-get install {STDLIB}")
         for function, given in self.calls():
             expected = self.run_call(function, given)
-            if isinstance(expected, type) or isinstance(given[0], _library.State):
+            if isinstance(expected, type) or function.__name__ in IN_PLACE | OF_STREAMS:
                 continue
             # The counters below are small integers, which Python has once: their counts change.
             owned = [each for each in given if not isinstance(each, int)]
@@ -895,17 +963,12 @@ class Threads(unittest.TestCase):
 
 class Interpreters(unittest.TestCase):
     SCRIPT = (
-        "import sys\n"
-        "try:\n"
-        "    import dethrux\n"
-        "except ImportError as error:\n"
-        "    assert 'interpreter' in str(error), error\n"
-        "else:\n"
-        "    assert dethrux.decode(b'a\\0', 'little') == 'a'\n"
-        "    assert 'a'.encode('dethrux-utf-16-be') == b'\\0a'\n"
-        "    found = dethrux.validate(b'\\0\\xdc', 'little')\n"
-        "    assert type(found) is dethrux.Validity and found.status is dethrux.Status.ILL_FORMED\n"
-        "    assert dethrux.decode(b'\\0\\xdc', 'little', 'replace') == '\\ufffd'\n"
+        "import dethrux\n"
+        "assert dethrux.decode(b'a\\0', 'little') == 'a'\n"
+        "assert 'a'.encode('dethrux-utf-16-be') == b'\\0a'\n"
+        "found = dethrux.validate(b'\\0\\xdc', 'little')\n"
+        "assert type(found) is dethrux.Validity and found.status is dethrux.Status.ILL_FORMED\n"
+        "assert dethrux.decode(b'\\0\\xdc', 'little', 'replace') == '\\ufffd'\n"
     )
 
     def test_each_has_its_own(self):
@@ -931,91 +994,94 @@ class Interpreters(unittest.TestCase):
 
     def other(self):
         """Return another module of the same extension."""
-        loader = importlib.machinery.ExtensionFileLoader("dethrux._native", NATIVE.__file__)
+        loader = importlib.machinery.ExtensionFileLoader("dethrux._native", _native.__file__)
         spec = importlib.util.spec_from_loader("dethrux._native", loader)
         module = importlib.util.module_from_spec(spec)
         loader.exec_module(module)
         return module
 
-    def test_a_module_that_is_not_set_up(self):
-        other = self.other()
-        for name in C:
-            with self.assertRaisesRegex(RuntimeError, r"^import dethrux instead of"):
-                getattr(other, name)(*arguments(name))
-        self.assertIs(other.take(PYTHON["validate"]), PYTHON["validate"])
-        self.assertEqual(dethrux.decode(b"a\0", "little"), "a")
-
-    def test_set_up(self):
-        handle, types = _library.handle(), (dethrux.Validity, dethrux.Progress)
-        for wrong in ((), (handle, *types), (handle, *types, []), ("1", *types, ())):
-            with self.assertRaises(TypeError):
-                self.other().set_up(*wrong)
-        with self.assertRaisesRegex(ImportError, "^the library has no dethrux_inspect$"):
-            self.other().set_up(ctypes.CDLL(None)._handle, *types, ())
+    def test_references(self):
+        """A module keeps the types of the results and the handlers, and lets go of them."""
+        statuses = tuple(dethrux.Status)
+        kept = [dethrux.Validity, dethrux.Progress, dethrux.Bom, statuses[0], codecs.lookup_error]
+        kept += [codecs.replace_errors, codecs.ignore_errors, codecs.backslashreplace_errors]
+        kept += [codecs.lookup_error("surrogatepass"), tuple(dethrux.BomStatus)[0]]
         gc.collect()
-        handlers = [codecs.lookup_error, codecs.replace_errors, codecs.ignore_errors]
-        handlers += [codecs.backslashreplace_errors, codecs.lookup_error("surrogatepass")]
-        counts = list(map(sys.getrefcount, handlers))
-        other = self.other()
-        other.set_up(handle, *types, tuple(dethrux.Status))
-        other.set_up(handle, *types, tuple(dethrux.Status))
-        kept = (*types, tuple(dethrux.Status), PYTHON["validate"])
-        other.take(kept[-1])
         before = [sys.getrefcount(each) for each in kept]
-        for _ in range(10):
-            other.set_up(handle, *kept[:3])
-            other.take(kept[-1])
-        after = [sys.getrefcount(each) for each in kept]
-        self.assertEqual([after[0], after[1], after[3]], [before[0], before[1], before[3]])
-        self.assertEqual(after[2], before[2] + 1)
-        self.assertEqual(list(map(sys.getrefcount, handlers)), [each + 1 for each in counts])
-        self.assertIs(other.take(len), len)
-        with self.assertRaises(AttributeError):
-            other.take(5)
-        self.assertIs(other.take(PYTHON["validate"]), other.validate)
-        self.assertEqual(other.validate(b"a", "little"), (0, 2, 0))
-        del other
-        gc.collect()
-        gone = [sys.getrefcount(each) for each in kept]
-        # The module has let go of what it kept; the tuple of statuses was another one before.
-        self.assertEqual(gone, [before[0] - 1, before[1] - 1, before[2], before[3] - 1])
-        self.assertEqual(list(map(sys.getrefcount, handlers)), counts)
+        for _ in range(3):
+            others = [self.other() for _ in range(5)]
+            self.assertEqual(others[-1].validate(b"a", "little"), (0, 2, 0))
+            self.assertEqual([sys.getrefcount(each) - 5 for each in kept], before)
+            del others
+            gc.collect()
+            self.assertEqual([sys.getrefcount(each) for each in kept], before)
+        self.assertEqual(dethrux.decode(b"a\0", "little"), "a")
 
     def test_a_module_in_a_cycle(self):
         """A module is collected together with what it keeps, if that refers to the module."""
-        for place in range(4):
-            other = self.other()
 
-            class Kept:
-                pass
+        class Members(list):
+            pass
 
-            def validate():
-                pass
+        class Member:
+            pass
 
-            types = [type("Type", (), {}) for _ in range(2)]
-            kept = (*types, Kept(), validate)
-            other.set_up(_library.handle(), *types, (kept[2],))
-            other.take(validate)
-            kept[place].module = other
-            gone = weakref.ref(kept[place])
-            del other, types, kept, validate
+        for name in ("Validity", "Progress", "Bom", "Status", "BomStatus"):
+            kept = Member()
+            fake = Members([kept]) if name.endswith("Status") else type("Type", (), {"it": kept})
+            with mock.patch.object(_types, name, fake):
+                other = self.other()
+            kept.module = other
+            gone = weakref.ref(kept)
+            del other, kept, fake
             gc.collect()
-            self.assertIsNone(gone(), place)
+            self.assertIsNone(gone(), name)
+
+    def test_handlers_in_a_cycle(self):
+        class Handler:
+            def __call__(self, error):
+                return "", error.end
+
+        names = "lookup_error", "replace_errors", "ignore_errors", "backslashreplace_errors"
+        for name in names:
+            kept = Handler()
+            with mock.patch.object(codecs, name, kept):
+                other = self.other()
+            kept.module = other
+            gone = weakref.ref(kept)
+            del other, kept
+            gc.collect()
+            self.assertIsNone(gone(), name)
+
+    def test_a_module_that_cannot_be_made(self):
+        """Without what it keeps, or without memory, there is no module and no crash."""
+        for place, name in (
+            *((_types, name) for name in ("Validity", "Progress", "Bom", "Status", "BomStatus")),
+            (codecs, "lookup_error"),
+            (codecs, "backslashreplace_errors"),
+        ):
+            with mock.patch.object(place, name):
+                delattr(place, name)
+                with self.assertRaises(AttributeError):
+                    self.other()
+        for name in ("Status", "BomStatus"):
+            with mock.patch.object(_types, name, 5), self.assertRaises(TypeError):
+                self.other()
+        for name in ("dethrux._types", "codecs"):
+            with mock.patch.dict(sys.modules, {name: None}), self.assertRaises(ImportError):
+                self.other()
 
     def test_another_handler_under_the_name_surrogatepass(self):
-        """Only CPython's is known, and a module may be set up when another one is there."""
+        """Only CPython's is known, and a module may be made when another one is there."""
         self.addCleanup(
             codecs.register_error, "surrogatepass", codecs.lookup_error("surrogatepass")
         )
         for handler in (codecs.strict_errors, lambda error: codecs.strict_errors(error)):
             codecs.register_error("surrogatepass", handler)
             other = self.other()
-            types = dethrux.Validity, dethrux.Progress, tuple(dethrux.Status)
-            other.set_up(_library.handle(), *types)
-            decode = other.take(PYTHON["decode_to_utf8"])
             for errors in ("surrogatepass", "strict"):
                 with self.assertRaises(UnicodeDecodeError):
-                    decode(b"a\0\0\xdc", "little", errors)
+                    other.decode_to_utf8(b"a\0\0\xdc", "little", errors)
 
 
 if __name__ == "__main__":

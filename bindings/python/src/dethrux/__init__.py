@@ -9,18 +9,17 @@ Lengths, offsets and capacities count bytes.
 
 import codecs
 
-from ._calls import (
-    Bom,
-    BomStatus,
-    ByteOrder,
-    Decoder,
-    Progress,
-    Status,
-    Encoder,
-    Validity,
+# This comes first, since it chooses the extension.
+from . import _load
+from ._codecs import search
+from ._native import (
     compare,
     count_chars,
+    decode,
+    decode_to_utf8,
     detect_bom,
+    encode,
+    encode_from_utf8,
     find,
     floor_char_boundary,
     floor_char_boundary_around,
@@ -28,6 +27,8 @@ from ._calls import (
     from_utf8_len,
     from_utf8_lossy,
     from_utf8_lossy_len,
+    from_wtf8,
+    from_wtf8_partial,
     is_ascii,
     is_char_boundary,
     make_well_formed,
@@ -38,20 +39,15 @@ from ._calls import (
     to_utf8_lossy,
     to_utf8_lossy_len,
     to_utf8_partial,
-    validate,
-)
-from ._codecs import decode, decode_to_utf8, encode, encode_from_utf8, search
-from ._implementation import implementation
-from ._version import __version__
-from ._wtf8 import (
-    decode_to_wtf8,
-    encode_from_wtf8,
-    from_wtf8,
-    from_wtf8_partial,
     to_wtf8,
     to_wtf8_len,
     to_wtf8_partial,
+    validate,
 )
+from ._streams import Decoder, Encoder
+from ._types import Bom, BomStatus, ByteOrder, Progress, Status, Validity
+from ._version import __version__
+from ._wtf8 import decode_to_wtf8, encode_from_wtf8
 
 __all__ = [
     "Bom",
@@ -81,7 +77,6 @@ __all__ = [
     "from_utf8_lossy_len",
     "from_wtf8",
     "from_wtf8_partial",
-    "implementation",
     "is_ascii",
     "is_char_boundary",
     "make_well_formed",

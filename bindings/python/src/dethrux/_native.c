@@ -1,23 +1,21 @@
 /* SPDX-License-Identifier: MIT OR Apache-2.0 */
 
 /*
- * The functions of the package that programs call most, in C over the calls of the library.
- *
- * For an argument of another type, a buffer in pieces and the like, each calls the function in
- * Python of the same name with the same arguments, which then returns or raises. `take` hands it
- * over.
+ * The functions of the package, in C over the calls of the library, which is linked in.
  */
 #include "_native.h"
+#include "_native_places.h"
 #include "_native_text.h"
 
-#include <dlfcn.h>
-
 /* Each function of the module, how many arguments it requires, its parameters, and its
- * documentation. */
+ * documentation. `_native.pyi` has their types. */
 #define EACH_FUNCTION(X) \
     X(validate, 2, UTF16, "utf16, byteorder", \
       "Return the length of the longest well-formed prefix, and what follows it.") \
-    X(count_chars, 2, UTF16, "utf16, byteorder", "Return the number of characters.") \
+    X(count_chars, 2, UTF16, "utf16, byteorder", \
+      "Return the number of characters.\n\n" \
+      "For ill-formed input: the number of complete code units that are not\n" \
+      "trailing surrogates.") \
     X(is_ascii, 2, UTF16, "utf16, byteorder", \
       "Return whether the bytes are UTF-16 whose characters are all ASCII.") \
     X(to_utf8_lossy_len, 2, UTF16, "utf16, byteorder", \
@@ -27,32 +25,103 @@
     X(from_utf8_lossy_len, 1, UTF8, "utf8", \
       "Return the length of what ``from_utf8_lossy`` returns for the whole input.") \
     X(to_utf8, 2, UTF16_CAPACITY, "utf16, byteorder, capacity=None", \
-      "Convert UTF-16 to UTF-8, up to the first ill-formed sequence.") \
+      "Convert UTF-16 to UTF-8, up to the first ill-formed sequence.\n\n" \
+      "With a capacity, write at most this many bytes: the status is\n" \
+      "``Status.NO_SPACE`` if the next character does not fit.") \
     X(to_utf8_lossy, 2, UTF16_CAPACITY, "utf16, byteorder, capacity=None", \
-      "Convert UTF-16 to UTF-8, with U+FFFD for each unpaired surrogate.") \
+      "Convert UTF-16 to UTF-8, with U+FFFD for each unpaired surrogate.\n\n" \
+      "An incomplete character at the end is also replaced.") \
     X(to_utf8_partial, 2, UTF16_CAPACITY, "utf16, byteorder, capacity=None", \
-      "Convert a chunk like ``to_utf8_lossy``, but leave an incomplete character unread.") \
+      "Convert a chunk like ``to_utf8_lossy``, but leave an incomplete character unread.\n\n" \
+      "The status is then ``Status.INCOMPLETE``, and the at most three bytes after\n" \
+      "those that were read belong before the next chunk.") \
     X(from_utf8, 2, UTF8_CAPACITY, "utf8, byteorder, capacity=None", \
       "Convert UTF-8 to UTF-16, up to the first ill-formed sequence.") \
     X(from_utf8_lossy, 2, UTF8_CAPACITY, "utf8, byteorder, capacity=None", \
-      "Convert UTF-8 to UTF-16, with U+FFFD for each ill-formed sequence.") \
+      "Convert UTF-8 to UTF-16, with U+FFFD for each ill-formed sequence.\n\n" \
+      "That is each maximal subpart of an ill-formed subsequence, as in\n" \
+      "``bytes.decode(\"utf-8\", \"replace\")``.") \
+    X(to_wtf8, 2, UTF16_CAPACITY, "utf16, byteorder, capacity=None", \
+      "Convert all code units of UTF-16 to WTF-8, which keeps unpaired surrogates.\n\n" \
+      "With ``Status.INCOMPLETE`` an odd byte at the end is not read.") \
+    X(to_wtf8_partial, 2, UTF16_CAPACITY, "utf16, byteorder, capacity=None", \
+      "Convert a chunk like ``to_wtf8``, but leave a leading surrogate at the end unread.\n\n" \
+      "The status is then ``Status.INCOMPLETE``, and the at most three bytes after\n" \
+      "those that were read belong before the next chunk.") \
+    X(to_wtf8_len, 2, UTF16, "utf16, byteorder", \
+      "Return the length of what ``to_wtf8`` returns for the whole input.") \
+    X(from_wtf8, 2, WTF8_CAPACITY, "wtf8, byteorder, capacity=None", \
+      "Convert WTF-8 to UTF-16, up to the first ill-formed sequence.\n\n" \
+      "A trailing surrogate directly after a leading one is ill formed: the WTF-8\n" \
+      "of a pair is the four bytes of its character.") \
+    X(from_wtf8_partial, 2, WTF8_CAPACITY, "wtf8, byteorder, capacity=None", \
+      "Convert a chunk like ``from_wtf8``, but leave what more bytes could change unread.\n\n" \
+      "The status is then ``Status.INCOMPLETE``, and the at most six bytes after\n" \
+      "those that were read belong before the next chunk.") \
+    X(is_char_boundary, 3, UTF16_AT, "utf16, byteorder, at", \
+      "Return whether the text may be cut at this offset.\n\n" \
+      "That is the length, or a smaller even offset that is neither inside a\n" \
+      "surrogate pair nor between a leading surrogate and a single byte at the end.") \
+    X(floor_char_boundary, 3, UTF16_AT, "utf16, byteorder, at", \
+      "Return the greatest boundary between characters at or before this offset.") \
+    X(floor_char_boundary_around, 3, AROUND, "around, byteorder, at", \
+      "Return the greatest boundary at or before an offset of a file, from the bytes around it." \
+      "\n\nThey are the file's bytes from ``max(at // 2 * 2 - 2, 0)`` on: four of them,\n" \
+      "or as many as there are.") \
+    X(shard_offset, 3, SHARDS, "length, count, index", \
+      "Return where part ``index`` of ``count`` begins in a file of this length.\n\n" \
+      "Each part has ``length // 2 // count`` code units or one more, and the last\n" \
+      "one also has an odd byte at the end. For an index that is not below the\n" \
+      "count it is the length. It may be inside a surrogate pair:\n" \
+      "``floor_char_boundary_around`` moves it to a boundary.") \
+    X(swap_byte_order, 1, WRITABLE, "utf16", \
+      "Swap the two bytes of each code unit in place; an odd byte at the end stays.") \
+    X(make_well_formed, 2, UTF16, "utf16, byteorder", \
+      "Replace each unpaired surrogate by U+FFFD in place, and return how many there were.") \
+    X(compare, 4, COMPARE, "first, first_byteorder, second, second_byteorder", \
+      "Compare two texts by their scalar values.\n\n" \
+      "Return -1, 0 or 1 if the first is less than, equal to or greater than the\n" \
+      "second. An unpaired surrogate, and an incomplete character at the end, is\n" \
+      "compared as U+FFFD.") \
+    X(find, 3, SEARCH, "utf16, pattern, byteorder", \
+      "Return the least offset at which a pattern occurs, or -1 if there is none.\n\n" \
+      "The bytes of the pattern are there, and the offset and the end of these\n" \
+      "bytes are boundaries between characters, as ``is_char_boundary`` says: unlike\n" \
+      "with ``bytes.find``, an occurrence cuts neither a code unit nor a surrogate\n" \
+      "pair. Both buffers are in this byte order, and may be ill formed.") \
+    X(rfind, 3, SEARCH, "utf16, pattern, byteorder", \
+      "Return the greatest offset at which a pattern occurs as in ``find``, or -1.") \
+    X(detect_bom, 1, BOM, "data, default='big'", \
+      "Return the BOM at the start of a stream and the byte order, the default without one.\n\n" \
+      "The status is ``BomStatus.UNDECIDED`` for fewer than two bytes.") \
+    X(order_number, 1, ORDER, "byteorder", "Return the library's number of a byte order.") \
     X(feed_decoder, 4, FEED, "state, order, chunk, capacity", \
       "Decode the next chunk of a stream of UTF-16.") \
     X(feed_encoder, 4, FEED, "state, order, chunk, capacity", \
-      "Decode the next chunk of a stream of UTF-8.") \
+      "Encode the next chunk of a stream of UTF-8.") \
+    X(finish_decoder, 2, STATE, "state, order", "End a stream of UTF-16.") \
+    X(finish_encoder, 2, STATE, "state, order", "End a stream of UTF-8.") \
     X(decode, 2, DATA, "data, byteorder, errors='strict'", \
       "Return the text of UTF-16; errors are as in ``bytes.decode``. A BOM is a character.") \
     X(encode, 2, TEXT, "text, byteorder, errors='strict'", \
       "Return the UTF-16 of a text, without a BOM; errors are as in ``str.encode``.") \
     X(decode_to_utf8, 2, UTF16_ERRORS, "utf16, byteorder, errors='strict'", \
       "Return the UTF-8 of UTF-16: ``decode(utf16, byteorder, errors).encode(\"utf-8\", " \
-      "errors)``.") \
+      "errors)``.\n\n" \
+      "A ``str`` is made only of ill-formed input, and not with ``replace``.") \
     X(encode_from_utf8, 2, UTF8_ERRORS, "utf8, byteorder, errors='strict'", \
-      "Return the UTF-16 of UTF-8: ``encode(str(utf8, \"utf-8\", errors), byteorder, errors)``.") \
+      "Return the UTF-16 of UTF-8: ``encode(str(utf8, \"utf-8\", errors), byteorder, errors)``." \
+      "\n\nA ``str`` is made only of ill-formed input, and not with ``replace``.") \
     X(utf_16_le_decode, 1, INPUT_FINAL, "input, errors=None, final=False", \
-      "Decode UTF-16LE; return the text and how many bytes were read.") \
+      "Decode UTF-16LE; return the text and how many bytes were read.\n\n" \
+      "Unless it is final, an incomplete character at the end is not read.") \
     X(utf_16_be_decode, 1, INPUT_FINAL, "input, errors=None, final=False", \
-      "Decode UTF-16BE; return the text and how many bytes were read.") \
+      "Decode UTF-16BE; return the text and how many bytes were read.\n\n" \
+      "Unless it is final, an incomplete character at the end is not read.") \
+    X(utf_16_ex_decode, 1, INPUT_ORDER_FINAL, "input, errors=None, byteorder=0, final=False", \
+      "Decode UTF-16; return the text, how many bytes were read, and the byte order.\n\n" \
+      "-1 is little endian, 1 is big endian. 0 leaves it to the BOM, and is\n" \
+      "returned if there is none: in that case the byte order is the machine's.") \
     X(utf_16_le_decode_all, 1, INPUT, "input, errors='strict'", "Decode UTF-16LE to its end.") \
     X(utf_16_be_decode_all, 1, INPUT, "input, errors='strict'", "Decode UTF-16BE to its end.") \
     X(utf_16_decode_all, 1, INPUT, "input, errors='strict'", "Decode UTF-16 to its end.") \
@@ -61,40 +130,47 @@
     X(utf_16_be_encode, 1, INPUT, "input, errors=None", \
       "Encode to UTF-16BE; return the bytes and the length of the text.") \
     X(utf_16_encode, 1, INPUT_ORDER, "input, errors=None, byteorder=0", \
-      "Encode to UTF-16; return the bytes and the length of the text.")
+      "Encode to UTF-16; return the bytes and the length of the text.\n\n" \
+      "-1 is little endian, 1 is big endian. 0 is the machine's byte order, after a BOM.")
 
 #define MOST_ARGUMENTS 4
 typedef const char *parameters[MOST_ARGUMENTS];
 static const parameters UTF16 = {"utf16", "byteorder"};
+static const parameters UTF16_AT = {"utf16", "byteorder", "at"};
 static const parameters UTF16_CAPACITY = {"utf16", "byteorder", "capacity"};
 static const parameters UTF16_ERRORS = {"utf16", "byteorder", "errors"};
 static const parameters UTF8 = {"utf8"};
 static const parameters UTF8_CAPACITY = {"utf8", "byteorder", "capacity"};
 static const parameters UTF8_ERRORS = {"utf8", "byteorder", "errors"};
+static const parameters WTF8_CAPACITY = {"wtf8", "byteorder", "capacity"};
+static const parameters AROUND = {"around", "byteorder", "at"};
+static const parameters SHARDS = {"length", "count", "index"};
+static const parameters COMPARE = {"first", "first_byteorder", "second", "second_byteorder"};
+static const parameters SEARCH = {"utf16", "pattern", "byteorder"};
+static const parameters BOM = {"data", "default"};
+static const parameters ORDER = {"byteorder"};
+static const parameters WRITABLE = {"utf16"};
+static const parameters STATE = {"state", "order"};
 static const parameters FEED = {"state", "order", "chunk", "capacity"};
 static const parameters DATA = {"data", "byteorder", "errors"};
 static const parameters TEXT = {"text", "byteorder", "errors"};
 static const parameters INPUT = {"input", "errors"};
 static const parameters INPUT_FINAL = {"input", "errors", "final"};
 static const parameters INPUT_ORDER = {"input", "errors", "byteorder"};
+static const parameters INPUT_ORDER_FINAL = {"input", "errors", "byteorder", "final"};
 
-#define NUMBER(name, ...) FUNCTION_##name,
-enum { EACH_FUNCTION(NUMBER) FUNCTIONS };
-
-/* The state of a module: each interpreter has its own. */
-typedef struct {
-    native it;
-    PyObject *in_python[FUNCTIONS]; /* The functions for every other case. */
-} state;
-
-/* Puts arguments into the order of the parameters. Returns whether they fit. */
-static bool in_order(const char *const *names, Py_ssize_t required, PyObject *const *given,
-                     Py_ssize_t count, PyObject *keywords, PyObject **found) {
+/* Puts arguments into the order of the parameters, or raises what is wrong. Returns whether they
+ * fit. */
+static bool in_order(const char *function, const char *const *names, Py_ssize_t required,
+                     PyObject *const *given, Py_ssize_t count, PyObject *keywords,
+                     PyObject **found) {
     Py_ssize_t most = 0;
     while (most < MOST_ARGUMENTS && names[most]) {
         most++;
     }
     if (count > most) {
+        PyErr_Format(PyExc_TypeError, "%s() takes at most %zd arguments (%zd given)", function,
+                     most, count);
         return false;
     }
     for (Py_ssize_t at = 0; at < count; at++) {
@@ -108,179 +184,135 @@ static bool in_order(const char *const *names, Py_ssize_t required, PyObject *co
             at++;
         }
         if (at == most || found[at]) {
+            const char *wrong = at == most ? "%s() got an unexpected keyword argument '%U'"
+                                           : "%s() got multiple values for argument '%U'";
+            PyErr_Format(PyExc_TypeError, wrong, function, name);
             return false;
         }
         found[at] = given[count + each];
     }
     for (Py_ssize_t at = 0; at < required; at++) {
         if (!found[at]) {
+            PyErr_Format(PyExc_TypeError, "%s() missing required argument '%s' (pos %zd)",
+                         function, names[at], at + 1);
             return false;
         }
     }
     return true;
 }
 
-/* Calls a function of the module: what it does here, or else the function in Python. */
-static inline PyObject *call(PyObject *module, int number, action *act, const char *const *names,
-                             Py_ssize_t required, PyObject *const *given, Py_ssize_t count,
-                             PyObject *keywords) {
-    const state *own = PyModule_GetState(module);
-    if (!own->in_python[number]) {
-        PyErr_SetString(PyExc_RuntimeError, "import dethrux instead of dethrux._native");
+/* Calls a function of the module. */
+static inline PyObject *call(PyObject *module, const char *function, action *act,
+                             const char *const *names, Py_ssize_t required, PyObject *const *given,
+                             Py_ssize_t count, PyObject *keywords) {
+    PyObject *found[MOST_ARGUMENTS] = {NULL};
+    if (!in_order(function, names, required, given, count, keywords, found)) {
         return NULL;
     }
-    PyObject *found[MOST_ARGUMENTS] = {NULL};
-    if (in_order(names, required, given, count, keywords, found)) {
-        PyObject *result = act(&own->it, found);
-        if (result || PyErr_Occurred()) {
-            return result;
-        }
-    }
-    return PyObject_Vectorcall(own->in_python[number], given, (size_t) count, keywords);
+    return act(PyModule_GetState(module), found);
 }
 
 #define FUNCTION(name, required, names, signature, documentation) \
     static PyObject *call_##name(PyObject *module, PyObject *const *given, Py_ssize_t count, \
                                  PyObject *keywords) { \
-        return call(module, FUNCTION_##name, name, names, required, given, count, keywords); \
+        return call(module, #name, name, names, required, given, count, keywords); \
     }
 EACH_FUNCTION(FUNCTION)
-
-/* Keeps the error handlers of CPython that need no exception. Returns whether it did. */
-static bool find_handlers(native *it) {
-    PyObject *codecs = PyImport_ImportModule("codecs");
-    if (!codecs) {
-        return false;
-    }
-    Py_XSETREF(it->lookup_error, PyObject_GetAttrString(codecs, "lookup_error"));
-    Py_XSETREF(it->replace_errors, PyObject_GetAttrString(codecs, "replace_errors"));
-    Py_XSETREF(it->ignore_errors, PyObject_GetAttrString(codecs, "ignore_errors"));
-    Py_XSETREF(it->backslashreplace_errors,
-               PyObject_GetAttrString(codecs, "backslashreplace_errors"));
-    Py_DECREF(codecs);
-    if (!it->lookup_error || !it->replace_errors || !it->ignore_errors
-        || !it->backslashreplace_errors) {
-        return false;
-    }
-    /* The module has no name for this one, and a program may have registered another. */
-    PyObject *found = PyCodec_LookupError("surrogatepass");
-    if (!found) {
-        return false;
-    }
-    if (!PyCFunction_Check(found)
-        || strcmp(((PyCFunctionObject *) found)->m_ml->ml_name, "surrogatepass") != 0) {
-        Py_CLEAR(found);
-    }
-    Py_XSETREF(it->surrogatepass_errors, found);
-    return true;
-}
-
-/* Finds the calls in the library of this handle, and keeps the types of the results. */
-static PyObject *set_up(PyObject *module, PyObject *given) {
-    native *it = &((state *) PyModule_GetState(module))->it;
-    PyObject *handle, *validity, *progress_type, *statuses;
-    if (!PyArg_ParseTuple(given, "O!O!O!O!", &PyLong_Type, &handle, &PyType_Type, &validity,
-                          &PyType_Type, &progress_type, &PyTuple_Type, &statuses)) {
-        return NULL;
-    }
-    void *library = PyLong_AsVoidPtr(handle);
-    if (PyErr_Occurred()) {
-        return NULL;
-    }
-#define FIND(name) \
-    *(void **) &it->name = dlsym(library, "dethrux_" #name); \
-    if (!it->name) { \
-        return PyErr_Format(PyExc_ImportError, "the library has no dethrux_" #name); \
-    }
-    EACH_CALL(FIND)
-    Py_INCREF(validity);
-    Py_XSETREF(it->validity, validity);
-    Py_INCREF(progress_type);
-    Py_XSETREF(it->progress, progress_type);
-    Py_INCREF(statuses);
-    Py_XSETREF(it->statuses, statuses);
-    Py_XSETREF(it->little, PyUnicode_InternFromString("little"));
-    Py_XSETREF(it->big, PyUnicode_InternFromString("big"));
-    Py_XSETREF(it->strict, PyUnicode_InternFromString("strict"));
-    if (!it->little || !it->big || !it->strict || !find_handlers(it)) {
-        return NULL;
-    }
-    Py_RETURN_NONE;
-}
-
-static PyMethodDef methods[];
-
-/* Keeps a function in Python for the cases that the function here of the same name leaves to it.
- * Returns the function here, or the same one if there is none. */
-static PyObject *take(PyObject *module, PyObject *function) {
-    state *own = PyModule_GetState(module);
-    PyObject *name = PyObject_GetAttrString(function, "__name__"), *found = NULL;
-    if (!name) {
-        return NULL;
-    }
-    for (int number = 0; number < FUNCTIONS && own->it.validity; number++) {
-        if (PyUnicode_Check(name)
-            && PyUnicode_CompareWithASCIIString(name, methods[number].ml_name) == 0) {
-            found = PyObject_GetAttr(module, name);
-            Py_INCREF(function);
-            Py_XSETREF(own->in_python[number], function);
-        }
-    }
-    Py_DECREF(name);
-    if (!found && !PyErr_Occurred()) {
-        Py_INCREF(function);
-        found = function;
-    }
-    return found;
-}
 
 #define METHOD(name, required, names, signature, documentation) \
     {#name, (PyCFunction) (void (*)(void)) call_##name, METH_FASTCALL | METH_KEYWORDS, \
      #name "($module, " signature ")\n--\n\n" documentation},
-/* The first ones have the numbers of the functions. */
 static PyMethodDef methods[] = {
     EACH_FUNCTION(METHOD)
-    {"set_up", set_up, METH_VARARGS,
-     "set_up($module, handle, validity, progress, statuses, /)\n--\n\n"
-     "Find the calls in the library of this handle."},
-    {"take", take, METH_O,
-     "take($module, function, /)\n--\n\n"
-     "Return the function in C of the name of this one, which does all other cases."},
     {NULL, NULL, 0, NULL},
 };
 
-static int traverse(PyObject *module, visitproc visit, void *arg) {
-    state *own = PyModule_GetState(module);
-    Py_VISIT(own->it.validity);
-    Py_VISIT(own->it.progress);
-    Py_VISIT(own->it.statuses);
-    Py_VISIT(own->it.lookup_error);
-    Py_VISIT(own->it.replace_errors);
-    Py_VISIT(own->it.ignore_errors);
-    Py_VISIT(own->it.backslashreplace_errors);
-    Py_VISIT(own->it.surrogatepass_errors);
-    for (int number = 0; number < FUNCTIONS; number++) {
-        Py_VISIT(own->in_python[number]);
+/* Sets what a module has under a name. Returns whether it has that. */
+static bool take(PyObject *module, const char *name, PyObject **found) {
+    *found = PyObject_GetAttrString(module, name);
+    return *found;
+}
+
+/* Sets a tuple of the members of a type. Returns whether it did. */
+static bool take_members(PyObject *module, const char *name, PyObject **found) {
+    PyObject *type;
+    if (take(module, name, &type)) {
+        *found = PySequence_Tuple(type);
+        Py_DECREF(type);
     }
+    return *found;
+}
+
+/* Keeps the error handlers of CPython that need no exception. Returns whether it did. */
+static bool find_handlers(native *it) {
+    PyObject *codecs = PyImport_ImportModule("codecs");
+    bool is_found = codecs && take(codecs, "lookup_error", &it->lookup_error)
+        && take(codecs, "replace_errors", &it->replace_errors)
+        && take(codecs, "ignore_errors", &it->ignore_errors)
+        && take(codecs, "backslashreplace_errors", &it->backslashreplace_errors);
+    Py_XDECREF(codecs);
+    /* The module has no name for this one, and a program may have registered another. */
+    PyObject *function = is_found ? PyCodec_LookupError("surrogatepass") : NULL;
+    if (function && PyCFunction_Check(function)
+        && strcmp(((PyCFunctionObject *) function)->m_ml->ml_name, "surrogatepass") == 0) {
+        Py_INCREF(function);
+        it->surrogatepass_errors = function;
+    }
+    Py_XDECREF(function);
+    return function;
+}
+
+/* Keeps the types of the results. Returns whether it did. */
+static bool find_types(native *it) {
+    PyObject *types = PyImport_ImportModule("dethrux._types");
+    bool is_found = types && take(types, "Validity", &it->validity)
+        && take(types, "Progress", &it->progress) && take(types, "Bom", &it->bom)
+        && take_members(types, "Status", &it->statuses)
+        && take_members(types, "BomStatus", &it->bom_statuses);
+    Py_XDECREF(types);
+    return is_found;
+}
+
+/* Fills the state of a new module. */
+static int fill(PyObject *module) {
+    native *it = PyModule_GetState(module);
+    bool is_filled = (it->little = PyUnicode_InternFromString("little"))
+        && (it->big = PyUnicode_InternFromString("big"))
+        && (it->strict = PyUnicode_InternFromString("strict")) && find_types(it)
+        && find_handlers(it);
+    return is_filled ? 0 : -1;
+}
+
+static int traverse(PyObject *module, visitproc visit, void *arg) {
+    native *it = PyModule_GetState(module);
+    Py_VISIT(it->validity);
+    Py_VISIT(it->progress);
+    Py_VISIT(it->bom);
+    Py_VISIT(it->statuses);
+    Py_VISIT(it->bom_statuses);
+    Py_VISIT(it->lookup_error);
+    Py_VISIT(it->replace_errors);
+    Py_VISIT(it->ignore_errors);
+    Py_VISIT(it->backslashreplace_errors);
+    Py_VISIT(it->surrogatepass_errors);
     return 0;
 }
 
 static int clear(PyObject *module) {
-    state *own = PyModule_GetState(module);
-    Py_CLEAR(own->it.validity);
-    Py_CLEAR(own->it.progress);
-    Py_CLEAR(own->it.statuses);
-    Py_CLEAR(own->it.little);
-    Py_CLEAR(own->it.big);
-    Py_CLEAR(own->it.strict);
-    Py_CLEAR(own->it.lookup_error);
-    Py_CLEAR(own->it.replace_errors);
-    Py_CLEAR(own->it.ignore_errors);
-    Py_CLEAR(own->it.backslashreplace_errors);
-    Py_CLEAR(own->it.surrogatepass_errors);
-    for (int number = 0; number < FUNCTIONS; number++) {
-        Py_CLEAR(own->in_python[number]);
-    }
+    native *it = PyModule_GetState(module);
+    Py_CLEAR(it->validity);
+    Py_CLEAR(it->progress);
+    Py_CLEAR(it->bom);
+    Py_CLEAR(it->statuses);
+    Py_CLEAR(it->bom_statuses);
+    Py_CLEAR(it->little);
+    Py_CLEAR(it->big);
+    Py_CLEAR(it->strict);
+    Py_CLEAR(it->lookup_error);
+    Py_CLEAR(it->replace_errors);
+    Py_CLEAR(it->ignore_errors);
+    Py_CLEAR(it->backslashreplace_errors);
+    Py_CLEAR(it->surrogatepass_errors);
     return 0;
 }
 
@@ -289,6 +321,7 @@ static void free_module(void *module) {
 }
 
 static PyModuleDef_Slot slots[] = {
+    {Py_mod_exec, fill},
 #if PY_VERSION_HEX >= 0x030C0000
     {Py_mod_multiple_interpreters, Py_MOD_PER_INTERPRETER_GIL_SUPPORTED},
 #endif
@@ -299,7 +332,7 @@ static PyModuleDef definition = {
     PyModuleDef_HEAD_INIT,
     .m_name = "dethrux._native",
     .m_doc = "The functions of dethrux in C.",
-    .m_size = sizeof(state),
+    .m_size = sizeof(native),
     .m_methods = methods,
     .m_slots = slots,
     .m_traverse = traverse,

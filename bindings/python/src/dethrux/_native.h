@@ -1,7 +1,7 @@
 /* SPDX-License-Identifier: MIT OR Apache-2.0 */
 
 /*
- * What the functions of the extension share, and what those over bytes do.
+ * What the functions of the extension share, and what the conversions of bytes do.
  *
  * A call with a long input runs without the GIL if nobody can write to the input. Otherwise it
  * keeps the GIL, so that no other thread writes to the bytes that it reads.
@@ -15,6 +15,7 @@
 #include "dethrux.h"
 
 #include <stdbool.h>
+#include <stdint.h>
 #include <string.h>
 
 /* The shortest input, in bytes, for which it pays to give up the GIL. */
@@ -26,22 +27,14 @@
 /* The shortest block of memory that glibc takes from new pages (M_MMAP_THRESHOLD). */
 #define MAPPED ((size_t) 1 << 17)
 
-/* The calls of the library that the functions use. */
-#define EACH_CALL(X) \
-    X(inspect) X(validate) X(count_chars) X(is_ascii) X(to_utf8_lossy_len) X(from_utf8_len) \
-    X(from_utf8_lossy_len) X(to_utf8) X(to_utf8_lossy) X(to_utf8_partial) X(from_utf8) \
-    X(from_utf8_lossy) X(decoder_feed) X(encoder_feed) X(to_latin1) X(from_latin1) X(to_utf32) \
-    X(to_utf32_lossy) X(from_utf32) X(from_utf32_lossy_len) X(swap_byte_order) X(detect_bom)
-
 /* What the functions use. */
 typedef struct {
-#define FIELD(name) __typeof__(&dethrux_##name) name;
-    EACH_CALL(FIELD)
-#undef FIELD
-    PyObject *validity; /* The named tuples `Validity` and `Progress`. */
+    PyObject *validity; /* The named tuples `Validity`, `Progress` and `Bom`. */
     PyObject *progress;
-    PyObject *statuses; /* The members of `Status`, a tuple. */
-    PyObject *little;   /* The words for the byte orders. */
+    PyObject *bom;
+    PyObject *statuses; /* The members of `Status` and `BomStatus`, tuples. */
+    PyObject *bom_statuses;
+    PyObject *little; /* The words for the byte orders. */
     PyObject *big;
     PyObject *strict;         /* The name of the handler that raises. */
     PyObject *lookup_error;   /* `codecs.lookup_error`. */
@@ -54,7 +47,7 @@ typedef struct {
 /* The arguments of a function, in the order of its parameters. NULL is one that was not given. */
 typedef PyObject *const *arguments;
 
-/* What a function does. NULL without an exception leaves the call to the function in Python. */
+/* What a function does. */
 typedef PyObject *action(const native *it, arguments given);
 
 /* A conversion of bytes to bytes. */
@@ -69,7 +62,7 @@ typedef struct {
     Py_buffer view;   /* Its object is NULL if the bytes are of a bytes object. */
 } input;
 
-/* Returns the byte order of a word, or -1. */
+/* Returns the byte order of a word. Otherwise it raises an exception and returns -1. */
 static int order_of(const native *it, PyObject *word) {
     if (word == it->little) {
         return DETHRUX_LITTLE_ENDIAN;
@@ -77,13 +70,48 @@ static int order_of(const native *it, PyObject *word) {
     if (word == it->big) {
         return DETHRUX_BIG_ENDIAN;
     }
-    if (!PyUnicode_CheckExact(word)) {
+    if (!PyUnicode_Check(word)) {
+        PyErr_Format(PyExc_TypeError, "byteorder must be str, not %s", Py_TYPE(word)->tp_name);
         return -1;
     }
     if (PyUnicode_CompareWithASCIIString(word, "little") == 0) {
         return DETHRUX_LITTLE_ENDIAN;
     }
-    return PyUnicode_CompareWithASCIIString(word, "big") == 0 ? DETHRUX_BIG_ENDIAN : -1;
+    if (PyUnicode_CompareWithASCIIString(word, "big") == 0) {
+        return DETHRUX_BIG_ENDIAN;
+    }
+    PyErr_SetString(PyExc_ValueError, "byteorder must be either 'little' or 'big'");
+    return -1;
+}
+
+/* Sets a length or an offset; one that is too great for any buffer is the greatest. Returns whether
+ * it is one. */
+static bool size_of(PyObject *given, const char *name, size_t *size) {
+    Py_ssize_t number = PyNumber_AsSsize_t(given, NULL);
+    if (number < 0) {
+        if (!PyErr_Occurred()) {
+            PyErr_Format(PyExc_ValueError, "%s must not be negative", name);
+        }
+        return false;
+    }
+    *size = (size_t) number;
+    return true;
+}
+
+/* Sets an offset of a file. Returns whether it is one. */
+static bool offset_of(PyObject *given, const char *name, uint64_t *offset) {
+    size_t size;
+    PyObject *number = PyNumber_Index(given);
+    bool is_offset = number && size_of(number, name, &size);
+    if (is_offset) {
+        *offset = PyLong_AsUnsignedLongLong(number);
+        is_offset = !PyErr_Occurred();
+        if (!is_offset) {
+            PyErr_Format(PyExc_OverflowError, "%s must be less than 2**64", name);
+        }
+    }
+    Py_XDECREF(number);
+    return is_offset;
 }
 
 /* Returns whether nobody can write to the memory of a buffer: its object is read-only. A read-only
@@ -103,7 +131,30 @@ static bool is_constant(PyObject *object, const Py_buffer *view) {
     return is_readonly;
 }
 
-/* Holds a buffer for a call. Returns whether it is one in one piece. */
+/* Returns whether nobody can write to the bytes of an object that are held. */
+static bool stays(PyObject *object, const input *held) {
+    const Py_buffer *view = &held->view;
+    return !view->obj || PyBytes_CheckExact(view->obj) || is_constant(object, view);
+}
+
+/* Holds a copy of the bytes of a buffer after an exception, for which it may raise another one.
+ * Returns whether it did. */
+static bool hold_copy(PyObject *object, Py_buffer *held) {
+    Py_buffer pieces;
+    PyErr_Clear();
+    if (PyObject_GetBuffer(object, &pieces, PyBUF_FULL_RO) < 0) {
+        return false;
+    }
+    PyObject *copy = PyBytes_FromStringAndSize(NULL, pieces.len);
+    bool is_held = copy
+        && PyBuffer_ToContiguous(PyBytes_AS_STRING(copy), &pieces, pieces.len, 'C') == 0
+        && PyObject_GetBuffer(copy, held, PyBUF_SIMPLE) == 0;
+    PyBuffer_Release(&pieces);
+    Py_XDECREF(copy);
+    return is_held;
+}
+
+/* Holds a buffer for a call, or a copy of one in pieces. Returns whether it did. */
 static bool hold(PyObject *object, input *held) {
     if (PyBytes_CheckExact(object)) {
         held->bytes = (const uint8_t *) PyBytes_AS_STRING(object);
@@ -112,17 +163,17 @@ static bool hold(PyObject *object, input *held) {
         held->view.obj = NULL;
         return true;
     }
-    if (PyObject_GetBuffer(object, &held->view, PyBUF_SIMPLE) < 0) {
-        PyErr_Clear();
+    if (PyObject_GetBuffer(object, &held->view, PyBUF_SIMPLE) < 0
+        && !hold_copy(object, &held->view)) {
         return false;
     }
     held->bytes = held->view.buf;
     held->len = (size_t) held->view.len;
-    held->without_gil = held->len >= LONG && is_constant(object, &held->view);
+    held->without_gil = held->len >= LONG && stays(object, held);
     return true;
 }
 
-/* Lets the buffer go. */
+/* Lets a buffer go. */
 static void release(input *held) {
     PyBuffer_Release(&held->view);
 }
@@ -173,11 +224,11 @@ static PyObject *pair(PyObject *first, size_t number) {
     return both;
 }
 
-/* Returns the member of `Status`. */
-static PyObject *status_of(const native *it, dethrux_status status) {
-    PyObject *member = PyTuple_GET_ITEM(it->statuses, (Py_ssize_t) status);
-    Py_INCREF(member);
-    return member;
+/* Returns a member of `Status` or of `BomStatus`, or NULL if there is none. */
+static PyObject *member(PyObject *members, uint32_t number) {
+    PyObject *found = PyTuple_GetItem(members, (Py_ssize_t) number);
+    Py_XINCREF(found);
+    return found;
 }
 
 /* The properties of a text. */
@@ -190,10 +241,10 @@ static PyObject *validate(const native *it, arguments given) {
     }
     PyThreadState *saved = without_gil(utf16.without_gil);
     dethrux_validity found =
-        it->validate((dethrux_byte_order) order, utf16.bytes, utf16.len);
+        dethrux_validate((dethrux_byte_order) order, utf16.bytes, utf16.len);
     with_gil(saved);
     release(&utf16);
-    PyObject *fields[] = {PyLong_FromSize_t(found.valid_up_to), status_of(it, found.status),
+    PyObject *fields[] = {PyLong_FromSize_t(found.valid_up_to), member(it->statuses, found.status),
                           PyLong_FromUnsignedLong(found.error_len)};
     return named_tuple(it->validity, fields, 3);
 }
@@ -214,11 +265,15 @@ static PyObject *number_of_utf16(const native *it, arguments given,
 }
 
 static PyObject *count_chars(const native *it, arguments given) {
-    return number_of_utf16(it, given, it->count_chars);
+    return number_of_utf16(it, given, dethrux_count_chars);
 }
 
 static PyObject *to_utf8_lossy_len(const native *it, arguments given) {
-    return number_of_utf16(it, given, it->to_utf8_lossy_len);
+    return number_of_utf16(it, given, dethrux_to_utf8_lossy_len);
+}
+
+static PyObject *to_wtf8_len(const native *it, arguments given) {
+    return number_of_utf16(it, given, dethrux_to_wtf8_len);
 }
 
 static PyObject *is_ascii(const native *it, arguments given) {
@@ -228,7 +283,7 @@ static PyObject *is_ascii(const native *it, arguments given) {
         return NULL;
     }
     PyThreadState *saved = without_gil(utf16.without_gil);
-    bool found = it->is_ascii((dethrux_byte_order) order, utf16.bytes, utf16.len);
+    bool found = dethrux_is_ascii((dethrux_byte_order) order, utf16.bytes, utf16.len);
     with_gil(saved);
     release(&utf16);
     return PyBool_FromLong(found);
@@ -248,11 +303,13 @@ static PyObject *number_of_utf8(arguments given, size_t (*number)(const uint8_t 
 }
 
 static PyObject *from_utf8_len(const native *it, arguments given) {
-    return number_of_utf8(given, it->from_utf8_len);
+    (void) it;
+    return number_of_utf8(given, dethrux_from_utf8_len);
 }
 
 static PyObject *from_utf8_lossy_len(const native *it, arguments given) {
-    return number_of_utf8(given, it->from_utf8_lossy_len);
+    (void) it;
+    return number_of_utf8(given, dethrux_from_utf8_lossy_len);
 }
 
 /* Bytes to bytes. */
@@ -293,19 +350,15 @@ static PyObject *converted(conversion *convert, dethrux_byte_order order, const 
 
 /* Limits what suffices to the capacity that was given, if one was. Returns whether it is one. */
 static bool limit(PyObject *given, size_t *capacity) {
+    size_t size;
     if (!given || given == Py_None) {
         return true;
     }
-    if (!PyLong_CheckExact(given)) {
+    if (!size_of(given, "capacity", &size)) {
         return false;
     }
-    Py_ssize_t number = PyLong_AsSsize_t(given);
-    if (number < 0) {
-        PyErr_Clear();
-        return false;
-    }
-    if ((size_t) number < *capacity) {
-        *capacity = (size_t) number;
+    if (size < *capacity) {
+        *capacity = size;
     }
     return true;
 }
@@ -315,7 +368,7 @@ static PyObject *progress_of(const native *it, PyObject *output, const dethrux_p
     if (!output) {
         return NULL;
     }
-    PyObject *fields[] = {output, PyLong_FromSize_t(done->read), status_of(it, done->status),
+    PyObject *fields[] = {output, PyLong_FromSize_t(done->read), member(it->statuses, done->status),
                           PyLong_FromUnsignedLong(done->error_len)};
     return named_tuple(it->progress, fields, 4);
 }
@@ -339,23 +392,39 @@ static PyObject *progress(const native *it, arguments given, conversion *convert
 }
 
 static PyObject *to_utf8(const native *it, arguments given) {
-    return progress(it, given, it->to_utf8, false);
+    return progress(it, given, dethrux_to_utf8, false);
 }
 
 static PyObject *to_utf8_lossy(const native *it, arguments given) {
-    return progress(it, given, it->to_utf8_lossy, false);
+    return progress(it, given, dethrux_to_utf8_lossy, false);
 }
 
 static PyObject *to_utf8_partial(const native *it, arguments given) {
-    return progress(it, given, it->to_utf8_partial, false);
+    return progress(it, given, dethrux_to_utf8_partial, false);
 }
 
 static PyObject *from_utf8(const native *it, arguments given) {
-    return progress(it, given, it->from_utf8, true);
+    return progress(it, given, dethrux_from_utf8, true);
 }
 
 static PyObject *from_utf8_lossy(const native *it, arguments given) {
-    return progress(it, given, it->from_utf8_lossy, true);
+    return progress(it, given, dethrux_from_utf8_lossy, true);
+}
+
+static PyObject *to_wtf8(const native *it, arguments given) {
+    return progress(it, given, dethrux_to_wtf8, false);
+}
+
+static PyObject *to_wtf8_partial(const native *it, arguments given) {
+    return progress(it, given, dethrux_to_wtf8_partial, false);
+}
+
+static PyObject *from_wtf8(const native *it, arguments given) {
+    return progress(it, given, dethrux_from_wtf8, true);
+}
+
+static PyObject *from_wtf8_partial(const native *it, arguments given) {
+    return progress(it, given, dethrux_from_wtf8_partial, true);
 }
 
 /* Streams. */
@@ -381,8 +450,8 @@ static PyObject *feed_held(const native *it, arguments given, const input *chunk
     memcpy(&encoder, state->buf, sizeof encoder);
     PyThreadState *saved = without_gil(chunk->without_gil);
     dethrux_progress done = is_utf8
-        ? it->encoder_feed(&encoder, order, chunk->bytes, chunk->len, to, capacity)
-        : it->decoder_feed(&decoder, order, chunk->bytes, chunk->len, to, capacity);
+        ? dethrux_encoder_feed(&encoder, order, chunk->bytes, chunk->len, to, capacity)
+        : dethrux_decoder_feed(&decoder, order, chunk->bytes, chunk->len, to, capacity);
     with_gil(saved);
     if (done.written != capacity) {
         _PyBytes_Resize(&output, (Py_ssize_t) done.written);
@@ -394,16 +463,28 @@ static PyObject *feed_held(const native *it, arguments given, const input *chunk
     return found;
 }
 
+/* Holds the state of a decoder or of an encoder. Returns whether it did. */
+static bool hold_state(PyObject *object, Py_buffer *state) {
+    if (PyObject_GetBuffer(object, state, PyBUF_WRITABLE) < 0) {
+        return false;
+    }
+    if (state->len == sizeof(dethrux_decoder)) {
+        return true;
+    }
+    PyBuffer_Release(state);
+    PyErr_SetString(PyExc_ValueError, "a state has four bytes");
+    return false;
+}
+
 /* Returns the progress of a decoder, or of an encoder. */
 static PyObject *feed(const native *it, arguments given, bool is_utf8) {
     Py_buffer state;
     input chunk;
-    if (PyObject_GetBuffer(given[0], &state, PyBUF_WRITABLE) < 0) {
-        PyErr_Clear();
+    if (!hold_state(given[0], &state)) {
         return NULL;
     }
     PyObject *found = NULL;
-    if (state.len == sizeof(dethrux_decoder) && hold(given[2], &chunk)) {
+    if (hold(given[2], &chunk)) {
         found = feed_held(it, given, &chunk, is_utf8, &state);
         release(&chunk);
     }
@@ -417,6 +498,46 @@ static PyObject *feed_decoder(const native *it, arguments given) {
 
 static PyObject *feed_encoder(const native *it, arguments given) {
     return feed(it, given, true);
+}
+
+/* Ends a stream: the state changes if nothing fails. */
+
+static PyObject *finish_decoder(const native *it, arguments given) {
+    (void) it;
+    uint8_t to[DETHRUX_DECODER_FINISH_MAX];
+    Py_buffer state;
+    if (!hold_state(given[0], &state)) {
+        return NULL;
+    }
+    dethrux_decoder decoder;
+    memcpy(&decoder, state.buf, sizeof decoder);
+    dethrux_progress done = dethrux_decoder_finish(&decoder, to, sizeof to);
+    PyObject *output = PyBytes_FromStringAndSize((const char *) to, (Py_ssize_t) done.written);
+    if (output) {
+        memcpy(state.buf, &decoder, sizeof decoder);
+    }
+    PyBuffer_Release(&state);
+    return output;
+}
+
+static PyObject *finish_encoder(const native *it, arguments given) {
+    (void) it;
+    uint8_t to[DETHRUX_ENCODER_FINISH_MAX];
+    Py_buffer state;
+    if (!hold_state(given[0], &state)) {
+        return NULL;
+    }
+    dethrux_encoder encoder;
+    memcpy(&encoder, state.buf, sizeof encoder);
+    dethrux_byte_order order =
+        PyObject_IsTrue(given[1]) ? DETHRUX_BIG_ENDIAN : DETHRUX_LITTLE_ENDIAN;
+    dethrux_progress done = dethrux_encoder_finish(&encoder, order, to, sizeof to);
+    PyObject *output = PyBytes_FromStringAndSize((const char *) to, (Py_ssize_t) done.written);
+    if (output) {
+        memcpy(state.buf, &encoder, sizeof encoder);
+    }
+    PyBuffer_Release(&state);
+    return output;
 }
 
 #endif

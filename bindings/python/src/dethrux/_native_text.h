@@ -34,8 +34,8 @@ static bool find_handler(const native *it, handler *errors, PyObject *name) {
     return errors->function;
 }
 
-/* Returns whether something can be the name of a handler. Otherwise it raises what CPython raises,
- * also for well-formed input. */
+/* Returns whether something can be the name of a handler, known or not. Otherwise it raises what
+ * CPython raises, also for well-formed input. */
 static bool is_name(const native *it, PyObject *name) {
     if (!name || name == Py_None || name == it->strict) {
         return true;
@@ -46,8 +46,13 @@ static bool is_name(const native *it, PyObject *name) {
         return true;
     }
     PyErr_Clear();
-    Py_XDECREF(PyObject_CallFunctionObjArgs(it->lookup_error, name, NULL));
-    return false;
+    PyObject *function = PyObject_CallFunctionObjArgs(it->lookup_error, name, NULL);
+    Py_XDECREF(function);
+    if (!function && PyErr_ExceptionMatches(PyExc_LookupError)) {
+        PyErr_Clear();
+        return true;
+    }
+    return function;
 }
 
 /* Makes the exception, or sets the next place of the one that is there. Returns whether it did. */
@@ -122,11 +127,11 @@ static bool is_ready(PyObject *text) {
 /* UTF-16 to str. */
 
 /* Copies a block of UTF-16 from a byte order to the machine's, or from the machine's to it. */
-static void copy_units(const native *it, dethrux_byte_order order, const uint8_t *from, size_t len,
+static void copy_units(dethrux_byte_order order, const uint8_t *from, size_t len,
                        uint8_t *to) {
     memcpy(to, from, len);
     if (order != DETHRUX_NATIVE_ENDIAN) {
-        it->swap_byte_order(to, len);
+        dethrux_swap_byte_order(to, len);
     }
 }
 
@@ -195,40 +200,40 @@ static size_t block_len(const decoding *from) {
 
 /* Returns how many characters the bytes from an offset on have at most, if they are of a
  * repertoire and well formed. */
-static size_t most_chars(const native *it, const decoding *from, size_t at,
+static size_t most_chars(const decoding *from, size_t at,
                          dethrux_repertoire repertoire) {
     size_t left = from->len - at;
     if (left == 0 || repertoire != DETHRUX_UNICODE) {
         return left / 2;
     }
     PyThreadState *saved = without_gil(from->without_gil);
-    size_t count = it->count_chars(from->order, from->bytes + at, left);
+    size_t count = dethrux_count_chars(from->order, from->bytes + at, left);
     with_gil(saved);
     return count;
 }
 
 /* Writes the well-formed prefix of the next block. Returns whether it did: it does, unless another
  * process has changed a mapped file since. */
-static bool write_block(const native *it, const decoding *from, const dethrux_inspection *found) {
+static bool write_block(const decoding *from, const dethrux_inspection *found) {
     const uint8_t *utf16 = from->bytes + from->at;
     size_t len = found->valid_up_to, chars = found->chars;
     PyObject *text = from->to.text;
     size_t offset = from->to.len * (size_t) PyUnicode_KIND(text);
     void *to = (uint8_t *) PyUnicode_DATA(text) + offset;
     if (PyUnicode_KIND(text) == PyUnicode_1BYTE_KIND) {
-        return it->to_latin1(from->order, utf16, len, to, chars).written == chars;
+        return dethrux_to_latin1(from->order, utf16, len, to, chars).written == chars;
     }
     if (PyUnicode_KIND(text) == PyUnicode_2BYTE_KIND) {
-        copy_units(it, from->order, utf16, 2 * chars, to);
+        copy_units(from->order, utf16, 2 * chars, to);
         return true;
     }
-    return it->to_utf32(from->order, utf16, len, to, chars).written == chars;
+    return dethrux_to_utf32(from->order, utf16, len, to, chars).written == chars;
 }
 
 /* Writes blocks, of which the first is this one, as long as the str has room. Returns whether it
  * came to an error or to the end; the last block tells which. */
-static bool write_blocks(const native *it, decoding *from, dethrux_inspection *block) {
-    while (has_room(&from->to, block->chars, block->repertoire) && write_block(it, from, block)) {
+static bool write_blocks(decoding *from, dethrux_inspection *block) {
+    while (has_room(&from->to, block->chars, block->repertoire) && write_block(from, block)) {
         bool is_last = from->len - from->at <= BLOCK;
         from->at += block->valid_up_to;
         from->to.len += block->chars;
@@ -236,7 +241,7 @@ static bool write_blocks(const native *it, decoding *from, dethrux_inspection *b
             return true;
         }
         /* A character across the border is incomplete in this block, and begins the next one. */
-        *block = it->inspect(from->order, from->bytes + from->at, block_len(from));
+        *block = dethrux_inspect(from->order, from->bytes + from->at, block_len(from));
     }
     return false;
 }
@@ -246,21 +251,21 @@ static bool write_blocks(const native *it, decoding *from, dethrux_inspection *b
  * Most texts are of one repertoire. So the first block decides the form of the str, and each block
  * is inspected and written while it is in the cache. If a later one needs a wider str, what is
  * there is copied to one: at most three times. */
-static bool decode_prefix(const native *it, decoding *from, dethrux_status *status) {
+static bool decode_prefix(decoding *from, dethrux_status *status) {
     PyThreadState *saved = without_gil(from->without_gil);
     dethrux_inspection block =
-        it->inspect(from->order, from->bytes + from->at, block_len(from));
+        dethrux_inspect(from->order, from->bytes + from->at, block_len(from));
     with_gil(saved);
     for (;;) {
         size_t next = from->at + block.valid_up_to;
         if (!has_room(&from->to, block.chars, block.repertoire)) {
-            size_t later = most_chars(it, from, next, block.repertoire);
+            size_t later = most_chars(from, next, block.repertoire);
             if (!make_room(&from->to, block.chars, later, block.repertoire)) {
                 return false;
             }
         }
         saved = without_gil(from->without_gil);
-        bool is_end = write_blocks(it, from, &block);
+        bool is_end = write_blocks(from, &block);
         with_gil(saved);
         if (is_end) {
             *status = block.status;
@@ -283,14 +288,14 @@ static dethrux_repertoire repertoire_of(PyObject *text) {
 
 /* Writes a text, whose reference it takes, before the bytes that are left. Returns whether it
  * did. */
-static bool write_text(const native *it, decoding *from, PyObject *text) {
+static bool write_text(decoding *from, PyObject *text) {
     bool is_written = text && is_ready(text);
     if (is_written) {
         dethrux_repertoire repertoire = repertoire_of(text);
         Py_ssize_t len = PyUnicode_GET_LENGTH(text);
         size_t later = has_room(&from->to, (size_t) len, repertoire)
             ? 0
-            : most_chars(it, from, from->at, from->to.repertoire);
+            : most_chars(from, from->at, from->to.repertoire);
         is_written = make_room(&from->to, (size_t) len, later, repertoire)
             && PyUnicode_CopyCharacters(from->to.text, (Py_ssize_t) from->to.len, text, 0, len)
                 >= 0;
@@ -374,7 +379,7 @@ typedef struct {
 } errors_met;
 
 /* Returns the text of the bytes that are left, with U+FFFD for what is ill formed. */
-static PyObject *replaced(const native *it, const decoding *from, bool is_constant) {
+static PyObject *replaced(const decoding *from, bool is_constant) {
     size_t len = from->len - from->at, capacity = DETHRUX_UTF32_MAX(len);
     uint32_t *utf32 = PyMem_Malloc(capacity * sizeof *utf32);
     if (!utf32) {
@@ -382,7 +387,7 @@ static PyObject *replaced(const native *it, const decoding *from, bool is_consta
     }
     PyThreadState *saved = without_gil(is_constant && len >= LONG);
     dethrux_progress done =
-        it->to_utf32_lossy(from->order, from->bytes + from->at, len, utf32, capacity);
+        dethrux_to_utf32_lossy(from->order, from->bytes + from->at, len, utf32, capacity);
     with_gil(saved);
     PyObject *text =
         PyUnicode_FromKindAndData(PyUnicode_4BYTE_KIND, utf32, (Py_ssize_t) done.written);
@@ -413,7 +418,7 @@ static PyObject *as_bytes(PyObject *object, const uint8_t *bytes, size_t len) {
 
 /* Writes what the error handler returns for the error that follows, and resumes where it says.
  * Returns whether it did. */
-static bool call_handler(const native *it, decoding *from, errors_met *met, PyObject *object,
+static bool call_handler(decoding *from, errors_met *met, PyObject *object,
                          dethrux_status status) {
     if (!met->object && !decode_object(from, met, as_bytes(object, from->bytes, from->len))) {
         return false;
@@ -425,7 +430,7 @@ static bool call_handler(const native *it, decoding *from, errors_met *met, PyOb
     PyObject *text = replacement(&met->errors, true, &position);
     if (text && decode_object(from, met, PyUnicodeDecodeError_GetObject(met->errors.exception))
         && resume_at(position, from->len, &from->at)) {
-        return write_text(it, from, text);
+        return write_text(from, text);
     }
     Py_XDECREF(text);
     return false;
@@ -438,9 +443,9 @@ static bool handle(const native *it, decoding *from, errors_met *met, PyObject *
         return false;
     }
     if (met->count++ >= FEW && met->final && met->errors.function == it->replace_errors) {
-        PyObject *rest = replaced(it, from, met->is_constant);
+        PyObject *rest = replaced(from, met->is_constant);
         from->at = from->len;
-        return write_text(it, from, rest);
+        return write_text(from, rest);
     }
     substitute found;
     const uint8_t *utf16 = from->bytes + from->at;
@@ -448,12 +453,12 @@ static bool handle(const native *it, decoding *from, errors_met *met, PyObject *
     if (met->errors.function == it->surrogatepass_errors
         || !is_known(it, met->errors.function, from->order, utf16, from->len - from->at, status,
                      &found)) {
-        return call_handler(it, from, met, object, status);
+        return call_handler(from, met, object, status);
     }
     from->at += found.read;
     const char *utf8 = (const char *) found.utf8;
     return found.len == 0
-        || write_text(it, from, PyUnicode_DecodeUTF8(utf8, (Py_ssize_t) found.len, NULL));
+        || write_text(from, PyUnicode_DecodeUTF8(utf8, (Py_ssize_t) found.len, NULL));
 }
 
 /* Decodes from the first error on. Returns whether it did. */
@@ -462,7 +467,7 @@ static bool decode_rest(const native *it, decoding *from, errors_met *met, PyObj
     /* The many parts of a long text keep the GIL. */
     from->without_gil = false;
     while (status == DETHRUX_ILL_FORMED || (status == DETHRUX_INCOMPLETE && met->final)) {
-        if (!handle(it, from, met, object, status) || !decode_prefix(it, from, &status)) {
+        if (!handle(it, from, met, object, status) || !decode_prefix(from, &status)) {
             return false;
         }
     }
@@ -477,7 +482,7 @@ static PyObject *decoded(const native *it, dethrux_byte_order order, PyObject *o
     decoding from = {.bytes = utf16->bytes, .len = utf16->len, .at = start, .order = order,
                      .without_gil = utf16->without_gil};
     dethrux_status status;
-    bool is_decoded = is_name(it, name) && decode_prefix(it, &from, &status);
+    bool is_decoded = is_name(it, name) && decode_prefix(&from, &status);
     if (is_decoded && status != DETHRUX_DONE) {
         errors_met met = {.name = name, .is_constant = utf16->without_gil, .final = final};
         is_decoded = decode_rest(it, &from, &met, object, status);
@@ -514,7 +519,7 @@ static PyObject *decoded_part(const native *it, dethrux_byte_order order, argume
     return pair(text, read);
 }
 
-/* Returns the same, unless it is unknown whether the input is final. */
+/* Returns the same for a chunk, which may be the last one. */
 static PyObject *decoded_chunk(const native *it, dethrux_byte_order order, arguments given) {
     int final = given[2] ? PyObject_IsTrue(given[2]) : 0;
     return final < 0 ? NULL : decoded_part(it, order, given, final);
@@ -541,12 +546,34 @@ static PyObject *utf_16_decode_all(const native *it, arguments given) {
     if (!hold(given[0], &utf16)) {
         return NULL;
     }
-    dethrux_bom bom = it->detect_bom(DETHRUX_NATIVE_ENDIAN, utf16.bytes, utf16.len);
+    dethrux_bom bom = dethrux_detect_bom(DETHRUX_NATIVE_ENDIAN, utf16.bytes, utf16.len);
     size_t read = 0;
     PyObject *text =
         decoded(it, bom.byte_order, given[0], &utf16, bom.len, given[1], true, &read);
     release(&utf16);
     return pair(text, read);
+}
+
+static PyObject *utf_16_ex_decode(const native *it, arguments given) {
+    int final = given[3] ? PyObject_IsTrue(given[3]) : 0;
+    Py_ssize_t number = given[2] ? PyNumber_AsSsize_t(given[2], PyExc_OverflowError) : 0;
+    input utf16;
+    if (PyErr_Occurred() || !hold(given[0], &utf16)) {
+        return NULL;
+    }
+    dethrux_byte_order order = number < 0 ? DETHRUX_LITTLE_ENDIAN : DETHRUX_BIG_ENDIAN;
+    size_t start = 0, read = 0;
+    if (number == 0) {
+        dethrux_bom bom = dethrux_detect_bom(DETHRUX_NATIVE_ENDIAN, utf16.bytes, utf16.len);
+        order = bom.byte_order;
+        start = bom.len;
+        if (bom.status == DETHRUX_BOM_PRESENT) {
+            number = order == DETHRUX_LITTLE_ENDIAN ? -1 : 1;
+        }
+    }
+    PyObject *text = decoded(it, order, given[0], &utf16, start, given[1], final, &read);
+    release(&utf16);
+    return text ? Py_BuildValue("Nnn", text, (Py_ssize_t) read, number) : NULL;
 }
 
 /* Appends a part of the result, whose reference it takes. Returns whether it did. */
@@ -566,48 +593,48 @@ typedef struct {
 } source;
 
 /* Returns the length of the UTF-16 of a text without surrogates. */
-static size_t utf16_len(const native *it, const source *text) {
+static size_t utf16_len(const source *text) {
     if (text->kind == PyUnicode_4BYTE_KIND) {
-        return it->from_utf32_lossy_len(text->units, text->len);
+        return dethrux_from_utf32_lossy_len(text->units, text->len);
     }
     return text->len * 2;
 }
 
 /* Writes the UTF-16 of a text of two bytes a character, in blocks that stay in the cache. Returns
  * whether it has no surrogates: two of them in a str are not a pair. */
-static bool write_units(const native *it, dethrux_byte_order order, const uint8_t *units,
+static bool write_units(dethrux_byte_order order, const uint8_t *units,
                         size_t len, uint8_t *to) {
     for (size_t at = 0; at < len; at += BLOCK) {
         size_t part = len - at < BLOCK ? len - at : BLOCK;
-        dethrux_inspection found = it->inspect(DETHRUX_NATIVE_ENDIAN, units + at, part);
+        dethrux_inspection found = dethrux_inspect(DETHRUX_NATIVE_ENDIAN, units + at, part);
         if (found.status != DETHRUX_DONE || found.repertoire == DETHRUX_UNICODE) {
             return false;
         }
-        copy_units(it, order, units + at, part, to + at);
+        copy_units(order, units + at, part, to + at);
     }
     return true;
 }
 
 /* Writes the UTF-16 of a text. Returns whether it has no surrogates. */
-static bool write_utf16(const native *it, dethrux_byte_order order, const source *text, uint8_t *to,
+static bool write_utf16(dethrux_byte_order order, const source *text, uint8_t *to,
                         size_t len) {
     if (text->kind == PyUnicode_4BYTE_KIND) {
-        return it->from_utf32(order, text->units, text->len, to, len).status == DETHRUX_DONE;
+        return dethrux_from_utf32(order, text->units, text->len, to, len).status == DETHRUX_DONE;
     }
     if (text->kind == PyUnicode_1BYTE_KIND) {
-        return it->from_latin1(order, text->units, text->len, to, len).status == DETHRUX_DONE;
+        return dethrux_from_latin1(order, text->units, text->len, to, len).status == DETHRUX_DONE;
     }
-    return write_units(it, order, text->units, len, to);
+    return write_units(order, text->units, len, to);
 }
 
 /* Returns the UTF-16 of a text, after a BOM of this length, or NULL without an exception if it has
  * surrogates. */
-static PyObject *without_surrogates(const native *it, dethrux_byte_order order, const source *text,
+static PyObject *without_surrogates(dethrux_byte_order order, const source *text,
                                     size_t bom_len) {
     const uint16_t bom = 0xFEFF;
     bool is_long = text->len * (size_t) text->kind >= LONG;
     PyThreadState *saved = without_gil(is_long);
-    size_t len = utf16_len(it, text);
+    size_t len = utf16_len(text);
     with_gil(saved);
     PyObject *utf16 = PyBytes_FromStringAndSize(NULL, (Py_ssize_t) (bom_len + len));
     if (!utf16) {
@@ -616,7 +643,7 @@ static PyObject *without_surrogates(const native *it, dethrux_byte_order order, 
     uint8_t *to = (uint8_t *) PyBytes_AS_STRING(utf16);
     memcpy(to, &bom, bom_len);
     saved = without_gil(is_long);
-    bool is_encoded = write_utf16(it, order, text, to + bom_len, len);
+    bool is_encoded = write_utf16(order, text, to + bom_len, len);
     with_gil(saved);
     if (!is_encoded) {
         Py_CLEAR(utf16);
@@ -649,7 +676,7 @@ static source source_of(PyObject *text) {
 
 /* Appends what a handler has: whole code units in bytes or, as CPython requires, ASCII. Otherwise
  * it raises the exception again. Returns whether it did. */
-static bool append_replacement(const native *it, dethrux_byte_order order, handler *errors,
+static bool append_replacement(dethrux_byte_order order, handler *errors,
                                const char *encoding, PyObject *text, size_t at, PyObject *found,
                                PyObject *parts) {
     if (PyBytes_Check(found) && PyBytes_GET_SIZE(found) % 2 == 0) {
@@ -660,7 +687,7 @@ static bool append_replacement(const native *it, dethrux_byte_order order, handl
     }
     if (PyUnicode_Check(found) && PyUnicode_IS_ASCII(found)) {
         source ascii = source_of(found);
-        return append(parts, without_surrogates(it, order, &ascii, 0));
+        return append(parts, without_surrogates(order, &ascii, 0));
     }
     if (prepare(errors, false, encoding, text, at, at + 1, "surrogates not allowed")) {
         PyCodec_StrictErrors(errors->exception);
@@ -676,7 +703,7 @@ static bool append_text(const native *it, dethrux_byte_order order, handler *err
     for (;;) {
         size_t end = surrogate(&all, at);
         source part = part_of(&all, at, end);
-        if (!append(parts, without_surrogates(it, order, &part, 0))) {
+        if (!append(parts, without_surrogates(order, &part, 0))) {
             return false;
         }
         if (end == all.len) {
@@ -689,7 +716,7 @@ static bool append_text(const native *it, dethrux_byte_order order, handler *err
         }
         PyObject *found = replacement(errors, false, &position);
         bool is_appended = found && resume_at(position, all.len, &at)
-            && append_replacement(it, order, errors, encoding, text, end, found, parts);
+            && append_replacement(order, errors, encoding, text, end, found, parts);
         Py_XDECREF(found);
         if (!is_appended) {
             return false;
@@ -705,7 +732,7 @@ static PyObject *encoded_with_errors(const native *it, dethrux_byte_order order,
     source nothing = {"", 0, PyUnicode_1BYTE_KIND};
     PyObject *parts = PyList_New(0), *utf16 = NULL;
     handler errors = {NULL, NULL};
-    if (parts && append(parts, without_surrogates(it, order, &nothing, bom_len))
+    if (parts && append(parts, without_surrogates(order, &nothing, bom_len))
         && append_text(it, order, &errors, name, encoding, text, parts)) {
         PyObject *empty = PyBytes_FromStringAndSize(NULL, 0);
         utf16 = empty ? PyObject_CallMethod(empty, "join", "O", parts) : NULL;
@@ -723,16 +750,25 @@ static PyObject *encoded(const native *it, dethrux_byte_order order, PyObject *t
         return NULL;
     }
     source all = source_of(text);
-    PyObject *utf16 = without_surrogates(it, order, &all, bom_len);
+    PyObject *utf16 = without_surrogates(order, &all, bom_len);
     if (utf16 || PyErr_Occurred()) {
         return utf16;
     }
     return encoded_with_errors(it, order, text, name, bom_len);
 }
 
+/* Returns whether an argument is a text. */
+static bool is_text(PyObject *given) {
+    if (!PyUnicode_Check(given)) {
+        PyErr_Format(PyExc_TypeError, "a str is required, not '%s'", Py_TYPE(given)->tp_name);
+        return false;
+    }
+    return true;
+}
+
 static PyObject *encode(const native *it, arguments given) {
     int order = order_of(it, given[1]);
-    if (order < 0 || !PyUnicode_Check(given[0])) {
+    if (order < 0 || !is_text(given[0])) {
         return NULL;
     }
     return encoded(it, (dethrux_byte_order) order, given[0], given[2], 0);
@@ -741,7 +777,7 @@ static PyObject *encode(const native *it, arguments given) {
 /* Returns the UTF-16 and the length of the text. */
 static PyObject *encoded_part(const native *it, dethrux_byte_order order, arguments given,
                               size_t bom_len) {
-    if (!PyUnicode_Check(given[0])) {
+    if (!is_text(given[0])) {
         return NULL;
     }
     PyObject *utf16 = encoded(it, order, given[0], given[1], bom_len);
@@ -757,8 +793,14 @@ static PyObject *utf_16_be_encode(const native *it, arguments given) {
 }
 
 static PyObject *utf_16_encode(const native *it, arguments given) {
-    /* With a byte order the function in Python calls one of the two above. */
-    return given[2] ? NULL : encoded_part(it, DETHRUX_NATIVE_ENDIAN, given, 2);
+    Py_ssize_t number = given[2] ? PyNumber_AsSsize_t(given[2], PyExc_OverflowError) : 0;
+    if (PyErr_Occurred()) {
+        return NULL;
+    }
+    if (number == 0) {
+        return encoded_part(it, DETHRUX_NATIVE_ENDIAN, given, 2);
+    }
+    return encoded_part(it, number < 0 ? DETHRUX_LITTLE_ENDIAN : DETHRUX_BIG_ENDIAN, given, 0);
 }
 
 /* UTF-16 to and from UTF-8. */
@@ -767,18 +809,6 @@ static PyObject *utf_16_encode(const native *it, arguments given) {
 static bool is_named(PyObject *errors, const char *name) {
     return errors && PyUnicode_CheckExact(errors)
         && PyUnicode_CompareWithASCIIString(errors, name) == 0;
-}
-
-/* Returns the name of an error handler, or NULL if CPython's functions do not take this name. */
-static const char *name_of(PyObject *errors) {
-    if (!errors) {
-        return "strict";
-    }
-    if (!PyUnicode_CheckExact(errors) || !PyUnicode_IS_ASCII(errors)) {
-        return NULL;
-    }
-    const char *name = PyUnicode_AsUTF8(errors);
-    return name && strlen(name) == (size_t) PyUnicode_GET_LENGTH(errors) ? name : NULL;
 }
 
 /* Makes room for more bytes after those that are written. Returns whether there is. */
@@ -808,7 +838,7 @@ static bool write_rest(const native *it, dethrux_byte_order order, const input *
         }
         uint8_t *to = (uint8_t *) PyBytes_AS_STRING(*output) + written;
         memcpy(to, found.utf8, found.len);
-        done = it->to_utf8(order, utf16->bytes + at, left, to + found.len, more - found.len);
+        done = dethrux_to_utf8(order, utf16->bytes + at, left, to + found.len, more - found.len);
         at += done.read;
         written += found.len + done.written;
     }
@@ -837,6 +867,11 @@ static PyObject *utf8_of_rest(const native *it, dethrux_byte_order order, const 
     return output;
 }
 
+/* Returns the name of the error handler that was given, as an object to pass on. */
+static PyObject *name_given(const native *it, PyObject *errors) {
+    return errors ? errors : it->strict;
+}
+
 static PyObject *decode_to_utf8(const native *it, arguments given) {
     int order = order_of(it, given[1]);
     input utf16;
@@ -846,21 +881,38 @@ static PyObject *decode_to_utf8(const native *it, arguments given) {
     PyObject *utf8 = NULL;
     if (is_name(it, given[2])) {
         dethrux_progress done;
-        utf8 = converted(is_named(given[2], "replace") ? it->to_utf8_lossy : it->to_utf8,
+        utf8 = converted(is_named(given[2], "replace") ? dethrux_to_utf8_lossy : dethrux_to_utf8,
                          (dethrux_byte_order) order, &utf16, DETHRUX_UTF8_MAX(utf16.len), &done);
         if (utf8 && done.status != DETHRUX_DONE) {
             utf8 = utf8_of_rest(it, (dethrux_byte_order) order, &utf16, utf8, done, given[2]);
         }
     }
     release(&utf16);
-    const char *name = name_of(given[2]);
-    if (utf8 || PyErr_Occurred() || !name) {
+    if (utf8 || PyErr_Occurred()) {
         return utf8;
     }
     PyObject *text = decode(it, given);
-    utf8 = text ? PyUnicode_AsEncodedString(text, "utf-8", name) : NULL;
+    if (text) {
+        utf8 = PyObject_CallMethod(text, "encode", "sO", "utf-8", name_given(it, given[2]));
+    }
     Py_XDECREF(text);
     return utf8;
+}
+
+/* Returns the UTF-16 of ill-formed UTF-8 through a str, with what the error handler has. */
+static PyObject *through_text(const native *it, dethrux_byte_order order, PyObject *object,
+                              const input *utf8, PyObject *name) {
+    PyObject *bytes = as_bytes(object, utf8->bytes, utf8->len), *utf16 = NULL, *text = NULL;
+    if (bytes) {
+        text = PyObject_CallFunction((PyObject *) &PyUnicode_Type, "OsO", bytes, "utf-8",
+                                     name_given(it, name));
+    }
+    if (text) {
+        utf16 = encoded(it, order, text, name, 0);
+    }
+    Py_XDECREF(text);
+    Py_XDECREF(bytes);
+    return utf16;
 }
 
 static PyObject *encode_from_utf8(const native *it, arguments given) {
@@ -872,21 +924,16 @@ static PyObject *encode_from_utf8(const native *it, arguments given) {
     PyObject *utf16 = NULL;
     if (is_name(it, given[2])) {
         dethrux_progress done;
-        utf16 = converted(is_named(given[2], "replace") ? it->from_utf8_lossy : it->from_utf8,
-                          (dethrux_byte_order) order, &utf8, DETHRUX_UTF16_MAX(utf8.len), &done);
+        conversion *convert =
+            is_named(given[2], "replace") ? dethrux_from_utf8_lossy : dethrux_from_utf8;
+        utf16 = converted(convert, (dethrux_byte_order) order, &utf8, DETHRUX_UTF16_MAX(utf8.len),
+                          &done);
         if (utf16 && done.status != DETHRUX_DONE) {
-            Py_CLEAR(utf16);
+            Py_DECREF(utf16);
+            utf16 = through_text(it, (dethrux_byte_order) order, given[0], &utf8, given[2]);
         }
     }
     release(&utf8);
-    const char *name = name_of(given[2]);
-    if (utf16 || PyErr_Occurred() || !name || !PyBytes_CheckExact(given[0])) {
-        return utf16;
-    }
-    const char *bytes = PyBytes_AS_STRING(given[0]);
-    PyObject *text = PyUnicode_DecodeUTF8(bytes, PyBytes_GET_SIZE(given[0]), name);
-    utf16 = text ? encoded(it, (dethrux_byte_order) order, text, given[2], 0) : NULL;
-    Py_XDECREF(text);
     return utf16;
 }
 
