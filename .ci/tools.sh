@@ -27,6 +27,7 @@ packages=(
     # Python and JavaScript.
     python3=python3 python3-pip=pip python3-dev="$python_headers" python3-venv=module:ensurepip
     "libpython${python_version:-3}-testsuite=module:test.test_codecs" mypy=mypy python3-distributed
+    python3-setuptools python3-setuptools=module:setuptools python3-wheel-whl
     nodejs=node npm=npm node-typescript=tsc
     # Documents and packages.
     cmark-gfm=cmark-gfm mandoc=mandoc doxygen=doxygen chromium=chromium debhelper=dh
