@@ -133,25 +133,6 @@ def python():
                 yield column, cells[2], *cells[:2], "µs", "", "", "CPython", theirs, cell
 
 
-def retain():
-    text = ""
-    for _, cells in tables("retain"):
-        text = cells[0] or text
-        for order, at in (("le", 2), ("be", 3)):
-            for other, their in (("String", 4), ("Vec<u16>", 5)):
-                by = ratio(cells[at], cells[their], is_time=True)
-                what = f"retain, {cells[1]}", order, text, "16 MiB", "ms", ""
-                yield *what, cells[at], other, cells[their], by
-
-
-def sort():
-    for _, cells in tables("sort"):
-        for order, at in (("le", 1), ("be", 2)):
-            by = ratio(cells[at], cells[4], is_time=True)
-            what = "sort", order, cells[0], "a million", "ms", ""
-            yield *what, cells[at], "Rust's String", cells[4], by
-
-
 def rust():
     task, ours = "", []
     for columns, cells in tables("rust"):
@@ -167,7 +148,7 @@ def rust():
 def measured():
     """The rows of all scripts that were run, by their keys."""
     found = {}
-    for it in (run, real, fixed, walks, worst, python, retain, sort, rust):
+    for it in (run, real, fixed, walks, worst, python, rust):
         name = "lines.tsv" if it is run else f"{it.__name__}.md"
         for row in it() if os.path.exists(f"out/{name}") else ():
             row = {"script": it.__name__, **dict(zip(COLUMNS[4:], row))}

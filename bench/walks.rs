@@ -5,7 +5,7 @@ use std::collections::hash_map::DefaultHasher;
 use std::hash::{Hash, Hasher};
 use std::time::Instant;
 
-const CALLS: [&str; 13] = [
+const CALLS: [&str; 14] = [
     "chars",
     "char_indices",
     "rev",
@@ -19,6 +19,7 @@ const CALLS: [&str; 13] = [
     "push_wstr",
     "insert,remove",
     "pop",
+    "retain",
 ];
 const KINDS: [&str; 4] = ["ascii", "latin_cyrillic", "cjk", "emoji"];
 const SIZES: [(usize, u32); 5] = [(16, 40_000), (64, 20_000), (1024, 3000), (16_384, 200), (1_048_576, 4)];
@@ -156,6 +157,17 @@ fn pop(to: &mut String, text: &str) -> u64 {
     sum
 }
 
+#[inline(never)]
+fn retain(to: &mut String, text: &str) -> u64 {
+    push_str(to, text);
+    let mut odd = false;
+    to.retain(|c| {
+        odd = !odd;
+        odd && c != '_'
+    });
+    last(to)
+}
+
 fn last(text: &str) -> u64 {
     text.chars().next_back().map_or(0, |c| c as u64)
 }
@@ -180,7 +192,8 @@ fn called(call: usize, text: &str, other: &str, letters: &[char], middle: usize,
             last(to)
         }
         11 => insert(to, middle),
-        _ => pop(to, text),
+        12 => pop(to, text),
+        _ => retain(to, text),
     }
 }
 
