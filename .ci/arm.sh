@@ -21,23 +21,13 @@ warnings=(-O2 -Wall -Wextra -Wpedantic -Werror)
 
 # == dist/
 
-# Builds the library with a compiler, runs its checks, and adds their counts: the tables of cases
-# over both libraries, and code units.
+# Builds the library with a compiler and runs its checks: the tables of cases over both libraries,
+# and code units.
 tables() {
-    local compiler=$1 line lines=0
-    make -s -C "$top/dist" CC="$compiler" check > "$room/tables" 2>&1 || {
-        failed=$((failed + 1))
-        echo "failed: make check with $compiler"
-        tail -n 20 "$room/tables"
-        return 1
-    }
-    while read -r line; do
-        [[ $line =~ ^([0-9]+)\ passed,\ ([0-9]+)\ failed$ ]] || continue
-        lines=$((lines + 1))
-        passed=$((passed + BASH_REMATCH[1]))
-        failed=$((failed + BASH_REMATCH[2]))
-    done < "$room/tables"
-    check "four counts with $compiler" [ $lines = 4 ]
+    make -s -C "$top/dist" CC="$1" check > "$room/tables"
+    local status=$?
+    cat "$room/tables"
+    [ $status = 0 ] && [ "$(grep -cxE '[0-9]+ passed, 0 failed' "$room/tables")" = 4 ]
 }
 
 # Tests that the shared library has its name, needs only libc, and only what glibc 2.17 has, the
@@ -114,20 +104,6 @@ fuzz() {
     QEMU_PAGESIZE=65536 qemu-aarch64 "$top/fuzz/out/arm64/harness" --random 2 5 > "$room/pages" 2>&1
 }
 
-# Adds the counts of the harness.
-add_fuzzing() {
-    wait
-    sed '$d' "$room/fuzzing"
-    if [[ $(tail -n 1 "$room/fuzzing") =~ ^([0-9]+)\ passed,\ ([0-9]+)\ failed$ ]]; then
-        passed=$((passed + BASH_REMATCH[1]))
-        failed=$((failed + BASH_REMATCH[2]))
-    else
-        failed=$((failed + 1))
-        tail -n 1 "$room/fuzzing"
-    fi
-    check 'the harness with pages of 64 KiB' finds_nothing "$room/pages"
-}
-
 # Tests that the harness ended without a failure.
 finds_nothing() {
     cat "$1"
@@ -170,9 +146,9 @@ need "${for_arm64[@]}" $triplet-g++:g++-$triplet qemu-aarch64:qemu-user clang:cl
     make:make pkg-config:pkg-config dpkg-buildpackage:dpkg-dev dh:debhelper lintian:lintian ||
     finish
 
-tables $triplet-gcc || finish
+count 'the tables with gcc' tables $triplet-gcc || finish
 fuzz &
-tables 'clang --target=aarch64-linux-gnu'
+count 'the tables with clang' tables 'clang --target=aarch64-linux-gnu'
 check 'the symbols of the shared library' \
     exports_header $triplet-nm -D --defined-only "$folder/libdethrux.so"
 check 'the symbols of the static library' \
@@ -186,5 +162,7 @@ if check 'the Debian packages, twice' makes_same_packages; then
     check 'the packages unpacked' runs_unpacked
     check 'no programs in the packages' has_no_more
 fi
-add_fuzzing
+wait
+count 'fuzzing' finds_nothing "$room/fuzzing"
+check 'fuzzing with pages of 64 KiB' finds_nothing "$room/pages"
 finish

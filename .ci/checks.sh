@@ -25,6 +25,14 @@ check() {
     fi
 }
 
+# Does the same. It counts by the lines 'N passed, 0 failed' of its output, or as one.
+count() {
+    local tests
+    check "$@" || return
+    tests=$(sed -n 's/^\([0-9]*\) passed, 0 failed\r\?$/\1/p' "$room/said" | paste -sd +)
+    [ -z "$tests" ] || passed=$((passed - 1 + tests))
+}
+
 # Installs Debian packages.
 install_packages() {
     apt-get -o DPkg::Lock::Timeout=600 install -y -q --no-install-recommends "$@"
