@@ -220,17 +220,6 @@ fn write_short_rest<E: Utf16Order>(raw: &[u8], to: &mut [u8], from: Moved) -> Mo
     if raw.len() - from.read < 8 {
         return from;
     }
-    write_eights_from::<E>(raw, to, from)
-}
-
-// Writes what follows what was written, eight code units at a time.
-#[inline(always)]
-fn write_eights_from<E: Utf16Order>(raw: &[u8], to: &mut [u8], from: Moved) -> Moved
-    requires many { from.read + 8 ≤ length raw.now }
-    requires wrote { Wrote (TranscodesToUtf8 E.BIG) raw.now to.old from.read from.written }
-    ensures wrote { Wrote (TranscodesToUtf8 E.BIG) raw.now to.new result.read result.written }
-    ensures more { from.read ≤ result.read }
-{
     let rest = write_eights::<E>(&raw[from.read..], &mut to[from.written..]);
     Moved {
         read: from.read + rest.read,

@@ -267,10 +267,9 @@ fn write_chars<D: Direction>(rest: &[u8], to: &mut [u8], at: usize) -> Moved
     ensures { Puts (Gives D.IsValid D.other) rest.now to.old to.new at result.read result.written }
 {
     D::laws();
-    let Moved {
-        mut read,
-        mut written,
-    } = write_start::<D>(rest, to, at);
+    let begun = D::begin(rest, &mut to[at..]);
+    let mut read = begun.read;
+    let mut written = at + begun.written;
     while read < rest.len() {
         let Ok(next) = write_next_char::<D>(&rest[read..], to, written) else {
             break;
@@ -279,19 +278,6 @@ fn write_chars<D: Direction>(rest: &[u8], to: &mut [u8], at: usize) -> Moved
         written = next.written;
     }
     Moved { read, written }
-}
-
-// Writes what `begin` writes, which may be nothing, at `at`.
-#[inline(always)]
-fn write_start<D: Direction>(rest: &[u8], to: &mut [u8], at: usize) -> Moved
-    requires { at ≤ length to.old }
-    ensures { Puts (Gives D.IsValid D.other) rest.now to.old to.new at result.read result.written }
-{
-    let begun = D::begin(rest, &mut to[at..]);
-    Moved {
-        read: begun.read,
-        written: at + begun.written,
-    }
 }
 
 // Writes the first character at `at`, or returns why it does not.
