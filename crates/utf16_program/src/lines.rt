@@ -1,6 +1,6 @@
 //! The lines of a report, which are appended to bytes.
 
-ghost use Rattle.std.specs.Prelude.{◌≡◌, ◌<◌, [], ◌∷◌, flat_map, true};
+ghost use Rattle.std.specs.Prelude.{◌≡◌, ◌<◌, ◌-◌, ◌^◌, [], ◌∷◌, flat_map, length, min, true};
 ghost use Rattle.std.specs.Fmt.{digit_glyph, digits};
 ghost use Rattle.utf16_program.specs.Lines.{Puts};
 ghost use Rattle.utf16_program.specs.Report.{count_line, ill_formed_line, tail_line};
@@ -91,14 +91,25 @@ pub fn append_counts<A: Allocator>(
     )
 }
 
-// Appends the parts of a line.
+// Appends the parts of a line, for which capacity is requested at once.
 fn append<A: Allocator>(parts: &[&[u8]], lines: &mut Vec<u8, A>) -> Result<(), AllocError>
     ensures { Puts lines.old lines.new result (flat_map (λ p. p.now) parts.now) }
 {
+    lines.reserve(len_of(parts))?;
     for part in parts {
         lines.extend_from_slice(part)?;
     }
     Ok(())
+}
+
+fn len_of(parts: &[&[u8]]) -> usize
+    ensures { result ≡ min (length (flat_map (λ p. p.now) parts.now)) (2 ^ 64 - 1) }
+{
+    let mut len: usize = 0;
+    for part in parts {
+        len = len.saturating_add(part.len());
+    }
+    len
 }
 
 // Writes the digits of a number in base 16 to the end of a buffer, and returns them.
