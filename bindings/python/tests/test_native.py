@@ -1006,8 +1006,10 @@ class Interpreters(unittest.TestCase):
         kept = [dethrux.Validity, dethrux.Progress, dethrux.Bom, statuses[0], codecs.lookup_error]
         kept += [codecs.replace_errors, codecs.ignore_errors, codecs.backslashreplace_errors]
         kept += [codecs.lookup_error("surrogatepass"), tuple(dethrux.BomStatus)[0]]
+        words = "little", "big", "strict"
         gc.collect()
         before = [sys.getrefcount(each) for each in kept]
+        of_words = [sys.getrefcount(each) for each in words]
         for _ in range(3):
             others = [self.other() for _ in range(5)]
             self.assertEqual(others[-1].validate(b"a", "little"), (0, 2, 0))
@@ -1015,6 +1017,7 @@ class Interpreters(unittest.TestCase):
             del others
             gc.collect()
             self.assertEqual([sys.getrefcount(each) for each in kept], before)
+            self.assertEqual([sys.getrefcount(each) for each in words], of_words)
         self.assertEqual(dethrux.decode(b"a\0", "little"), "a")
 
     def test_a_module_in_a_cycle(self):
