@@ -73,7 +73,7 @@ install_all() {
     local from=$top file line
     room=$(mktemp -d)
     trap 'rm -rf "$room"' EXIT
-    if [ -d "$top/dist" ]; then
+    if [ -d "$top/packaging" ]; then
         from=$room/built
         "$top/packaging/build.sh" "$from" > /dev/null
     elif [ "$libdir" != lib ]; then
