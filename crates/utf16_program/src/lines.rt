@@ -14,7 +14,7 @@ use utf16_units::is_leading_surrogate;
 ///
 /// # Errors
 ///
-/// If allocation fails. In that case the first bytes of the line may be appended.
+/// If the capacity does not suffice and allocation fails. The bytes that were there before stay.
 pub fn append_unpaired<A: Allocator>(
     offset: u64,
     unit: u16,
@@ -45,7 +45,7 @@ pub fn append_unpaired<A: Allocator>(
 ///
 /// # Errors
 ///
-/// If allocation fails. In that case the first bytes of the line may be appended.
+/// If the capacity does not suffice and allocation fails. The bytes that were there before stay.
 pub fn append_incomplete<A: Allocator>(
     offset: u64,
     lines: &mut Vec<u8, A>,
@@ -68,7 +68,7 @@ pub fn append_incomplete<A: Allocator>(
 ///
 /// # Errors
 ///
-/// If allocation fails. In that case the first bytes of the line may be appended.
+/// If the capacity does not suffice and allocation fails. The bytes that were there before stay.
 pub fn append_counts<A: Allocator>(
     bytes: u64,
     chars: u64,
