@@ -11,8 +11,9 @@ built=out
 seconds=60
 seed=1
 compiler=gcc
-# What starts a program.
+# What starts a program, and how many seconds suffice for the planted versions.
 start=()
+planting=10
 planted=(dethrux_from_utf8_len dethrux_from_utf8_lossy dethrux_to_utf8 dethrux_encoder_feed
     dethrux_validate)
 passed=0
@@ -35,6 +36,7 @@ while [ $# != 0 ]; do
         --arm64)
             compiler=aarch64-linux-gnu-gcc
             start=(qemu-aarch64 -L /usr/aarch64-linux-gnu)
+            planting=40
             export PEERS=no COUNTS=no
             shift
             continue
@@ -73,7 +75,7 @@ check_library() {
 # Counts each planted version that is found, and one failure if another call is reported.
 check_planted() {
     local call
-    random $built/planted 5 > /dev/null
+    random $built/planted $planting > /dev/null
     for call in "${planted[@]}"; do
         if grep -q "^$call: " "$room/said"; then
             passed=$((passed + 1))
