@@ -1,5 +1,5 @@
 -- Prefixes and suffixes of a text, by its bytes.
-use Rattle.std.proofs.Common.{◌≡◌, ℕ, ◌+◌, ◌-◌, ◌%◌, Bool, true, All, ◌↔◌, List, [], ◌∷◌, ◌++◌, length, take, take_all, drop, refl, sym, ap, ◌∙◌, subst, arith, append-nil, length-append, drop_at}
+use Rattle.std.proofs.Common.{◌≡◌, ℕ, ◌+◌, ◌%◌, Bool, true, All, ◌↔◌, List, [], ◌∷◌, ◌++◌, length, take, take_all, drop, refl, sym, ap, ◌∙◌, subst, arith, append-nil, length-append, drop_at}
 use Rattle.std.proofs.Math.Seq.{take-append_seam}
 use Rattle.std.specs.Char.{IsScalar}
 use Rattle.utf16_units.specs.Boundary.{IsBoundary, text_between, text_from, text_to}
@@ -67,11 +67,6 @@ module _ (big : Bool) (bytes part : List ℕ) (t : is_utf16 big bytes ≡ true) 
   bytes_before back e =
       let is = bytes_begin big bytes part (IsUtf16-from_is_utf16 big bytes t) (IsUtf16-from_is_utf16 big part p) back e in
       sym (ap (take (length part)) is ∙ take-append_seam part (encode big back))
-
-  pub length-before : (back : List ℕ) → text_of big bytes ≡ text_of big part ++ back → length part ≡ length bytes - size back
-  length-before back e =
-      let is = bytes_begin big bytes part (IsUtf16-from_is_utf16 big bytes t) (IsUtf16-from_is_utf16 big part p) back e in
-      omega (arith, ap length is, length-append part (encode big back), length-encode big back)
 
 -- bytes begin, or end, with the encoding of a part exactly if the text does with the part
 module _ (big : Bool) (text bytes part : List ℕ) (e : Encodes big text bytes) (scalars : All IsScalar part) where

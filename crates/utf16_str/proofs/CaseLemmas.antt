@@ -1,5 +1,5 @@
 -- Two texts compared character by character, after a change of each.
-use Rattle.std.proofs.Common.{◌≡◌, ◌≢◌, ◌↔◌, ℕ, List, [], ◌∷◌, map, refl, sym, ap, ◌∙◌}
+use Rattle.std.proofs.Common.{◌≡◌, ◌≢◌, ◌↔◌, ℕ, List, [], ◌∷◌, map, sym, ap, ◌∙◌}
 
 -- whether the texts are the same after the change, as long as it depends on what is left of them
 module _ (change : ℕ → ℕ) (Same : Type 0) (ours theirs : List ℕ) (so_far : Same ↔ (map change ours ≡ map change theirs)) where
@@ -21,16 +21,6 @@ module _ (change : ℕ → ℕ) (Same : Type 0) (ours theirs : List ℕ) (so_far
   longer c our_rest our none same =
       let both : change c ∷ map change our_rest ≡ [] = sym (ap (map change) our) ∙ so_far.0 same ∙ ap (map change) none in
       cc
-
-  -- our text has ended
-  pub ends_too : ours ≡ [] → Same ↔ (theirs ≡ [])
-  ends_too none = (
-    λ same. empty theirs (sym (so_far.0 same) ∙ ap (map change) none),
-    λ e. so_far.1 (ap (map change) none ∙ sym (ap (map change) e)),
-  ) where
-    empty : (text : List ℕ) → map change text ≡ [] → text ≡ []
-    empty [] e = refl
-    empty (c ∷ text) e = absurd (cc e)
 
 -- at the start nothing has been read
 pub same-start : (change : ℕ → ℕ) (text other ours theirs : List ℕ) → ours ≡ text → theirs ≡ other

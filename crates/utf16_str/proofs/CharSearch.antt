@@ -69,6 +69,3 @@ has wanted (c ∷ front) back lacks = has wanted front back (All-tail (λ c. c �
 
 pub lacks-not : (wanted : ℕ) (text front back : List ℕ) → text ≡ front ++ wanted ∷ back → Lacks wanted text → ⊥
 lacks-not wanted text front back is lacks = has wanted front back (subst (Lacks wanted) is lacks)
-
-pub lacks_last : (text : List ℕ) (c : ℕ) → IsLast (λ i. OccursIn text i (c ∷ [])) None → Lacks c text
-lacks_last text c none = lacks_all text c none

@@ -37,6 +37,7 @@ mod PredicateTrims
 mod PredicateCuts
 mod PredicateAround
 mod PredicateSplitRuns
+mod PredicateWithin
 mod PartsCount
 mod Utf8Size
 pub mod PredicateRestated

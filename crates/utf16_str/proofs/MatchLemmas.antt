@@ -9,10 +9,6 @@ module _ (join : List (List ℕ) → List ℕ) where
   limited-one [] some = absurd (omega (arith, some))
   limited-one (part ∷ parts) some = refl
 
-  pub limited-none : (n : ℕ) → limited join n [] ≡ []
-  limited-none zero = refl
-  limited-none (suc n) = refl
-
   pub limited-more : (n less : ℕ) (part : List ℕ) (parts : List (List ℕ)) → n ≡ less + 1 → 0 < less → limited join n (part ∷ parts) ≡ part ∷ limited join less parts
   limited-more n zero part parts is some = absurd (omega (arith, some))
   limited-more n (suc less) part parts is some =
@@ -29,10 +25,6 @@ module _ (join : List (List ℕ) → List ℕ) where
 filled : (c : ℕ) (text : List ℕ) → eqb (length (c ∷ text)) 0 ≡ false
 filled c text = grind arith
 
-pub without-last : (last : List ℕ) → last ≡ [] → without_empty_last (last ∷ []) ≡ []
-without-last [] none = refl
-without-last (c ∷ last) none = absurd cc
-
 pub without-kept : (last : List ℕ) → ¬ (last ≡ []) → without_empty_last (last ∷ []) ≡ last ∷ []
 without-kept [] some = absurd (some refl)
 without-kept (c ∷ last) some = ap (λ b. cond b [] ((c ∷ last) ∷ [])) (filled c last)
@@ -48,10 +40,6 @@ length-without ((c ∷ last) ∷ []) = omega (arith, ap length (without-kept (c 
 length-without (part ∷ next ∷ parts) = omega (arith, length-without (next ∷ parts))
 
 module _ (part : List ℕ) where
-  pub with-last : (last : List ℕ) → last ≡ [] → with_terminators part (last ∷ []) ≡ []
-  with-last [] none = refl
-  with-last (c ∷ last) none = absurd cc
-
   pub with-kept : (last : List ℕ) → ¬ (last ≡ []) → with_terminators part (last ∷ []) ≡ last ∷ []
   with-kept [] some = absurd (some refl)
   with-kept (c ∷ last) some = ap (λ b. cond b [] ((c ∷ last) ∷ [])) (filled c last)

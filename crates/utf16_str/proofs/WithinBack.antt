@@ -1,11 +1,13 @@
 -- The same for substrings that come from the end, the last first.
-use Rattle.std.proofs.Common.{◌≡◌, ℕ, zero, suc, ◌<◌, All, List, [], ◌∷◌, ◌++◌, length, sym, ap, ◌∙◌, arith, append_assoc, append-nil}
+use Rattle.std.proofs.Common.{◌≡◌, ℕ, zero, suc, ◌-◌, ◌<◌, All, List, [], ◌∷◌, ◌++◌, length, sym, ap, ◌∙◌, arith, append_assoc, append-nil}
 use Rattle.std.proofs.lemmas.List.{length-reverse, reverse-append}
 use Rattle.std.proofs.lemmas.List.Elements.{All-cons, All-nil}
 use Rattle.std.specs.Prelude.{reverse}
-use Rattle.utf16_str.specs.Matches.{limited}
+use Rattle.utf16_units.specs.Encoding.{size}
+use Rattle.utf16_units.proofs.EncodingLemmas.{size-append}
+use Rattle.utf16_str.specs.Matches.{limited, rmatch_offsets}
 use Rattle.utf16_str.specs.Splits.{joined_with, rjoined_with}
-use Rattle.utf16_str.proofs.WithinLemmas.{Joins, Within, joins-with}
+use Rattle.utf16_str.proofs.WithinLemmas.{Joins, Within, WithinAt, joins-with}
 
 -- a last substring joined to others
 join-last : (part : List ℕ) (join : List (List ℕ) → List ℕ) → Joins part join → (parts : List (List ℕ)) (last : List ℕ) → 0 < length parts
@@ -47,6 +49,17 @@ module _ (part text : List ℕ) where
   within-joined back (p ∷ q ∷ parts) is =
       All-cons (Within text) p (q ∷ parts) (last back p q parts is) (within-joined ((part ++ p) ++ back) (q ∷ parts) (after back p q parts is))
 
+  within-rmatches : (end : ℕ) (back : List ℕ) (parts : List (List ℕ)) → end ≡ size (join parts) → text ≡ join parts ++ back
+      → All (λ at. WithinAt text at.0 at.1) (rmatch_offsets part end parts)
+  within-rmatches end back [] here is = All-nil (λ at. WithinAt text at.0 at.1)
+  within-rmatches end back (p ∷ []) here is = All-nil (λ at. WithinAt text at.0 at.1)
+  within-rmatches end back (p ∷ q ∷ parts) here is =
+      let past : end - size p - size part ≡ size (join (q ∷ parts)) =
+      omega (arith, here, ap size (join-more p q parts), size-append (join (q ∷ parts)) (part ++ p), size-append part p) in
+      All-cons (λ at. WithinAt text at.0 at.1) (end - size p - size part, part) (rmatch_offsets part (end - size p - size part) (q ∷ parts))
+      ((join (q ∷ parts), p ++ back, after back p q parts is ∙ ap (λ t. join (q ∷ parts) ++ t) (append_assoc part p back)), past)
+      (within-rmatches (end - size p - size part) ((part ++ p) ++ back) (q ∷ parts) past (after back p q parts is))
+
   within-limited : (n : ℕ) (back : List ℕ) (parts : List (List ℕ)) → text ≡ join parts ++ back → All (Within text) (limited join n parts)
   within-limited zero back parts is = All-nil (Within text)
   within-limited (suc n) back [] is = All-nil (Within text)
@@ -63,3 +76,6 @@ module _ (part text : List ℕ) (parts : List (List ℕ)) (is : text ≡ rjoined
 
   pub within-rfirst : (n : ℕ) → All (Within text) (limited (rjoined_with part) n parts)
   within-rfirst n = within-limited part text n [] parts (is ∙ sym (append-nil (rjoined_with part parts)))
+
+  pub within-rat : All (λ at. WithinAt text at.0 at.1) (rmatch_offsets part (size text) parts)
+  within-rat = within-rmatches part text (size text) [] parts (ap size is) (is ∙ sym (append-nil (rjoined_with part parts)))

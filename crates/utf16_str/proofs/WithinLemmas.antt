@@ -1,17 +1,23 @@
 -- The substrings of a text that its iterators give are in the text.
-use Rattle.std.proofs.Common.{◌≡◌, ℕ, zero, suc, Bool, true, false, cond, eqb, All, List, [], ◌∷◌, ◌++◌, length, drop, take, refl, sym, ap, ◌∙◌, append_assoc, append-nil, flat_map}
+use Rattle.std.proofs.Common.{◌≡◌, ℕ, zero, suc, ◌+◌, Bool, arith, true, false, cond, eqb, All, List, [], ◌∷◌, ◌++◌, length, drop, take, refl, sym, ap, ◌∙◌, append_assoc, append-nil, flat_map}
 use Rattle.std.proofs.lemmas.List.{take-append-drop}
 use Rattle.std.proofs.lemmas.List.Elements.{All-cons, All-filter, All-head, All-nil, All-same, All-tail, All-weaker}
 use Rattle.std.specs.List.{onto_first, slice_split}
 use Rattle.std.specs.Prelude.{◌-◌, filter, nat_lt, slice_index}
 use Rattle.std.specs.Str.Lines.{lines_of_parts, strip_carriage_return}
-use Rattle.utf16_str.specs.Matches.{limited, with_terminators, without_empty_last}
+use Rattle.utf16_units.specs.Encoding.{size}
+use Rattle.utf16_units.proofs.EncodingLemmas.{size-append, size-nil}
+use Rattle.utf16_str.specs.Matches.{limited, match_offsets, with_terminators, without_empty_last}
 use Rattle.utf16_str.specs.Splits.{joined_with, split_by}
 use Rattle.utf16_str.proofs.JoinLemmas.{join-parts}
 
 -- the part is in the text
 abbrev pub Within : List ℕ → List ℕ → Type 0
 Within text part = (front : List ℕ) × (back : List ℕ) × (text ≡ front ++ (part ++ back))
+
+-- the part is in the text at an offset
+abbrev pub WithinAt : List ℕ → ℕ → List ℕ → Type 0
+WithinAt text at part = (w : Within text part) × (at ≡ size w.0)
 
 -- a part up to some place in it is in the text too
 within-take : (text part : List ℕ) (n : ℕ) → Within text part → Within text (take n part)
@@ -132,6 +138,16 @@ module _ (part : List ℕ) (join : List (List ℕ) → List ℕ) (j : Joins part
       All-cons (Within text) p (limited join (suc n) (q ∷ parts)) (front, part ++ join (q ∷ parts), before front p q parts is)
       (within-limited (suc n) (front ++ (p ++ part)) (q ∷ parts) (later front p q parts is))
 
+  within-matches : (offset : ℕ) (front : List ℕ) (parts : List (List ℕ)) → offset ≡ size front → text ≡ front ++ join parts
+      → All (λ at. WithinAt text at.0 at.1) (match_offsets part offset parts)
+  within-matches offset front [] here is = All-nil (λ at. WithinAt text at.0 at.1)
+  within-matches offset front (p ∷ []) here is = All-nil (λ at. WithinAt text at.0 at.1)
+  within-matches offset front (p ∷ q ∷ parts) here is =
+      let past : offset + size p + size part ≡ size (front ++ (p ++ part)) = omega (arith, here, size-append front (p ++ part), size-append p part) in
+      All-cons (λ at. WithinAt text at.0 at.1) (offset + size p, part) (match_offsets part (offset + size p + size part) (q ∷ parts))
+      ((front ++ p, join (q ∷ parts), before front p q parts is ∙ sym (append_assoc front p (part ++ join (q ∷ parts)))), omega (arith, here, size-append front p))
+      (within-matches (offset + size p + size part) (front ++ (p ++ part)) (q ∷ parts) past (later front p q parts is))
+
   within-terminated : (front : List ℕ) (parts : List (List ℕ)) → text ≡ front ++ join parts → All (Within text) (with_terminators part parts)
   within-terminated front [] is = All-nil (Within text)
   within-terminated front (p ∷ []) is = unless_empty (Within text) (eqb (length p) 0) p (at_front front p is)
@@ -140,7 +156,8 @@ module _ (part : List ℕ) (join : List (List ℕ) → List ℕ) (j : Joins part
       (front, join (q ∷ parts), before front p q parts is ∙ ap (λ t. front ++ t) (sym (append_assoc p part (join (q ∷ parts)))))
       (within-terminated (front ++ (p ++ part)) (q ∷ parts) (later front p q parts is))
 
--- the substrings of a text that are joined by a part, the first n of them, and those with it
+-- the substrings of a text that are joined by a part, the first n of them, those with it, and
+-- where it is
 module _ (part text : List ℕ) (parts : List (List ℕ)) (is : text ≡ joined_with part parts) where
   pub within-parts : All (Within text) parts
   within-parts = within-joined part (joined_with part) (joins-with part) text [] parts is
@@ -150,6 +167,9 @@ module _ (part text : List ℕ) (parts : List (List ℕ)) (is : text ≡ joined_
 
   pub within-ended : All (Within text) (with_terminators part parts)
   within-ended = within-terminated part (joined_with part) (joins-with part) text [] parts is
+
+  pub within-at : All (λ at. WithinAt text at.0 at.1) (match_offsets part 0 parts)
+  within-at = within-matches part (joined_with part) (joins-with part) text 0 [] parts (sym size-nil) is
 
 pub within-split_by : (part text : List ℕ) → All (Within text) (split_by part text)
 within-split_by part text = within-parts part text (split_by part text) (sym (join-parts part false text))

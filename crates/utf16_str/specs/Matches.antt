@@ -1,10 +1,11 @@
 -- What is made of the substrings between occurrences of a part: fewer of them, with their
 -- terminators, and the occurrences.
-use Rattle.std.specs.Prelude.{◌==◌, ℕ, zero, suc, ◌+◌, ◌-◌, List, [], ◌∷◌, ◌++◌, Option, None, Some, length, if◌then◌else◌}
+use Rattle.std.specs.Prelude.{◌==◌, ℕ, zero, suc, ◌+◌, ◌-◌, All, List, [], ◌∷◌, ◌++◌, Option, None, Some, length, if◌then◌else◌}
 use Rattle.std.specs.Iterator.{YieldsFirstBy}
-use Rattle.std.specs.Iterator.Runs.{EveryRun, ItemsMapTo}
+use Rattle.std.specs.Iterator.Runs.{EachRunFrom, EveryRun, ItemsMapTo}
 use Rattle.utf16_units.specs.declared.byte_order.Utf16Order.{Ghosts}
 use Rattle.utf16_units.specs.Encoding.{size}
+use Rattle.utf16_str.specs.Splits.{LiesAt}
 use Rattle.utf16_str.specs.WStr.{wstr_text}
 use Rattle.utf16_str.specs.declared.wstr.WStr.{WStr}
 
@@ -62,3 +63,10 @@ abbrev pub YieldsTextsAt : {E : Type 0} {order : Ghosts E} → WStr E order → 
 YieldsTextsAt {E = E} {order = order} like =
     EveryRun (YieldsFirstBy (λ (at : ℕ × WStr E order). (at.0, wstr_text {E = E} {order = order} at.1)) (λ (rest : List (ℕ × List ℕ)). rest))
     (λ p. ItemsMapTo p (λ (at : ℕ × WStr E order). (at.0, wstr_text {E = E} {order = order} at.1)) p.from)
+
+-- an iterator that has these occurrences left yields views of the given view's bytes, each from its
+-- offset on
+abbrev pub YieldsPartsAt : {E : Type 0} {order : Ghosts E} → WStr E order → List (ℕ × List ℕ) → Type 0
+YieldsPartsAt {E = E} {order = order} whole left =
+    EachRunFrom (YieldsFirstBy (λ (at : ℕ × WStr E order). (at.0, wstr_text {E = E} {order = order} at.1)) (λ (rest : List (ℕ × List ℕ)). rest)) left
+    (λ p. All (λ (at : ℕ × WStr E order). LiesAt whole at.0 at.1) p.items)

@@ -1,5 +1,5 @@
 -- The substrings of a text that is split at each occurrence of a part, its lines, and its words.
-use Rattle.std.specs.Prelude.{◌≡◌, ◌==◌, ℕ, zero, suc, ◌-◌, ◌≤◌, ⊤, All, Bool, false, List, [], ◌∷◌, ◌++◌, Option, None, Some, filter, length, map, nat_eq, nat_lt, reverse, if◌then◌else◌}
+use Rattle.std.specs.Prelude.{◌≡◌, ◌==◌, ℕ, zero, suc, ◌+◌, ◌-◌, ◌≤◌, ⊤, All, Bool, false, List, [], ◌∷◌, ◌++◌, Option, None, Some, filter, length, map, nat_eq, nat_lt, reverse, if◌then◌else◌}
 use Rattle.std.specs.Char.{is_whitespace}
 use Rattle.std.specs.Iterator.{YieldsFirstBy, YieldsLastBy}
 use Rattle.std.specs.Iterator.Runs.{EachRunFrom, EveryRun, ItemsMapTo, ItemsMapToReversed}
@@ -121,6 +121,12 @@ YieldsTextsBack {E = E} {order = order} like =
 abbrev pub LiesIn : {E : Type 0} {order : Ghosts E} → WStr E order → WStr E order → Type 0
 LiesIn whole part =
     (window : ℕ × ℕ) × IsWindowOf (wstr_text whole) (Some window) × (wstr_bytes part ≡ window_bytes (wstr_bytes whole) (Some window))
+
+-- the bytes of a part are those of a view from an offset on, and both ends are boundaries
+abbrev pub LiesAt : {E : Type 0} {order : Ghosts E} → WStr E order → ℕ → WStr E order → Type 0
+LiesAt whole at part =
+    IsWindowOf (wstr_text whole) (Some (at, at + length (wstr_bytes part)))
+    × (wstr_bytes part ≡ window_bytes (wstr_bytes whole) (Some (at, at + length (wstr_bytes part))))
 
 -- an iterator that has these texts left yields only views of a window of the given view
 abbrev pub YieldsPartsOf : {E : Type 0} {order : Ghosts E} → WStr E order → List (List ℕ) → Type 0

@@ -3,8 +3,8 @@
 ghost use Rattle.std.specs.Prelude.{◌≡◌, ◌+◌, ◌^◌, ◌<◌, ℕ, List, length, map, option_map};
 ghost use Rattle.std.specs.Iterator.{YieldsFirstBy, item_count};
 ghost use Rattle.utf16_units.specs.Encoding.{size};
-ghost use Rattle.utf16_str.specs.Matches.{YieldsTextsAt, left_size, match_offsets, rmatch_offsets};
-ghost use Rattle.utf16_str.specs.Splits.{YieldsTexts, parts_left, rparts_left, rsplit_by, split_by};
+ghost use Rattle.utf16_str.specs.Matches.{YieldsPartsAt, YieldsTextsAt, left_size, match_offsets, rmatch_offsets};
+ghost use Rattle.utf16_str.specs.Splits.{YieldsPartsOf, YieldsTexts, parts_left, rparts_left, rsplit_by, split_by};
 ghost use Rattle.utf16_str.specs.WStr.{wstr_text};
 
 use crate::WStr;
@@ -125,6 +125,7 @@ impl<'a, E: Utf16Order> WStr<'a, E> {
             (split_by (P.part pattern) (wstr_text self.entry)) }
         ensures bound { length result < 2 ^ 64 }
         ensures runs { YieldsTextsAt self.entry }
+        ensures within { YieldsPartsAt self.entry result }
     {
         WStrMatchIndices {
             left: Remaining::new(self, pattern),
@@ -147,6 +148,7 @@ impl<'a, E: Utf16Order> WStr<'a, E> {
             (split_by (P.part pattern) (wstr_text self.entry))) }
         ensures bound { length result < 2 ^ 64 }
         ensures runs { YieldsTexts self.entry }
+        ensures within { YieldsPartsOf self.entry result }
     {
         WStrMatches {
             indices: self.match_indices(pattern),
@@ -168,6 +170,7 @@ impl<'a, E: Utf16Order> WStr<'a, E> {
             (rsplit_by (P.part pattern) (wstr_text self.entry)) }
         ensures bound { length result < 2 ^ 64 }
         ensures runs { YieldsTextsAt self.entry }
+        ensures within { YieldsPartsAt self.entry result }
     {
         WStrRMatchIndices {
             left: Remaining::new(self, pattern),

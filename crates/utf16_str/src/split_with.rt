@@ -1,12 +1,13 @@
 //! The substrings of a text between the characters for which a predicate is true.
 
-ghost use Rattle.std.specs.Prelude.{◌≡◌, ◌++◌, ◌∷◌, ◌<◌, ◌^◌, List, MatchOption, Some, false, option_map, ℕ};
+ghost use Rattle.std.specs.Prelude.{◌≡◌, ◌++◌, ◌∷◌, ◌<◌, ◌^◌, All, List, MatchOption, Some, false, option_map, ℕ};
 ghost use Rattle.std.specs.Iterator.{at_most};
 ghost use Rattle.std.specs.Iterator.Runs.{EachRunFrom};
 ghost use Rattle.utf16_units.specs.Boundary.{IsBoundary};
 ghost use Rattle.utf16_units.specs.Encoding.{size};
 ghost use Rattle.utf16_str.specs.WStr.{wstr_text};
 ghost use Rattle.utf16_str.specs.Predicates.{IsCutWith, IsLastCutWith, SaysOfEach};
+ghost use Rattle.utf16_str.specs.Splits.{LiesIn};
 ghost use Rattle.utf16_str.specs.SplitWith.{SplitsText, SplitsTextBack, most_parts, split_predicate, split_rest, split_steps, split_steps_back};
 
 use crate::WStr;
@@ -87,6 +88,10 @@ impl<'a, E: Utf16Order> WStr<'a, E> {
             (λ p. SplitsText p wstr_text (F.post predicate) (wstr_text self.entry)) }
         ensures runs_back { EachRunFrom (split_steps_back F.post) result
             (λ p. SplitsTextBack p wstr_text (F.post predicate) (wstr_text self.entry)) }
+        ensures within { EachRunFrom (split_steps F.post) result
+            (λ p. All (LiesIn self.entry) p.items) }
+        ensures within_back { EachRunFrom (split_steps_back F.post) result
+            (λ p. All (LiesIn self.entry) p.items) }
     {
         WStrSplitWith {
             rest: Some(self),

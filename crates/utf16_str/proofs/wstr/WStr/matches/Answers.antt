@@ -1,7 +1,12 @@
-use Rattle.std.proofs.Common.{arith}
+use Rattle.std.proofs.Common.{arith, false, sym}
 use Rattle.std.proofs.lemmas.List.{length-map}
+use Rattle.std.proofs.lemmas.List.Elements.{All-map, All-same, All-weaker}
+use Rattle.utf16_str.specs.Splits.{split_by}
 use Rattle.utf16_str.specs.WStr.{wstr_text}
+use Rattle.utf16_str.proofs.JoinLemmas.{join-parts}
+use Rattle.utf16_str.proofs.PartWindows.{yields_parts}
 use Rattle.utf16_str.proofs.SplitLemmas.{text_runs}
+use Rattle.utf16_str.proofs.WithinLemmas.{Within, WithinAt, within-at}
 use Rattle.utf16_str.proofs.wstr.WStr.matches.Goals as goal
 
 pub returns-clause-bound : goal.returns-clause-bound
@@ -9,3 +14,11 @@ returns-clause-bound g c = omega (arith, length-map c.match_indices.result (λ a
 
 pub returns-clause-runs : goal.returns-clause-runs
 returns-clause-runs g c = text_runs wstr_text
+
+pub returns-clause-within : goal.returns-clause-within
+returns-clause-within g c =
+    let part = g.P.Pattern.part c.args.pattern in
+    let text = wstr_text c.args.self in
+    let found = within-at part text (split_by part text) (sym (join-parts part false text)) in
+    yields_parts c.args.self _ (All-map (Within text) (λ at. at.1) _
+    (All-same (λ at. Within text at.1) _ _ c.match_indices.ensures.parts (All-weaker (λ at. WithinAt text at.0 at.1) (λ at. Within text at.1) (λ at w. w.0) _ found)))

@@ -1,6 +1,7 @@
 use Rattle.std.proofs.Common.{arith, refl}
 use Rattle.utf16_str.specs.WStr.{wstr_bytes}
 use Rattle.utf16_str.proofs.PredicateSplitRuns.{split_runs, split_runs_back}
+use Rattle.utf16_str.proofs.PredicateWithin.{gives_within, gives_within_back}
 use Rattle.utf16_str.proofs.PartsCount.{few-chars}
 use Rattle.utf16_str.proofs.wstr.WStr.split_with.Goals as goal
 
@@ -14,3 +15,9 @@ returns-clause-runs g c = split_runs (goal.F-post g) _ c.args.predicate c.args.s
 
 pub returns-clause-runs_back : goal.returns-clause-runs_back
 returns-clause-runs_back g c = split_runs_back (goal.F-post g) _ c.args.predicate c.args.self refl refl
+
+pub returns-clause-within : goal.returns-clause-within
+returns-clause-within g c = gives_within c.args.self (goal.F-post g) _ refl
+
+pub returns-clause-within_back : goal.returns-clause-within_back
+returns-clause-within_back g c = gives_within_back c.args.self (goal.F-post g) _ refl
