@@ -1,6 +1,5 @@
 -- A text and its bytes repeated.
-use Rattle.std.proofs.Common.{◌≡◌, ℕ, zero, suc, ◌+◌, ◌*◌, ◌≤◌, ◌<◌, Bool, List, [], ◌∷◌, ◌++◌, length, refl, sym, ap, ◌∙◌, arith, append_assoc, append-nil, length-append}
-use Rattle.std.proofs.Math.Nat.{mul-le-mul_left}
+use Rattle.std.proofs.Common.{◌≡◌, ℕ, zero, suc, ◌+◌, ◌*◌, Bool, List, [], ◌∷◌, ◌++◌, length, refl, sym, ap, ◌∙◌, arith, append_assoc, append-nil, length-append}
 use Rattle.std.proofs.lemmas.List.Elements.{All-nil}
 use Rattle.std.specs.Char.{IsScalar}
 use Rattle.std.specs.List.{repeat}
@@ -22,12 +21,6 @@ repeat-more n xs = let more : suc n ≡ n + 1 = omega arith in turned n xs ∙ a
 pub length-repeat : (n : ℕ) (xs : List ℕ) → length (repeat n xs) ≡ n * length xs
 length-repeat zero xs = omega arith
 length-repeat (suc n) xs = omega (arith, length-append xs (repeat n xs), length-repeat n xs)
-
--- the text once more fits in the bytes of all
-pub repeat-fits : (k n : ℕ) (xs : List ℕ) → k < n → length (repeat k xs) + length xs ≤ n * length xs
-repeat-fits k n xs less =
-    let more : k + 1 ≤ n = omega arith in
-    omega (arith, length-repeat k xs, mul-le-mul_left (length xs) more)
 
 repeat-nil : (n : ℕ) → ◌≡◌ {A = List ℕ} [] (repeat n [])
 repeat-nil zero = refl

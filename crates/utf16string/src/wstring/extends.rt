@@ -1,13 +1,12 @@
 //! The characters or the texts of an iterator, appended to a string or collected into one.
 
-ghost use Rattle.std.specs.Prelude.{◌≡◌, ◌+◌, ◌<◌, ◌≤◌, [], List, ℕ, Some, length, IfOk, IsOk, OnErr, OnOk};
+ghost use Rattle.std.specs.Prelude.{◌≡◌, ◌+◌, ◌<◌, ◌≤◌, [], List, ℕ, Some, length, IfOk, OnErr, OnOk};
 ghost use Rattle.std.specs.Iterator.{Drains, ExtendsWithItems, IsFinite, YieldsThen};
 ghost use Rattle.std.specs.Iterator.Runs.{WholeRun};
 ghost use Rattle.std.specs.Str.{chars};
-ghost use Rattle.utf16_units.specs.Edit.{push_text};
-ghost use Rattle.utf16_units.specs.Encoding.{char_size, size};
+ghost use Rattle.utf16_units.specs.Encoding.{char_size};
 ghost use Rattle.utf16_str.specs.WStr.{wstr_text};
-ghost use Rattle.utf16string.specs.WString.{IsUnchanged, wstring_bytes, wstring_capacity, wstring_text};
+ghost use Rattle.utf16string.specs.WString.{wstring_bytes, wstring_capacity, wstring_text};
 
 use crate::WString;
 use std::alloc::{AllocError, Allocator};
@@ -107,29 +106,6 @@ impl<E: Utf16Order, A: Allocator> FromIterator<char> for WString<E, A> {
     }
 }
 
-// Appends a text. `Vec` does not promise that it keeps the capacity if nothing is appended, so an
-// empty text is not passed to it.
-fn push_view<E: Utf16Order, A: Allocator>(
-    string: &mut WString<E, A>,
-    text: WStr<E>,
-) -> Result<(), AllocError>
-    ensures text { OnOk result (wstring_text string.new
-        ≡ push_text (wstring_text string.old) (wstr_text text.entry)) }
-    ensures len { OnOk result (length (wstring_bytes string.new)
-        ≡ length (wstring_bytes string.old) + size (wstr_text text.entry)) }
-    ensures err { OnErr result (IsUnchanged string.old string.new) }
-    ensures succeeds { length (wstring_bytes string.old) + size (wstr_text text.entry)
-        ≤ wstring_capacity string.old → IsOk result }
-    ensures stays { size (wstr_text text.entry) ≡ 0
-        → wstring_capacity string.new ≡ wstring_capacity string.old }
-    ensures grows { wstring_capacity string.old ≤ wstring_capacity string.new }
-{
-    if text.is_empty() {
-        return Ok(());
-    }
-    string.push_wstr(text)
-}
-
 impl<'x, E: Utf16Order, A: Allocator> Extend<WStr<'x, E>> for WString<E, A> {
     ghost use Rattle.utf16string.specs.WString.{ExtendsViews, StopsAt, wstring_bytes, wstring_capacity};
 
@@ -158,8 +134,13 @@ impl<'x, E: Utf16Order, A: Allocator> Extend<WStr<'x, E>> for WString<E, A> {
             → wstring_capacity self.new ≡ wstring_capacity self.old }
         ensures grows { wstring_capacity self.old ≤ wstring_capacity self.new }
     {
+        // `Vec` does not promise that it keeps the capacity if nothing is appended, so an empty
+        // text is not passed to it.
         for text in iter {
-            push_view(self, text)?;
+            if text.is_empty() {
+                continue;
+            }
+            self.push_wstr(text)?;
         }
         Ok(())
     }
@@ -194,28 +175,6 @@ impl<'x, E: Utf16Order, A: Allocator> FromIterator<WStr<'x, E>> for WString<E, A
     }
 }
 
-// Appends the characters of a string in UTF-8, like `push_view`.
-fn push_utf8<E: Utf16Order, A: Allocator>(
-    string: &mut WString<E, A>,
-    text: &str,
-) -> Result<(), AllocError>
-    ensures text { OnOk result (wstring_text string.new
-        ≡ push_text (wstring_text string.old) (chars text.now)) }
-    ensures len { OnOk result (length (wstring_bytes string.new)
-        ≡ length (wstring_bytes string.old) + size (chars text.now)) }
-    ensures err { OnErr result (IsUnchanged string.old string.new) }
-    ensures succeeds { length (wstring_bytes string.old) + size (chars text.now)
-        ≤ wstring_capacity string.old → IsOk result }
-    ensures stays { size (chars text.now) ≡ 0
-        → wstring_capacity string.new ≡ wstring_capacity string.old }
-    ensures grows { wstring_capacity string.old ≤ wstring_capacity string.new }
-{
-    if text.is_empty() {
-        return Ok(());
-    }
-    string.push_str(text)
-}
-
 impl<'x, E: Utf16Order, A: Allocator> Extend<&'x str> for WString<E, A> {
     ghost use Rattle.utf16string.specs.WString.{ExtendsStrs, StopsAt, wstring_bytes, wstring_capacity};
 
@@ -245,7 +204,10 @@ impl<'x, E: Utf16Order, A: Allocator> Extend<&'x str> for WString<E, A> {
         ensures grows { wstring_capacity self.old ≤ wstring_capacity self.new }
     {
         for string in iter {
-            push_utf8(self, string)?;
+            if string.is_empty() {
+                continue;
+            }
+            self.push_str(string)?;
         }
         Ok(())
     }

@@ -1,18 +1,23 @@
-use Rattle.std.proofs.Common.{◌∙◌, ap, arith, length, subst, sym}
+use Rattle.std.proofs.Common.{◌∙◌, ap, eq-eqb, eqb-true, length, rules, subst, sym}
 use Rattle.std.proofs.iter.runs.Made.{run_of_exit}
+use Rattle.std.proofs.lemmas.Bool.{false≢true}
 use Rattle.std.specs.Str.{chars}
-use Rattle.utf16string.specs.WString.{ExtendsStrs, wstring_text}
-use Rattle.utf16string.proofs.Joined.{joined-more}
+use Rattle.utf16string.specs.WString.{ExtendsStrs}
+use Rattle.utf16string.proofs.Appended.{no_chars, no_text}
+use Rattle.utf16string.proofs.EmptyPart.{size-empty}
+use Rattle.utf16string.proofs.Joined.{joined-more, joined-none}
 use Rattle.utf16string.proofs.wstring.extends.WStringExtendRefStr.extend.Goals as goal
+
+pub loop-string-preserved-then-is_empty : goal.loop-string-preserved-then-is_empty
+loop-string-preserved-then-is_empty g c =
+    joined-none (λ s. chars s.now) c.args.self.now c.loop-string.yielded c.loop-string.self c.loop-string.self c.in-Some.string c.loop-string.invariant
+    (no_text c.in-Some.string.now (eqb-true _ _ (sym c.is_empty.ensures ∙ c.if-is_empty.true)))
 
 pub loop-string-preserved : goal.loop-string-preserved
 loop-string-preserved g c =
-    let done = c.in_ok-push_utf8.ensures in (
-      joined-more (λ s. chars s.now) (wstring_text c.args.self.now) (wstring_text c.loop-string.self) _ c.loop-string.yielded c.in-Some.string c.loop-string.invariant.0 done.text,
-      omega (arith, done.grows, c.loop-string.invariant.1),
-      omega (arith, done.len, c.loop-string.invariant.2),
-      λ same. done.stays (omega (arith, same, done.len, c.loop-string.invariant.2)) ∙ c.loop-string.invariant.3 (omega (arith, same, done.len, c.loop-string.invariant.2)),
-    )
+    let put = c.in_ok-push_str.ensures in
+    joined-more (λ s. chars s.now) c.args.self.now c.loop-string.yielded c.loop-string.self c.push_str.new.self c.in-Some.string c.loop-string.invariant put.text put.len put.grows
+    (λ none. false≢true (sym c.if-is_empty.false ∙ c.is_empty.ensures ∙ eq-eqb _ _ (no_chars c.in-Some.string.now (search rules) (size-empty _ none))))
 
 pub returns-clause-runs : goal.returns-clause-runs
 returns-clause-runs g c =
