@@ -122,7 +122,7 @@ abbrev pub LiesIn : {E : Type 0} {order : Ghosts E} → WStr E order → WStr E 
 LiesIn whole part =
     (window : ℕ × ℕ) × IsWindowOf (wstr_text whole) (Some window) × (wstr_bytes part ≡ window_bytes (wstr_bytes whole) (Some window))
 
--- the bytes of a part are those of a view from an offset on, and both ends are boundaries
+-- a part has the bytes of a view from an offset on, and both ends are boundaries
 abbrev pub LiesAt : {E : Type 0} {order : Ghosts E} → WStr E order → ℕ → WStr E order → Type 0
 LiesAt whole at part =
     IsWindowOf (wstr_text whole) (Some (at, at + length (wstr_bytes part)))
