@@ -7,7 +7,7 @@ use Rattle.std.proofs.lemmas.Slice.Eq.{starts_is}
 use Rattle.utf16_units.specs.Laws
 use Rattle.utf16_bytes.specs.Boundary.{IsCut}
 use Rattle.memchr.specs.Find.{FindsLastNeedle, FindsLastNeedleBy, FindsNeedle, NoneAfter, NoneBefore, Nowhere, OccursAt}
-use Rattle.memchr.proofs.lemmas.MatchLemmas.{OccursAt-from_part, OccursAt-part}
+use Rattle.memchr.proofs.lemmas.MatchLemmas.{OccursAt-from_part}
 use Rattle.utf16_bytes.specs.Occurrence.{IsFirst, IsLast, IsOccurrence}
 
 -- a boundary is in the text
@@ -19,9 +19,6 @@ module _ (big : Bool) (text pattern : List ℕ) where
   -- where the pattern occurs, its bytes are
   pub occurrence_bytes : (i : ℕ) → IsOccurrence big text pattern i → OccursAt text pattern i
   occurrence_bytes i o = OccursAt-from_part text pattern i (cut_within big text _ o.end) o.bytes
-
-  pub occurrence_from : (i : ℕ) → OccursAt text pattern i → IsCut big text i → IsCut big text (i + length pattern) → IsOccurrence big text pattern i
-  occurrence_from i o start end = record { bytes = OccursAt-part text pattern i o; start = start; end = end }
 
 -- whether the bytes from an offset on begin with the pattern's
 pub starts_at : (text pattern rest : List ℕ) (at : ℕ) (r : Bool) → rest ≡ drop at text → r ≡ starts_with nat_eq rest pattern
@@ -112,9 +109,6 @@ module _ (big : Bool) (text pattern : List ℕ) where
         (λ (less : i < start). below i less o)
         (λ (not_less : start ≤ i). none i not_less (omega (arith, occurrence_within i o)) (occurrence_bytes big text pattern i o))
         (cases_lt i start)
-
-    pub first_past : length text < start → IsFirst Occurs None
-    first_past past i o = below i (omega (arith, past, occurrence_within i o)) o
 
     pub less_none : (at : ℕ) → FindsNeedle text pattern start (Some at) → (i : ℕ) → i < at → ¬ (Occurs i)
     less_none at found i less_at o = ⊎_elim

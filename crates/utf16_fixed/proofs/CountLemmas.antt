@@ -1,7 +1,6 @@
 -- Code units counted by a test, and the size of their text in UTF-16.
-use Rattle.std.proofs.Common.{◌≡◌, ℕ, ◌+◌, ◌*◌, ◌<◌, ◌≤◌, Bool, true, false, cond, List, [], ◌∷◌, length, take, drop, slice_index, refl, subst, sym, ap, ◌∙◌, arith, count_by, ⊎_elim, lt-ltb, le-ltb, take-add}
+use Rattle.std.proofs.Common.{◌≡◌, ℕ, ◌+◌, ◌*◌, ◌<◌, ◌≤◌, Bool, true, false, cond, List, [], ◌∷◌, length, take, drop, refl, subst, sym, ap, ◌∙◌, arith, count_by, ⊎_elim, lt-ltb, le-ltb, take-add}
 use Rattle.std.proofs.lemmas.Bool.{cases_lt}
-use Rattle.std.proofs.lemmas.List.{take_more}
 use Rattle.std.proofs.lemmas.List.Sums.{sum_by-append, sum_by-cons}
 use Rattle.std.specs.Char.{IsScalar}
 use mir.Val.{bool_byte}
@@ -23,13 +22,6 @@ module _ (p : ℕ → Bool) where
   bit-cond : (b : Bool) → bool_byte b ≡ cond b 1 0
   bit-cond true = refl
   bit-cond false = refl
-
-  -- one more unit
-  pub counted-one : (units : List ℕ) (at count : ℕ) → at < length units → count ≡ count_by p (take at units)
-      → count + bool_byte (p (slice_index units at)) ≡ count_by p (take (at + 1) units)
-  counted-one units at count within is =
-      let both = ap (count_by p) (take_more units at 0 within) ∙ sum_by-append (λ u. cond (p u) 1 0) (take at units) (slice_index units at ∷ []) in
-      omega (arith, is, both, bit-cond (p (slice_index units at)))
 
 bit-above : (limit unit : ℕ) → limit < unit → ◌≡◌ {A = ℕ} (cond (above limit unit) 1 0) 1
 bit-above limit unit more = rw (lt-ltb limit unit more) refl

@@ -42,7 +42,8 @@ pub fn scan<A: Allocator>(
     lines: &mut Vec<u8, A>,
 ) -> Result<Found, AllocError>
     requires { offset + length bytes.now < 2 ^ 64 }
-    ensures found { IfOk result (Scans big_endian offset bytes.now lines.old.items lines.new.items) }
+    ensures found { IfOk result (Scans big_endian offset bytes.now lines.old.items
+        lines.new.items) }
     ensures full { OnErr result (vec_capacity lines.old < vec_len lines.old
         + length (ill_formed_lines big_endian offset (split_items big_endian bytes.now))) }
     ensures err { OnErr result (lines.new.items ≡ lines.old.items) }

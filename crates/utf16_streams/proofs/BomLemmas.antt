@@ -26,21 +26,6 @@ unfolding split_tail
 first_tail None = refl
 first_tail (Some byte) = refl
 
--- before the first byte comes
-pub items_in-nil : (order : Option Bool) → items_in order [] ≡ []
-unfolding split_items
-items_in-nil None = refl
-items_in-nil (Some big) = refl
-
-pub tail_in-nil : (order : Option Bool) → tail_in order [] ≡ []
-unfolding split_tail
-tail_in-nil None = refl
-tail_in-nil (Some big) = refl
-
-pub byte_order_after-nil : (order : Option Bool) → byte_order_after order [] ≡ order
-byte_order_after-nil None = refl
-byte_order_after-nil (Some big) = refl
-
 -- more bytes after the first two do not change the BOM
 behind_more : (lossy_chars : Bool) (bytes piece all : List ℕ) → (if lossy_chars then bytes ++ piece else (all ++ piece)) ≡ (if lossy_chars then bytes else all) ++ piece
 behind_more true bytes piece all = refl
@@ -103,9 +88,6 @@ module _ (order : Option Bool) (pending piece : List ℕ) (first : Option ℕ) (
 
   pub still_tail : pending ≡ tail_in order (pending ++ piece)
   still_tail = only ∙ sym (only_tail first (pending ++ piece) bytes) ∙ ap (λ o. tail_in o (pending ++ piece)) (sym undecided)
-
-  pub still_order : order ≡ byte_order_after order (pending ++ piece)
-  still_order = undecided ∙ sym (only_order first (pending ++ piece) bytes) ∙ ap (λ o. byte_order_after o (pending ++ piece)) (sym undecided)
 
 -- the stream begins with two bytes that are not a BOM
 not_begun : (a b first second : ℕ) (rest : List ℕ) → first ∷ second ∷ [] ≢ a ∷ b ∷ [] → begins_with a b (first ∷ second ∷ rest) ≡ false

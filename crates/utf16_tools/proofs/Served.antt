@@ -49,9 +49,6 @@ module _ {E Z : Type 0} {order : Ghosts E} where
   AreServed room old edits replies new =
       (rest : List (Edit E Z order)) → EachFits room old (edits ++ rest) → EachFits room new rest × All (λ reply. ¬ (reply ≡ NoMemory)) replies
 
-  pub served-none : (room : ℕ) (text : List ℕ) → AreServed room text [] [] text
-  served-none room text rest fits = (fits, All-nil IsGranted)
-
   pub served-more : (room : ℕ) (old mid new : List ℕ) (edits : List (Edit E Z order)) (replies : List (Reply E Z order)) (edit : Edit E Z order) (reply : Reply E Z order)
       → AreServed room old edits replies mid → (Fits room mid edit → ¬ (reply ≡ NoMemory)) → Step mid edit reply new → AreServed room old (edits ++ edit ∷ []) (replies ++ reply ∷ []) new
   served-more room old mid new edits replies edit reply before fits step rest all =

@@ -1,12 +1,11 @@
 -- The bytes of an edited text are the edited bytes.
-use Rattle.std.proofs.Common.{◌≡◌, ℕ, ◌+◌, ◌<◌, ◌≤◌, Bool, true, List, [], ◌∷◌, ◌++◌, length, take, drop, Some, slice_get, sym, ap, ◌∙◌, subst, append_assoc, arith, take_at, ⊎_elim}
+use Rattle.std.proofs.Common.{◌≡◌, ℕ, ◌+◌, ◌<◌, ◌≤◌, Bool, true, List, [], ◌∷◌, ◌++◌, length, take, drop, Some, slice_get, sym, ap, ◌∙◌, subst, append_assoc, arith, ⊎_elim}
 use Rattle.std.specs.List.{remove_range, splice}
 use Rattle.std.specs.Char.{IsScalar}
 use Rattle.utf16_units.specs.Boundary.{IsBoundary, text_from, text_to}
 use Rattle.utf16_units.specs.Edit.{char_at, insert_at, overwrite_at, push_text, remove_at}
 use Rattle.utf16_units.specs.Encoding.{char_bytes, char_size, Encodes, is_utf16, size, text_of}
-use Rattle.utf16_units.proofs.BoundaryLemmas.{Encodes-from, Encodes-to, IsBoundary-within, size-text_to, text_from-at, text_to-front, text_to-text_from}
-use Rattle.utf16_units.proofs.CharLemmas.{length-char_bytes}
+use Rattle.utf16_units.proofs.BoundaryLemmas.{Encodes-from, Encodes-to, IsBoundary-within, size-text_to, text_from-at, text_to-text_from}
 use Rattle.std.proofs.lemmas.Bool.{cases_lt}
 use Rattle.std.proofs.lemmas.List.{take_all}
 use Rattle.std.proofs.lemmas.List.Elements.{All-cons, All-nil}
@@ -60,16 +59,8 @@ module _ (text : List ℕ) (i c : ℕ) (rest : List ℕ) (b : IsBoundary text i)
       (Encodes-to big text bytes i e b)
       (subst (λ t. Encodes big t (drop (i + char_size c) bytes)) left (Encodes-from big text bytes (i + char_size c) e behind-first))
 
--- a character's bytes, written at the start of others
-pub take-written : (big : Bool) (c n : ℕ) (buf rest : List ℕ) → n ≡ char_size c → buf ≡ char_bytes big c ++ rest → take n buf ≡ char_bytes big c
-take-written big c n buf rest len written = ap (take n) written ∙ take_at (char_bytes big c) rest n (length-char_bytes big c ∙ sym len)
-
 pub Encodes-char : (big : Bool) (c : ℕ) → IsScalar c → Encodes big (c ∷ []) (char_bytes big c)
 Encodes-char big c scalar = record { scalars = All-cons IsScalar c [] scalar (All-nil IsScalar); spelled = encode-one big c }
-
-pub Encodes-written : (big : Bool) (c n : ℕ) (buf rest : List ℕ) → IsScalar c → n ≡ char_size c → buf ≡ char_bytes big c ++ rest → Encodes big (c ∷ []) (take n buf)
-Encodes-written big c n buf rest scalar len written =
-    subst (Encodes big (c ∷ [])) (sym (take-written big c n buf rest len written)) (Encodes-char big c scalar)
 
 pub Encodes-pushed : (big : Bool) (bytes other more : List ℕ) → is_utf16 big bytes ≡ true → Encodes big other more
     → Encodes big (push_text (text_of big bytes) other) (bytes ++ more)
@@ -79,12 +70,6 @@ Encodes-pushed big bytes other more checked o = Encodes-append big (text_of big 
 pub boundary-within : (big : Bool) (bytes : List ℕ) (i : ℕ) → is_utf16 big bytes ≡ true → IsBoundary (text_of big bytes) i → i ≤ length bytes
 boundary-within big bytes i checked b =
     omega (arith, length-text big bytes (IsUtf16-from_is_utf16 big bytes checked), IsBoundary-within (text_of big bytes) i b)
-
--- the bytes of a prefix
-pub Encodes-prefix : (big : Bool) (text bytes front back : List ℕ) (n : ℕ) → Encodes big text bytes → text ≡ front ++ back → n ≡ size front → Encodes big front (take n bytes)
-Encodes-prefix big text bytes front back n e split at =
-    let b : IsBoundary text n = record { front = front; back = back; split = sym split; offset = sym at } in
-    subst (λ t. Encodes big t (take n bytes)) (text_to-front text n b) (Encodes-to big text bytes n e b)
 
 -- truncation at a boundary below the length, or at or past the end
 pub cut-checked : (big : Bool) (bytes : List ℕ) (n : ℕ) → is_utf16 big bytes ≡ true → (n < size (text_of big bytes) → IsBoundary (text_of big bytes) n)

@@ -25,7 +25,7 @@ use Rattle.utf16_transcode.specs.declared.progress.Stop.TheVariants.{Incomplete,
 use Rattle.utf16_transcode.proofs.WroteLemmas.{put_end-long, take-end}
 use Rattle.utf16_transcode.specs.FromUtf8.{IsIllFormedUtf8, StopsEncoding, TranscodesToUtf16}
 use Rattle.utf16_transcode.proofs.DecodesUtf8.{flat_encode}
-use Rattle.utf16_wtf8.specs.FromWtf8.{BeginsWithSurrogate, IsIllFormedAfter, IsIllFormedWtf8, NextPointDoesNotFit, NoPointContinues, ReadsWtf8, StopsAfter, StopsFromWtf8, TranscodesFromWtf8, surrogate_begins, wtf8_error_len}
+use Rattle.utf16_wtf8.specs.FromWtf8.{BeginsWithSurrogate, IsIllFormedAfter, IsIllFormedWtf8, NextPointDoesNotFit, NoPointContinues, ReadsWtf8, StopsAfter, StopsFromWtf8, surrogate_begins, wtf8_error_len}
 use Rattle.utf16_wtf8.specs.Wtf8.{IsCodePoint, IsWtf8, SpellsWtf8, ends_leading, generalized_utf8}
 use Rattle.utf16_wtf8.proofs.CodeLemmas.{spelled-nil}
 use Rattle.utf16_wtf8.proofs.ContinuedLemmas.{FirstIsTrailing, SpellsWtf8-append, begins-lead, ends_leading-point, ends_leading-text, scalar_or_surrogate, surrogate-begins, valid_to}
@@ -41,14 +41,6 @@ Reads-none big wtf8 to = record {
   spells = record { each_point = All-nil IsCodePoint; no_pair = tt; spelled = refl };
   units = refl;
   last = refl;
-}
-
-pub Reads-wrote : {big : Bool} {wtf8 to : List ℕ} {read written : ℕ} {leading : Bool} → ReadsWtf8 big wtf8 to read written leading
-    → Wrote (TranscodesFromWtf8 big) wtf8 to read written
-Reads-wrote before = record {
-  within = before.within;
-  fits = before.fits;
-  gives = record { points = before.points; spells = before.spells; units = before.units };
 }
 
 -- ---- a text

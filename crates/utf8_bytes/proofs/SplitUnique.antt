@@ -84,11 +84,3 @@ module _ (front back : List ℕ) where
 
   pub split_tail-append : split_tail (front ++ back) ≡ split_tail (split_tail front ++ back)
   split_tail-append = sym both_same.1
-
--- bytes that leave no tail, and then any others
-module _ (front back : List ℕ) (none : split_tail front ≡ []) where
-  pub split_items-past : split_items (front ++ back) ≡ split_items front ++ split_items back
-  split_items-past = split_items-append front back ∙ ap (λ t. split_items front ++ split_items (t ++ back)) none
-
-  pub split_tail-past : split_tail (front ++ back) ≡ split_tail back
-  split_tail-past = split_tail-append front back ∙ ap (λ t. split_tail (t ++ back)) none

@@ -10,10 +10,9 @@ returns-in-NoSpace g c =
     let front = c.transcode_joined-front.ensures.decodes in
     let full = subst (StopsLossyAs g.D.LossyDirection.parts _ _ _) c.in-NoSpace.is c.transcode_joined-front.ensures.stop in
     let read = ap (λ r. length c.args.piece.now - length r) c.rest_of.ensures.piece in
-    let left = c.holding.ensures.pending ∙ c.rest_of.ensures.left in
     rw (← c.pending-pending.ensures.bytes) record {
-      feeds = Feeds-full g.D.LossyDirection.parts _ c.lossy_laws.ensures.chunks _ _ _ _ _ front full _ read _ left;
-      stop = stops_full g.D.LossyDirection.parts _ c.lossy_laws.ensures.chunks _ _ _ _ _ front full _ read _ left;
+      feeds = Feeds-full g.D.LossyDirection.parts _ c.lossy_laws.ensures.chunks _ _ _ _ _ front full _ read _ (c.holding.ensures.pending ∙ c.rest_of.ensures.left);
+      stop = stops_full g.D.LossyDirection.parts _ c.lossy_laws.ensures.chunks _ _ _ _ _ front full _ read _ (c.holding.ensures.pending ∙ c.rest_of.ensures.left);
       done = (λ done. absurd (cc), λ whole. absurd (not_whole g.D.LossyDirection.parts _ c.lossy_laws.ensures.chunks _ _ _ _ _ front full _ read whole));
       text = λ done. absurd (cc);
       pending = λ done. absurd (cc);
@@ -29,14 +28,13 @@ module _ (g : Over) (c : After-joined_start-len g) where
   undecided : g.D.LossyDirection.parts.tail rest ≡ rest
   undecided = rest_undecided g.D.LossyDirection.parts _ c.lossy_laws.ensures.chunks _ _ c.transcode_joined-front.result.stop c.in_default.not-NoSpace c.transcode_joined-front.ensures.stop
 
-  both : c.rest_of.result.0.now ++ c.rest_of.result.1.now ≡ rest
-  both = ap₂ (λ h p. h ++ p) c.rest_of.ensures.left c.rest_of.ensures.piece ∙ join_drop c.pending-pending.result.now c.args.piece.now c.transcode_joined-front.result.read
+  few : length rest ≤ 3
+  few = few_left g.D.LossyDirection.parts _ c.lossy_laws.ensures.chunks c.pending-pending.result.now c.args.piece.now _ _ _ c.transcode_joined-front.ensures.decodes undecided
 
-  few : length (c.rest_of.result.0.now ++ c.rest_of.result.1.now) ≤ 3
-  few = subst (λ b. length b ≤ 3) (sym both) (few_left g.D.LossyDirection.parts _ c.lossy_laws.ensures.chunks c.pending-pending.result.now c.args.piece.now _ _ _ c.transcode_joined-front.ensures.decodes undecided)
-
-  tail : take c.joined_start-len.result.1 c.joined_start-len.result.0 ≡ c.rest_of.result.0.now ++ c.rest_of.result.1.now
-  tail = c.joined_start-len.ensures.bytes ∙ take_all 4 _ (omega (arith, few))
+  tail : take c.joined_start-len.result.1 c.joined_start-len.result.0 ≡ rest
+  tail =
+      let both = ap₂ (λ h p. h ++ p) c.rest_of.ensures.left c.rest_of.ensures.piece ∙ join_drop c.pending-pending.result.now c.args.piece.now c.transcode_joined-front.result.read in
+      c.joined_start-len.ensures.bytes ∙ take_all 4 _ (omega (arith, few, ap length both)) ∙ both
 
 pub holding-requires-2 : goal.holding-requires-2
 holding-requires-2 g c =
@@ -46,19 +44,17 @@ holding-requires-2 g c =
 pub returns : goal.returns
 returns g c =
     let before = (goal.at.returns g c).After-joined_start-len in
-    let parts = g.D.LossyDirection.parts in
-    let chunks = c.lossy_laws.ensures.chunks in
     let front = c.transcode_joined-front.ensures.decodes in
-    let pending = c.holding-2.ensures.pending ∙ tail g before ∙ both g before in
-    let feeds = Feeds-done parts _ chunks _ _ _ _ _ front (undecided g before) _ pending in
-    let held = holds_tail parts _ chunks c.pending-pending.result.now c.args.piece.now _ _ _ front (undecided g before) _ pending in
+    let pending = c.holding-2.ensures.pending ∙ tail g before in
+    let feeds = Feeds-done g.D.LossyDirection.parts _ c.lossy_laws.ensures.chunks _ _ _ _ _ front (undecided g before) _ pending in
+    let held = holds_tail g.D.LossyDirection.parts _ c.lossy_laws.ensures.chunks c.pending-pending.result.now c.args.piece.now _ _ _ front (undecided g before) _ pending in
     rw (← c.pending-pending.ensures.bytes) record {
       feeds = feeds;
       stop = (refl, held);
-      done = (λ done. is_whole parts _ chunks c.pending-pending.result.now c.args.piece.now _ _ _ front (undecided g before), λ fits. refl);
-      text = λ done. fed_text parts _ chunks _ _ _ _ _ _ 0 feeds (refl, held);
+      done = (λ done. is_whole g.D.LossyDirection.parts _ c.lossy_laws.ensures.chunks c.pending-pending.result.now c.args.piece.now _ _ _ front (undecided g before), λ fits. refl);
+      text = λ done. fed_text g.D.LossyDirection.parts _ c.lossy_laws.ensures.chunks _ _ _ _ _ _ 0 feeds (refl, held);
       pending = λ done. held;
-      undecided = λ done. ap parts.tail pending ∙ undecided g before ∙ sym pending;
+      undecided = λ done. ap g.D.LossyDirection.parts.tail pending ∙ undecided g before ∙ sym pending;
       filled = λ full_up. absurd (cc);
       few = c.holding-2.ensures.few;
     }
