@@ -19,7 +19,7 @@ int main(int argc, char **argv) {
         return 2;
     }
 
-    /* Exports are little endian. Old ones may have no BOM. */
+    /* Exports are little endian. REGEDIT4 files are not UTF-16. */
     dethrux_bom bom = dethrux_detect_bom(DETHRUX_LITTLE_ENDIAN, raw, len);
     dethrux_progress text = dethrux_to_utf8_lossy(
         bom.byte_order, raw + bom.len, len - bom.len, utf8, sizeof utf8 - 1);

@@ -7,7 +7,7 @@ import dethrux
 
 raw = Path(sys.argv[1]).read_bytes()
 
-# Exports are little endian. Old ones may have no BOM.
+# Exports are little endian. REGEDIT4 files are not UTF-16.
 bom = dethrux.detect_bom(raw, "little")
 text = dethrux.decode(raw[bom.len :], bom.byteorder, "replace")
 
