@@ -135,21 +135,21 @@ static std::optional<dethrux::error> in_elements(
 
 static void look(const row &from) {
     check_forms("validate", from, [&](std::size_t element, auto... order) {
-        return dethrux::validate(in_form(from.big, order...), order...)
+        return dethrux::validate(order..., in_form(from.big, order...))
                == in_elements(from.reason, element);
     });
     check_forms("count_chars", from, [&](std::size_t, auto... order) {
-        return dethrux::count_chars(in_form(from.big, order...), order...) == from.chars;
+        return dethrux::count_chars(order..., in_form(from.big, order...)) == from.chars;
     });
     check_forms("is_ascii", from, [&](std::size_t, auto... order) {
-        return dethrux::is_ascii(in_form(from.big, order...), order...) == from.is_ascii;
+        return dethrux::is_ascii(order..., in_form(from.big, order...)) == from.is_ascii;
     });
 }
 
 static void change(const row &from) {
     check_forms("make_well_formed", from, [&](std::size_t, auto... order) {
         auto text = in_form(from.big, order...);
-        return dethrux::make_well_formed(text, order...) == from.unpaired
+        return dethrux::make_well_formed(order..., text) == from.unpaired
                && text == in_form(from.mended, order...);
     });
     std::string bytes = from.big;
@@ -165,8 +165,8 @@ template <class... Order>
 static bool is_cut(
     const row &from, std::size_t at, bool is_boundary, std::size_t floor, Order... order) {
     auto text = in_form(from.big, order...);
-    return dethrux::is_char_boundary(text, order..., at) == is_boundary
-           && dethrux::floor_char_boundary(text, order..., at) == floor;
+    return dethrux::is_char_boundary(order..., text, at) == is_boundary
+           && dethrux::floor_char_boundary(order..., text, at) == floor;
 }
 
 // At each offset of the text, and after its end: one past, twice as far, and where a multiple of
@@ -189,12 +189,12 @@ static void cut(const row &from) {
 
 static void to_utf8(const row &from) {
     check_forms("to_utf8", from, [&](std::size_t element, auto... order) {
-        auto found = dethrux::to_utf8(in_form(from.big, order...), order...);
+        auto found = dethrux::to_utf8(order..., in_form(from.big, order...));
         return from.reason ? !found && found.error() == in_elements(from.reason, element)
                            : found && found.value() == from.utf8;
     });
     check_forms("to_utf8_lossy", from, [&](std::size_t, auto... order) {
-        return dethrux::to_utf8_lossy(in_form(from.big, order...), order...) == from.utf8;
+        return dethrux::to_utf8_lossy(order..., in_form(from.big, order...)) == from.utf8;
     });
 }
 
@@ -251,7 +251,7 @@ static void inspect(const row &from) {
     for (std::size_t at = 0; at < end; at += utf16_len(text[count++])) {
     }
     check_forms("inspect", from, [&](std::size_t element, auto... order) {
-        dethrux::inspection found = dethrux::inspect(in_form(from.big, order...), order...);
+        dethrux::inspection found = dethrux::inspect(order..., in_form(from.big, order...));
         return found.error == in_elements(from.reason, element) && found.chars == count
                && found.repertoire == least(text.substr(0, count));
     });
@@ -260,19 +260,19 @@ static void inspect(const row &from) {
 static void to_utf32(const row &from) {
     const std::u32string text = points_of(from.utf8);
     check_forms("to_utf32", from, [&](std::size_t element, auto... order) {
-        auto found = dethrux::to_utf32(in_form(from.big, order...), order...);
+        auto found = dethrux::to_utf32(order..., in_form(from.big, order...));
         return from.reason ? !found && found.error() == in_elements(from.reason, element)
                            : found && found.value() == text;
     });
     check_forms("to_utf32_lossy", from, [&](std::size_t, auto... order) {
-        return dethrux::to_utf32_lossy(in_form(from.big, order...), order...) == text;
+        return dethrux::to_utf32_lossy(order..., in_form(from.big, order...)) == text;
     });
     check_forms("from_utf32", from, [&](std::size_t, auto... order) {
-        auto found = dethrux::from_utf32(text, order...);
-        auto lossy = dethrux::from_utf32_lossy(text, order...);
+        auto found = dethrux::from_utf32(order..., text);
+        auto lossy = dethrux::from_utf32_lossy(order..., text);
         return found && *found == lossy
                && (from.reason || lossy == in_form(from.big, order...))
-               && points_of(dethrux::to_utf8(lossy, order...).value()) == text;
+               && points_of(dethrux::to_utf8(order..., lossy).value()) == text;
     });
 }
 
@@ -281,9 +281,9 @@ static void to_latin1(const row &from) {
     bool is = !from.reason && least(text) <= dethrux::repertoire::latin1;
     const std::string latin1(text.begin(), text.end());
     check_forms("to_latin1", from, [&](std::size_t, auto... order) {
-        auto found = dethrux::to_latin1(in_form(from.big, order...), order...);
+        auto found = dethrux::to_latin1(order..., in_form(from.big, order...));
         return is ? found && *found == latin1
-                          && dethrux::from_latin1(latin1, order...) == in_form(from.big, order...)
+                          && dethrux::from_latin1(order..., latin1) == in_form(from.big, order...)
                   : !found;
     });
 }
@@ -320,9 +320,9 @@ static void no_characters() {
         const dethrux::error reason{1, 1};
         bool is = dethrux::validate_utf32(text) == reason;
         for (byte_order order : {byte_order::little, byte_order::big}) {
-            auto found = dethrux::from_utf32(text, order);
+            auto found = dethrux::from_utf32(order, text);
             is = is && !found && found.error() == reason
-                 && dethrux::from_utf32_lossy(text, order) == in_form("\0a\xFF\xFD\0b"s, order);
+                 && dethrux::from_utf32_lossy(order, text) == in_form("\0a\xFF\xFD\0b"s, order);
         }
         auto found = dethrux::from_utf32(text);
         check("what is no character",
@@ -335,7 +335,7 @@ static void no_characters() {
     check("a surrogate in a std::wstring", !found && found.error() == dethrux::error{1, 1}
                                                && dethrux::from_wstring_lossy(wide) == u"a\uFFFDb");
     check("all of Latin-1", dethrux::from_latin1("a\xFF\x80"sv) == u"a\u00FF\u0080"
-                                && dethrux::from_latin1(""sv, byte_order::big).empty()
+                                && dethrux::from_latin1(byte_order::big, ""sv).empty()
                                 && dethrux::to_latin1(u"\u00FF\u0100"sv) == std::nullopt);
 }
 
@@ -367,12 +367,12 @@ static const row8 rows8[] = {
 
 static void from_utf8(const row8 &from) {
     check_forms("from_utf8", from, [&](std::size_t, auto... order) {
-        auto found = dethrux::from_utf8(from.utf8, order...);
+        auto found = dethrux::from_utf8(order..., from.utf8);
         return from.reason ? !found && found.error() == from.reason
                            : found && found.value() == in_form(from.big, order...);
     });
     check_forms("from_utf8_lossy", from, [&](std::size_t, auto... order) {
-        return dethrux::from_utf8_lossy(from.utf8, order...) == in_form(from.big, order...);
+        return dethrux::from_utf8_lossy(order..., from.utf8) == in_form(from.big, order...);
     });
 }
 
@@ -420,13 +420,13 @@ static const row_of_wtf8 rows_of_wtf8[] = {
 
 static void wtf8(const row_of_wtf8 &from) {
     check_forms("from_wtf8", from, [&](std::size_t, auto... order) {
-        auto found = dethrux::from_wtf8(from.wtf8, order...);
+        auto found = dethrux::from_wtf8(order..., from.wtf8);
         return found && *found == in_form(from.big, order...);
     });
     bool is = true;
     for (byte_order order : {byte_order::little, byte_order::big}) {
-        auto found = dethrux::to_wtf8(in_form(from.big, order), order);
-        auto odd = dethrux::to_wtf8(in_form(from.big + "a", order), order);
+        auto found = dethrux::to_wtf8(order, in_form(from.big, order));
+        auto odd = dethrux::to_wtf8(order, in_form(from.big + "a", order));
         is = is && found && *found == from.wtf8 && !odd
              && odd.error() == dethrux::error{from.big.size(), 0};
     }
@@ -490,7 +490,7 @@ static void not_wtf8() {
         auto found = dethrux::from_wtf8(one.wtf8);
         bool is = !found && found.error() == one.reason;
         for (byte_order order : {byte_order::little, byte_order::big}) {
-            auto bytes = dethrux::from_wtf8(one.wtf8, order);
+            auto bytes = dethrux::from_wtf8(order, one.wtf8);
             is = is && !bytes && bytes.error() == one.reason;
         }
         dethrux::wtf8_encoder encoder;
@@ -502,16 +502,16 @@ static void not_wtf8() {
             is = is && (!first || first == one.reason)
                  && (is_cut ? !second && encoder.pending() > 0
                             : second == one.reason && encoder.pending() == 0)
-                 && (is_cut || encoder.feed("after", to) == one.reason)
+                 && (is_cut || encoder.feed("after"sv, to) == one.reason)
                  && encoder.finish(to) == one.reason && to == one.front && encoder.pending() == 0
-                 && !encoder.feed("b", to) && !encoder.finish(to) && to == one.front + u"b";
+                 && !encoder.feed("b"sv, to) && !encoder.finish(to) && to == one.front + u"b";
         }
         check("what is not WTF-8", is);
     }
     std::u16string to;
     dethrux::wtf8_encoder six;
-    check("six bytes wait", !six.feed("\xED\xA0\xBD\xF0\x9F\x98", to) && six.pending() == 6
-                                && !six.feed("\x80", to) && to == u"\xD83D\xD83D\xDE00");
+    check("six bytes wait", !six.feed("\xED\xA0\xBD\xF0\x9F\x98"sv, to) && six.pending() == 6
+                                && !six.feed("\x80"sv, to) && to == u"\xD83D\xD83D\xDE00");
 }
 
 // Two texts in big endian, and the sign of their comparison. Each is given in each form.
@@ -540,8 +540,8 @@ static int sign(int compared) {
 static bool compares(const pair_row &from, byte_order first_order, byte_order second_order) {
     std::string first = in_form(from.first, first_order);
     std::string second = in_form(from.second, second_order);
-    return sign(dethrux::compare(first, first_order, second, second_order)) == from.wanted
-           && sign(dethrux::compare(second, second_order, first, first_order)) == -from.wanted;
+    return sign(dethrux::compare(first_order, first, second_order, second)) == from.wanted
+           && sign(dethrux::compare(second_order, second, first_order, first)) == -from.wanted;
 }
 
 static void compare(const pair_row &from) {
@@ -605,14 +605,12 @@ static void search(const search_row &from) {
     auto is_in_units = from.pattern.size() % 2 == 0;
     check_forms("find", from, [&](std::size_t element, auto... order) {
         return (element == 2 && !is_in_units)
-               || dethrux::find(
-                      in_form(from.big, order...), order..., in_form(from.pattern, order...))
+               || dethrux::find(order..., in_form(from.big, order...), in_form(from.pattern, order...))
                       == in_elements(from.first, element);
     });
     check_forms("rfind", from, [&](std::size_t element, auto... order) {
         return (element == 2 && !is_in_units)
-               || dethrux::rfind(
-                      in_form(from.big, order...), order..., in_form(from.pattern, order...))
+               || dethrux::rfind(order..., in_form(from.big, order...), in_form(from.pattern, order...))
                       == in_elements(from.last, element);
     });
 }
@@ -625,11 +623,11 @@ static void search_nothing() {
               && dethrux::find(u"ab", units) == 0 && dethrux::rfind(u"ab", units) == 2
               && dethrux::find(units, u"a") == npos && dethrux::rfind(units, u"a") == npos;
     for (byte_order order : {byte_order::little, byte_order::big}) {
-        is = is && dethrux::find(bytes, order, bytes) == 0
-             && dethrux::rfind(bytes, order, bytes) == 0 && dethrux::find("abc", order, bytes) == 0
-             && dethrux::rfind("abc", order, bytes) == 3
-             && dethrux::find(bytes, order, "ab") == npos
-             && dethrux::rfind(bytes, order, "ab") == npos;
+        is = is && dethrux::find(order, bytes, bytes) == 0
+             && dethrux::rfind(order, bytes, bytes) == 0 && dethrux::find(order, "abc"sv, bytes) == 0
+             && dethrux::rfind(order, "abc"sv, bytes) == 3
+             && dethrux::find(order, bytes, "ab"sv) == npos
+             && dethrux::rfind(order, bytes, "ab"sv) == npos;
     }
     check("a search without elements", is);
 }
@@ -638,13 +636,13 @@ static void search_nothing() {
 static void others() {
     const auto around = "\xD8\x3D\xDE\0"sv;
     check("floor_char_boundary_around",
-        dethrux::floor_char_boundary_around(around, byte_order::big, 1001) == 998
-            && dethrux::floor_char_boundary_around(around, byte_order::little, 1001) == 1000
-            && dethrux::floor_char_boundary_around("\x3D\xD8\0\xDE"sv, byte_order::little, 1001)
+        dethrux::floor_char_boundary_around(byte_order::big, around, 1001) == 998
+            && dethrux::floor_char_boundary_around(byte_order::little, around, 1001) == 1000
+            && dethrux::floor_char_boundary_around(byte_order::little, "\x3D\xD8\0\xDE"sv, 1001)
                    == 998
-            && dethrux::floor_char_boundary_around(around, byte_order::big, UINT64_MAX)
+            && dethrux::floor_char_boundary_around(byte_order::big, around, UINT64_MAX)
                    == UINT64_MAX - 3
-            && dethrux::floor_char_boundary_around({}, byte_order::big, 0) == 0);
+            && dethrux::floor_char_boundary_around(byte_order::big, {}, 0) == 0);
     check("shard_offset", dethrux::shard_offset(11, 3, 2) == 8
                               && dethrux::shard_offset(11, 3, 3) == 11
                               && dethrux::shard_offset(UINT64_MAX, 3, 1) == 6148914691236517206);
@@ -659,8 +657,19 @@ static void others() {
                                        && dethrux::error{} == dethrux::error{0, 0});
 }
 
+// Whether a call throws that there is no value, with this error and message.
 template <class Call>
-static bool has_no_value(Call call) {
+static bool has_no_value(Call call, dethrux::error reason, const char *message) {
+    try {
+        call();
+    } catch (const dethrux::ill_formed &thrown) {
+        return thrown.error() == reason && thrown.what() == std::string(message);
+    }
+    return false;
+}
+
+template <class Call>
+static bool has_no_error(Call call) {
     try {
         call();
     } catch (const std::bad_variant_access &) {
@@ -687,10 +696,37 @@ static void results() {
         !lost.has_value() && !lost && lost_const.error() == dethrux::error{0, 1});
     check("a value or another", dethrux::to_utf8(u"\xDC00").value_or("other") == "other"
                                     && dethrux::to_utf8(u"text").value_or("other") == "text");
-    check("the value of an error", has_no_value([&] { (void)lost.value(); }) && has_no_value([&] {
-        (void)lost_const.value();
-    }) && has_no_value([&] { (void)std::move(lost).value(); }));
-    check("the error of a value", has_no_value([&] { (void)found_const.error(); }));
+    const auto says = "ill-formed sequence of length 1 at offset 0";
+    check("the value of an error",
+        has_no_value([&] { (void)lost.value(); }, {0, 1}, says)
+            && has_no_value([&] { (void)lost_const.value(); }, {0, 1}, says)
+            && has_no_value([&] { (void)std::move(lost).value(); }, {0, 1}, says)
+            && has_no_value([] { (void)dethrux::to_utf8(u"ab\xD800").value(); }, {2, 0},
+                "incomplete character at offset 2"));
+    check("the error of a value", has_no_error([&] { (void)found_const.error(); }));
+    check("a value or another of a result that is kept",
+        found_const.value_or("other") == "text" && lost_const.value_or("other") == "other"
+            && *found_const == "text");
+    const auto size = [](const std::string &text) { return text.size(); };
+    const auto halve = [](const std::string &text) {
+        return dethrux::from_utf8(text.substr(0, 2));
+    };
+    check("what is made of a value",
+        found_const.transform(size) == std::size_t{4} && lost_const.transform(size).error() == lost.error()
+            && found_const.and_then(halve) == u"te"s && lost_const.and_then(halve) == dethrux::error{0, 1}
+            && dethrux::to_utf8(u"text").transform([](std::string text) { return text + "!"; })
+                   == "text!"s
+            && dethrux::to_utf8(u"\xE9\xE9").and_then([](std::string text) {
+                   return dethrux::from_utf8(text.substr(1));
+               }) == dethrux::error{0, 1}
+            && dethrux::to_utf8(u"\xDC00").and_then([](std::string text) {
+                   return dethrux::from_utf8(text);
+               }) == dethrux::error{0, 1}
+            && dethrux::to_utf8(u"\xDC00").transform([](std::string text) { return text; })
+                   == dethrux::error{0, 1});
+    check("results that are equal", found_const == dethrux::to_utf8(u"text") && found_const != lost_const
+                                        && !(found_const == "texts"s) && lost_const == lost
+                                        && !(lost_const != lost) && lost_const != dethrux::error{0, 2});
     const dethrux::result<std::string> made = dethrux::error{3, 2};
     check("a result that is made of an error", !made && made.error() == dethrux::error{3, 2});
     std::string moved = std::move(found).value(), also = *dethrux::to_utf8(u"text");
@@ -781,11 +817,18 @@ static void views() {
     check("what a view has", all.size() == 2
                                  && all.data() == static_cast<const void *>(text.data())
                                  && dethrux::units(u"abc").size() == 3
-                                 && dethrux::bytes("abcd").size() == 4
-                                 && *dethrux::bytes("abcd").data() == 'a');
+                                 && dethrux::bytes("abcd"sv).size() == 4
+                                 && *dethrux::bytes("abcd"sv).data() == 'a');
 #if __cplusplus >= 202002L
-    check("char8_t", is_taken_as_bytes<char8_t>());
+    check("char8_t", is_taken_as_bytes<char8_t>() && dethrux::from_utf8(u8"ab").value() == u"ab"
+                         && dethrux::to_utf8<std::u8string>(u"\xE9").value() == u8"\u00E9");
 #endif
+    using wide = std::conditional_t<sizeof(wchar_t) == 2, dethrux::units, dethrux::points>;
+    check("texts of wchar_t", wide(L"abc").size() == 3);
+    static_assert(!std::is_constructible_v<dethrux::bytes, const char *>);
+    static_assert(!std::is_constructible_v<dethrux::bytes, char (&)[4]>);
+    static_assert(!std::is_constructible_v<dethrux::chars, const unsigned char *>);
+    static_assert(!std::is_constructible_v<dethrux::units, const short *>);
     static_assert(!takes_any<dethrux::bytes, char16_t, char32_t, one_byte, float>);
     static_assert(!takes_any<dethrux::units, char, char32_t, two_bytes, float>);
     static_assert(!takes_any<dethrux::points, char, char16_t, four_bytes, float>);
@@ -794,15 +837,15 @@ static void views() {
 // What each call that reads finds in no elements.
 template <class Text, class... Order>
 static bool reads_nothing(Text none, Order... order) {
-    const dethrux::inspection found = dethrux::inspect(none, order...);
-    return none.size() == 0 && none.data() == nullptr && !dethrux::validate(none, order...)
-           && dethrux::count_chars(none, order...) == 0 && dethrux::is_ascii(none, order...)
-           && dethrux::is_char_boundary(none, order..., 0)
-           && !dethrux::is_char_boundary(none, order..., 1)
-           && dethrux::floor_char_boundary(none, order..., 0) == 0
-           && dethrux::floor_char_boundary(none, order..., 1) == 0
-           && dethrux::compare(none, order..., none, order...) == 0
-           && dethrux::find(none, order..., none) == 0 && dethrux::rfind(none, order..., none) == 0
+    const dethrux::inspection found = dethrux::inspect(order..., none);
+    return none.size() == 0 && none.data() == nullptr && !dethrux::validate(order..., none)
+           && dethrux::count_chars(order..., none) == 0 && dethrux::is_ascii(order..., none)
+           && dethrux::is_char_boundary(order..., none, 0)
+           && !dethrux::is_char_boundary(order..., none, 1)
+           && dethrux::floor_char_boundary(order..., none, 0) == 0
+           && dethrux::floor_char_boundary(order..., none, 1) == 0
+           && dethrux::compare(order..., none, order..., none) == 0
+           && dethrux::find(order..., none, none) == 0 && dethrux::rfind(order..., none, none) == 0
            && !found.error && found.chars == 0 && found.repertoire == dethrux::repertoire::ascii;
 }
 
@@ -811,25 +854,25 @@ template <class Text, class... Order>
 static bool converts_nothing(Text none, Order... order) {
     const dethrux::bytes bytes;
     const dethrux::points points;
-    bool is = dethrux::to_utf8(none, order...).value().empty()
-              && dethrux::to_utf8_lossy(none, order...).empty()
-              && dethrux::to_utf32(none, order...).value().empty()
-              && dethrux::to_utf32_lossy(none, order...).empty()
-              && dethrux::to_latin1(none, order...).value().empty();
+    bool is = dethrux::to_utf8(order..., none).value().empty()
+              && dethrux::to_utf8_lossy(order..., none).empty()
+              && dethrux::to_utf32(order..., none).value().empty()
+              && dethrux::to_utf32_lossy(order..., none).empty()
+              && dethrux::to_latin1(order..., none).value().empty();
     if constexpr (sizeof...(order) == 0) {
         is = is && dethrux::to_wtf8(none).empty() && dethrux::to_wstring(none).value().empty()
              && dethrux::to_wstring_lossy(none).empty()
              && dethrux::from_wstring(std::wstring_view()).value().empty()
              && dethrux::from_wstring_lossy(std::wstring_view()).empty();
     } else {
-        is = is && dethrux::to_wtf8(none, order...).value().empty();
+        is = is && dethrux::to_wtf8(order..., none).value().empty();
     }
-    return is && dethrux::from_utf8(bytes, order...).value().empty()
-           && dethrux::from_utf8_lossy(bytes, order...).empty()
-           && dethrux::from_utf32(points, order...).value().empty()
-           && dethrux::from_utf32_lossy(points, order...).empty()
-           && dethrux::from_latin1(bytes, order...).empty()
-           && dethrux::from_wtf8(bytes, order...).value().empty();
+    return is && dethrux::from_utf8(order..., bytes).value().empty()
+           && dethrux::from_utf8_lossy(order..., bytes).empty()
+           && dethrux::from_utf32(order..., points).value().empty()
+           && dethrux::from_utf32_lossy(order..., points).empty()
+           && dethrux::from_latin1(order..., bytes).empty()
+           && dethrux::from_wtf8(order..., bytes).value().empty();
 }
 
 // No elements, as bytes and as code units, leave a stream where it is.
@@ -873,7 +916,7 @@ static void no_elements() {
         check("no elements in bytes",
             reads_nothing(bytes, order) && converts_nothing(bytes, order));
         check("no elements in a part of a file",
-            dethrux::floor_char_boundary_around(bytes, order, 0) == 0);
+            dethrux::floor_char_boundary_around(order, bytes, 0) == 0);
         check("no elements in a stream", streams_nothing(order));
     }
 }
@@ -889,27 +932,27 @@ static void types() {
     const byte_order order = byte_order::big;
     constexpr dethrux_byte_order any{5u};
     static_assert(any == 5);
-    static_assert(noexcept(dethrux::validate(text, order)));
+    static_assert(noexcept(dethrux::validate(order, text)));
     static_assert(noexcept(dethrux::validate(wide)));
-    static_assert(noexcept(dethrux::count_chars(text, order)));
+    static_assert(noexcept(dethrux::count_chars(order, text)));
     static_assert(noexcept(dethrux::count_chars(wide)));
-    static_assert(noexcept(dethrux::is_ascii(text, order)));
+    static_assert(noexcept(dethrux::is_ascii(order, text)));
     static_assert(noexcept(dethrux::is_ascii(wide)));
-    static_assert(noexcept(dethrux::compare(text, order, text, order)));
+    static_assert(noexcept(dethrux::compare(order, text, order, text)));
     static_assert(noexcept(dethrux::compare(wide, wide)));
-    static_assert(noexcept(dethrux::is_char_boundary(text, order, 0)));
+    static_assert(noexcept(dethrux::is_char_boundary(order, text, 0)));
     static_assert(noexcept(dethrux::is_char_boundary(wide, 0)));
-    static_assert(noexcept(dethrux::floor_char_boundary(text, order, 0)));
+    static_assert(noexcept(dethrux::floor_char_boundary(order, text, 0)));
     static_assert(noexcept(dethrux::floor_char_boundary(wide, 0)));
-    static_assert(noexcept(dethrux::floor_char_boundary_around(text, order, 0)));
+    static_assert(noexcept(dethrux::floor_char_boundary_around(order, text, 0)));
     static_assert(noexcept(dethrux::shard_offset(0, 0, 0)));
-    static_assert(noexcept(dethrux::find(text, order, text)));
+    static_assert(noexcept(dethrux::find(order, text, text)));
     static_assert(noexcept(dethrux::find(wide, wide)));
-    static_assert(noexcept(dethrux::rfind(text, order, text)));
+    static_assert(noexcept(dethrux::rfind(order, text, text)));
     static_assert(noexcept(dethrux::rfind(wide, wide)));
     static_assert(noexcept(dethrux::swap_byte_order(changed)));
     static_assert(noexcept(dethrux::swap_byte_order(changed_wide)));
-    static_assert(noexcept(dethrux::make_well_formed(changed, order)));
+    static_assert(noexcept(dethrux::make_well_formed(order, changed)));
     static_assert(noexcept(dethrux::make_well_formed(changed_wide)));
     static_assert(noexcept(dethrux::decoder()));
     static_assert(noexcept(dethrux::encoder()));
@@ -951,9 +994,9 @@ static void orders() {
     std::u16string units;
     std::string bytes;
     dethrux::encoder units_in_big(byte_order::big), bytes_without;
-    units_in_big.feed("\xE4\xB8\x80\xE4", units);
+    units_in_big.feed("\xE4\xB8\x80\xE4"sv, units);
     units_in_big.finish(units);
-    bytes_without.feed("\xE4\xB8\x80", bytes);
+    bytes_without.feed("\xE4\xB8\x80"sv, bytes);
     check("decoders of UTF-8 and the machine's order", units == u"\x4E00\xFFFD" && bytes == native);
     to.clear();
     dethrux::wtf8_decoder wtf8_in_big(byte_order::big), wtf8_without;
@@ -964,11 +1007,11 @@ static void orders() {
     bytes.clear();
     dethrux::wtf8_encoder wtf8_units_in_big(byte_order::big), wtf8_bytes_without;
     check("encoders of WTF-8 and the machine's order",
-        !wtf8_units_in_big.feed("\xE4\xB8\x80\xED\xA0\xBD", units)
-            && !wtf8_units_in_big.finish(units) && !wtf8_bytes_without.feed("\xE4\xB8\x80", bytes)
+        !wtf8_units_in_big.feed("\xE4\xB8\x80\xED\xA0\xBD"sv, units)
+            && !wtf8_units_in_big.finish(units) && !wtf8_bytes_without.feed("\xE4\xB8\x80"sv, bytes)
             && units == u"\x4E00\xD83D" && bytes == native);
     check("the native byte order",
-        dethrux::to_utf8(native, byte_order::native).value() == "\xE4\xB8\x80"
+        dethrux::to_utf8(byte_order::native, native).value() == "\xE4\xB8\x80"
             && native == std::string(reinterpret_cast<const char *>(u"\x4E00"), 2));
 }
 
@@ -1046,7 +1089,7 @@ static void memory() {
         dethrux::wtf8_encoder waits(order);
         std::string none;
         check("the end of wtf8_encoder without memory",
-            !waits.feed("\xED\xA0\xBD", none)
+            !waits.feed("\xED\xA0\xBD"sv, none)
                 && appends(waits, 3, in_form("\xD8\x3D"s, order),
                     [](auto &by, auto &to) { finish(by, to); })
                 && appends(waits, 3, u"\xD83D"s,
@@ -1071,6 +1114,206 @@ static void memory() {
     }
 }
 
+// A file with the BOM of each order, one without, and what is too short for a BOM.
+static void boms() {
+    for (byte_order order : {byte_order::little, byte_order::big}) {
+        const byte_order other = order == byte_order::big ? byte_order::little : byte_order::big;
+        const std::string text = in_form("\0a\xD8\x3D\xDE\0"s, order);
+        const std::string file = in_form("\xFE\xFF"s, order) + text, odd = file + "\0"s;
+        const std::string utf8 = "a\xF0\x9F\x98\x80";
+        check("bom_bytes", dethrux::bom_bytes(order) == in_form("\xFE\xFF"s, order));
+        const dethrux::bom found = dethrux::detect_bom(other, file);
+        const dethrux::bom none = dethrux::detect_bom(order, text);
+        check("detect_bom", found.len == 2 && found.order == order && !found.is_undecided
+                                && none.len == 0 && none.order == order && !none.is_undecided
+                                && dethrux::detect_bom(order, "\xFF"sv).is_undecided
+                                && dethrux::detect_bom(order, {}).is_undecided
+                                && dethrux::detect_bom(order, {}).order == order);
+        check("after_bom",
+            dethrux::to_utf8(dethrux::after_bom(other, file)).value() == utf8
+                && dethrux::to_utf8(dethrux::after_bom(order, text)).value() == utf8
+                && dethrux::to_utf8(dethrux::after_bom(other, odd)).error() == dethrux::error{6, 0}
+                && dethrux::count_chars(dethrux::after_bom(other, file)) == 2);
+        bool is = true;
+        dethrux::bom_decoder decoder(order), default_other(other);
+        for (const std::string &stream : {file, text, odd, "\xFF"s, "\xFE"s, ""s, "\xFF\xFE"s}) {
+            auto &by = stream == file || stream == odd ? default_other : decoder;
+            const std::string wanted = dethrux::to_utf8_lossy(
+                dethrux::after_bom(stream == file || stream == odd ? other : order, stream));
+            for (std::size_t at = 0; at <= stream.size(); at++) {
+                std::string to = "before ";
+                by.feed(std::string_view(stream).substr(0, at), to);
+                is = is && (at != 1 || by.pending() == 1) && by.order().has_value() == (at > 1);
+                by.feed(std::string_view(stream).substr(at), to);
+                is = is && (stream.size() < 2 || by.order() == dethrux::detect_bom(order, stream).order);
+                by.finish(to);
+                is = is && to == "before " + wanted && by.pending() == 0 && !by.order();
+            }
+            std::string to;
+            for (char byte : stream) {
+                by.feed(std::string_view(&byte, 1), to);
+                by.feed({}, to);
+            }
+            is = is && by.pending() == (stream == odd ? 1u : stream.size() == 1 ? 1u : 0u);
+            by.finish(to);
+            is = is && to == wanted;
+        }
+        check("bom_decoder", is);
+    }
+}
+
+// Appended to strings and vectors, and written to arrays and spans of each length.
+static void outputs() {
+    const std::u16string text = u"a\xE9\xD83D\xDE00", lone = u"a\xDC00" + text;
+    const std::string utf8 = "a\xC3\xA9\xF0\x9F\x98\x80", mended = "a\xEF\xBF\xBD" + utf8;
+    std::string to = "before ";
+    std::vector<unsigned char> more = {'x'};
+    check("append_utf8",
+        !dethrux::append_utf8(text, to) && to == "before " + utf8
+            && dethrux::append_utf8(lone, to) == dethrux::error{1, 1} && to == "before " + utf8 + "a"
+            && !dethrux::append_utf8(text, more) && more.size() == 8 && more[0] == 'x' && more[7] == 0x80);
+    dethrux::append_utf8_lossy(lone, to = "x");
+    check("append_utf8_lossy", to == "x" + mended);
+    for (byte_order order : {byte_order::little, byte_order::big}) {
+        const std::string bytes = in_form("\0a\0\xE9\xD8\x3D\xDE\0"s, order);
+        const std::string broken = in_form("\0a\xDC\0"s, order) + bytes;
+        std::string appended = "x", lossy = "x", back = "x", back_lossy = "x", kept = "x";
+        check("append in a byte order",
+            !dethrux::append_utf8(order, bytes, appended) && appended == "x" + utf8
+                && dethrux::append_utf8(order, broken, kept) == dethrux::error{2, 2} && kept == "xa"
+                && !dethrux::append_utf16(order, utf8, back) && back == "x" + bytes
+                && dethrux::append_utf16(order, "a\xFF", kept = "") == dethrux::error{1, 1}
+                && kept == in_form("\0a"s, order));
+        dethrux::append_utf8_lossy(order, broken, lossy);
+        dethrux::append_utf16_lossy(order, utf8 + "\xFF", back_lossy);
+        check("append in a byte order, lossy",
+            lossy == "x" + mended && back_lossy == "x" + bytes + in_form("\xFF\xFD"s, order));
+        std::array<char, 8> room{};
+        const dethrux::progress made = dethrux::write_utf16(order, utf8, room);
+        const dethrux::progress part = dethrux::write_utf8(order, broken, room);
+        const dethrux::progress marks = dethrux::write_utf8_lossy(order, broken, room);
+        check("write in a byte order",
+            made.read == 7 && made.written == 8 && made.status == DETHRUX_DONE
+                && part.read == 2 && part.written == 1 && part.status == DETHRUX_ILL_FORMED
+                && part.error_len == 2 && marks.read == 8 && marks.written == 7
+                && marks.status == DETHRUX_NO_SPACE && std::string(room.data(), 7) == mended.substr(0, 7)
+                && dethrux::write_utf16_lossy(order, "\xFF", room).written == 2
+                && std::string(room.data(), 2) == in_form("\xFF\xFD"s, order));
+    }
+    std::u16string units = u"x";
+    std::vector<std::uint16_t> more_units;
+    check("append_utf16", !dethrux::append_utf16(utf8, units) && units == u"x" + text
+                              && dethrux::append_utf16("a\xFF", more_units) == dethrux::error{1, 1}
+                              && more_units == std::vector<std::uint16_t>{'a'});
+    dethrux::append_utf16_lossy("a\xFF", units = u"x");
+    check("append_utf16_lossy", units == u"xa\xFFFD");
+    check("results of other types",
+        dethrux::from_utf8<std::vector<std::uint16_t>>("a").value() == std::vector<std::uint16_t>{'a'}
+            && dethrux::from_utf8_lossy<std::vector<std::uint16_t>>("\xFF")[0] == 0xFFFD
+            && dethrux::to_utf8<std::vector<char>>(u"a").value() == std::vector<char>{'a'}
+            && dethrux::to_utf8_lossy<std::vector<char>>(u"\xDC00").size() == 3
+            && dethrux::from_wtf8<std::vector<std::uint16_t>>("\xED\xA0\x80").value()[0] == 0xD800);
+    bool is = true;
+    for (std::size_t room = 0; room <= 8; room++) {
+        std::vector<char> bytes(room);
+        std::vector<char16_t> wide(room);
+        const dethrux::progress made = dethrux::write_utf8(text, bytes);
+        const dethrux::progress back = dethrux::write_utf16(utf8, wide);
+        const std::size_t written = room < 1 ? 0 : room < 3 ? 1 : room < 7 ? 3 : 7;
+        const std::size_t units_written = room < 4 ? (room < 2 ? room : 2) : 4;
+        is = is && made.written == written && made.read == (written < 7 ? (written + 1) / 2 : 4)
+             && made.status == (room < 7 ? DETHRUX_NO_SPACE : DETHRUX_DONE) && made.error_len == 0
+             && std::string(bytes.data(), written) == utf8.substr(0, written)
+             && back.written == units_written
+             && back.status == (room < 4 ? DETHRUX_NO_SPACE : DETHRUX_DONE)
+             && std::u16string(wide.data(), units_written) == text.substr(0, units_written);
+    }
+    check("write_utf8 and write_utf16", is);
+    std::array<char16_t, 3> few{};
+    const dethrux::progress found = dethrux::write_utf16("a\xC3", few);
+    const dethrux::progress lone_made = dethrux::write_utf8(lone, std::array<char, 9>{});
+    check("what is written before an error",
+        found.read == 1 && found.written == 1 && found.status == DETHRUX_INCOMPLETE
+            && dethrux::write_utf16_lossy("a\xC3", few).written == 2 && few[1] == 0xFFFD
+            && lone_made.read == 1 && lone_made.written == 1 && lone_made.error_len == 1);
+#if __cplusplus >= 202002L
+    char buffer[9] = {};
+    check("spans", dethrux::write_utf8(text, std::span(buffer)).written == 7
+                       && std::string(buffer, 7) == utf8
+                       && dethrux::write_utf8(text, std::span(buffer, 2)).written == 1);
+#endif
+}
+
+// In a vector, an array and a span, as in a string.
+static void in_place() {
+    std::vector<std::uint16_t> units = {0x0061, 0xDC00};
+    std::array<unsigned char, 5> bytes = {0, 'a', 0xDC, 0, 7};
+    check("make_well_formed of other types",
+        dethrux::make_well_formed(units) == 1 && units[1] == 0xFFFD
+            && dethrux::make_well_formed(byte_order::big, bytes) == 1 && bytes[2] == 0xFF
+            && bytes[3] == 0xFD && bytes[4] == 7);
+    dethrux::swap_byte_order(units);
+    dethrux::swap_byte_order(bytes);
+    check("swap_byte_order of other types", units[0] == 0x6100 && units[1] == 0xFDFF && bytes[0] == 'a'
+                                                && bytes[1] == 0 && bytes[2] == 0xFD && bytes[4] == 7);
+#if __cplusplus >= 202002L
+    dethrux::swap_byte_order(std::span(units).subspan(1));
+    check("swap_byte_order of a span", units[0] == 0x6100 && units[1] == 0xFFFD);
+#endif
+}
+
+// A std::wstring to UTF-8 and back, in one call.
+static void wide_and_utf8() {
+    const std::wstring wide = L"a\xE9\U0001F600", lone = {L'a', static_cast<wchar_t>(0xDC00), L'b'};
+    const std::string utf8 = "a\xC3\xA9\xF0\x9F\x98\x80";
+    auto back = dethrux::wstring_from_utf8(utf8);
+    check("a std::wstring and UTF-8",
+        dethrux::wstring_to_utf8(wide).value() == utf8 && back && is_same(*back, wide)
+            && dethrux::wstring_to_utf8_lossy(wide) == utf8
+            && is_same(dethrux::wstring_from_utf8_lossy(utf8), wide)
+            && dethrux::wstring_to_utf8(lone).error() == dethrux::error{1, 1}
+            && dethrux::wstring_to_utf8_lossy(lone) == "a\xEF\xBF\xBD" "b"
+            && dethrux::wstring_from_utf8("a\xFF").error() == dethrux::error{1, 1}
+            && is_same(dethrux::wstring_from_utf8_lossy("a\xFF"), L"a\uFFFD")
+            && dethrux::wstring_from_utf8("a\xC3").error() == dethrux::error{1, 0});
+}
+
+// A decoder to WTF-8 in big endian that gets code units has the machine's order at the end too.
+static void mixed_orders() {
+    dethrux::wtf8_decoder decoder(byte_order::big);
+    std::string to;
+    decoder.feed(u"a\xD83D", to);
+    check("the end of code units in WTF-8", decoder.finish(to) && to == "a\xED\xA0\xBD");
+}
+
+// What was there stays if the second of two allocations fails.
+static void append_without_memory() {
+    const std::u16string text(100, u'\x4E2D');
+    const std::string utf8 = dethrux::to_utf8(text).value();
+    std::string to = full<std::string>();
+    const std::string before = to;
+    check("append_utf8 without memory",
+        without_memory([&] { (void)dethrux::append_utf8(text, to); }, [&] { return to == before; })
+            && to == before + utf8);
+    for (const std::string &start : {"\xFE\xFF\0"s, "\0"s, ""s}) {
+        dethrux::bom_decoder decoder(byte_order::big);
+        std::string none;
+        decoder.feed(start, none);
+        std::string out = full<std::string>(), end = full<std::string>();
+        const std::string old = out;
+        const std::string rest = start.empty() ? "\0a\0b"s : "a\0b"s;
+        check("bom_decoder without memory",
+            without_memory([&] { decoder.feed(rest, out); },
+                [&] { return out == old && decoder.pending() == (start.empty() ? 0u : 1u); })
+                && out == old + "ab");
+        decoder.feed("\xD8"sv, out);
+        check("the end of bom_decoder without memory",
+            without_memory([&] { decoder.finish(end); },
+                [&] { return end == old && decoder.pending() == 1; })
+                && end == old + "\xEF\xBF\xBD");
+    }
+}
+
 // Whether a call allocates this often, each time at most this many bytes and a few that the string
 // adds, and fails without memory.
 template <class Call>
@@ -1078,7 +1321,7 @@ static bool requests_times(std::size_t times, std::size_t bytes, Call call) {
     requests = largest_request = 0;
     call();
     bool is = requests == times && largest_request <= bytes + 64;
-    return is && without_memory(call, [] { return true; });
+    return is && without_memory(call, [] { return true; }) == (times > 0);
 }
 
 template <class Call>
@@ -1086,49 +1329,54 @@ static bool requests_once(std::size_t bytes, Call call) {
     return requests_times(1, bytes, call);
 }
 
-// A result takes the memory of the longest text for its length of input: of UTF-16 three bytes or a
-// code unit of UTF-32 for each code unit, a code unit for each byte of UTF-8 and Latin-1, and two
-// for each code unit of UTF-32.
+// A result in UTF-8 takes the memory that it needs if it is ASCII, and else at most that of the
+// longest text. The others take that of the longest text for their length of input: of UTF-16 a code
+// unit of UTF-32 for each code unit, a code unit for each byte of UTF-8 and Latin-1, and two for
+// each code unit of UTF-32.
 static void space() {
     const std::string bytes(2000, 'a');
     const std::u16string units(1000, u'a');
     const byte_order order = byte_order::big;
+    const std::u16string more = u"\xE9" + units, wider(1000, u'\x4E2D');
     check("the memory of to_utf8",
-        requests_once(3000, [&] { (void)dethrux::to_utf8(units); })
-            && requests_once(3000, [&] { (void)dethrux::to_utf8(bytes, order); })
-            && requests_once(3000, [&] { (void)dethrux::to_utf8_lossy(units); })
-            && requests_once(3000, [&] { (void)dethrux::to_utf8_lossy(bytes, order); }));
+        requests_times(0, 0, [] { (void)dethrux::to_utf8(u"fifteen letters"); })
+            && requests_once(1000, [&] { (void)dethrux::to_utf8(units); })
+            && requests_times(2, 3001, [&] { (void)dethrux::to_utf8(order, bytes); })
+            && requests_once(1000, [&] { (void)dethrux::to_utf8_lossy(units); })
+            && requests_times(2, 3001, [&] { (void)dethrux::to_utf8_lossy(order, bytes); })
+            && requests_times(2, 2002, [&] { (void)dethrux::to_utf8(more); })
+            && requests_times(2, 3001, [&] { (void)dethrux::to_utf8(wider); }));
     check("the memory of from_utf8",
         requests_once(4000, [&] { (void)dethrux::from_utf8(bytes); })
-            && requests_once(4000, [&] { (void)dethrux::from_utf8(bytes, order); })
+            && requests_once(4000, [&] { (void)dethrux::from_utf8(order, bytes); })
             && requests_once(4000, [&] { (void)dethrux::from_utf8_lossy(bytes); })
-            && requests_once(4000, [&] { (void)dethrux::from_utf8_lossy(bytes, order); }));
+            && requests_once(4000, [&] { (void)dethrux::from_utf8_lossy(order, bytes); }));
     const std::u32string points(1000, U'a');
     const std::wstring wide(1000, L'a');
     check("the memory of UTF-32",
         requests_once(4000, [&] { (void)dethrux::to_utf32(units); })
-            && requests_once(4000, [&] { (void)dethrux::to_utf32(bytes, order); })
+            && requests_once(4000, [&] { (void)dethrux::to_utf32(order, bytes); })
             && requests_once(4000, [&] { (void)dethrux::to_utf32_lossy(units); })
-            && requests_once(4000, [&] { (void)dethrux::to_utf32_lossy(bytes, order); })
+            && requests_once(4000, [&] { (void)dethrux::to_utf32_lossy(order, bytes); })
             && requests_once(4000, [&] { (void)dethrux::from_utf32(points); })
-            && requests_once(4000, [&] { (void)dethrux::from_utf32(points, order); })
+            && requests_once(4000, [&] { (void)dethrux::from_utf32(order, points); })
             && requests_once(4000, [&] { (void)dethrux::from_utf32_lossy(points); })
-            && requests_once(4000, [&] { (void)dethrux::from_utf32_lossy(points, order); }));
+            && requests_once(4000, [&] { (void)dethrux::from_utf32_lossy(order, points); }));
     check("the memory of Latin-1",
         requests_once(1000, [&] { (void)dethrux::to_latin1(units); })
-            && requests_once(1000, [&] { (void)dethrux::to_latin1(bytes, order); })
+            && requests_once(1000, [&] { (void)dethrux::to_latin1(order, bytes); })
             && requests_once(4000, [&] { (void)dethrux::from_latin1(bytes); })
-            && requests_once(4000, [&] { (void)dethrux::from_latin1(bytes, order); }));
+            && requests_once(4000, [&] { (void)dethrux::from_latin1(order, bytes); }));
     check("the memory of a std::wstring",
         requests_once(1000 * sizeof(wchar_t), [&] { (void)dethrux::to_wstring(units); })
             && requests_once(1000 * sizeof(wchar_t), [&] { (void)dethrux::to_wstring_lossy(units); })
             && requests_once(4000, [&] { (void)dethrux::from_wstring(wide); })
             && requests_once(4000, [&] { (void)dethrux::from_wstring_lossy(wide); }));
     check("the memory of WTF-8",
-        requests_once(3000, [&] { (void)dethrux::to_wtf8(units); })
-            && requests_once(3000, [&] { (void)dethrux::to_wtf8(bytes, order); })
+        requests_once(1000, [&] { (void)dethrux::to_wtf8(units); })
+            && requests_times(2, 3001, [&] { (void)dethrux::to_wtf8(order, bytes); })
             && requests_once(4000, [&] { (void)dethrux::from_wtf8(bytes); })
-            && requests_once(4000, [&] { (void)dethrux::from_wtf8(bytes, order); })
+            && requests_once(4000, [&] { (void)dethrux::from_wtf8(order, bytes); })
             && requests_once(3000, [&] {
                    std::string to;
                    dethrux::wtf8_decoder(order).feed(bytes, to);
@@ -1178,20 +1426,16 @@ static void lengths() {
     dethrux::encoder back(order);
     dethrux::wtf8_decoder wtf8(order);
     check("texts of WTF-8 that are too long",
-        is_too_long([&] { (void)dethrux::to_wtf8(bytes, order); })
-            && is_too_long([&] { (void)dethrux::to_wtf8(units); })
-            && is_too_long([&] { (void)dethrux::from_wtf8(bytes, order); })
+        is_too_long([&] { (void)dethrux::from_wtf8(order, bytes); })
             && is_too_long([&] { (void)dethrux::from_wtf8(bytes); })
             && is_too_long([&] { wtf8.feed(bytes, to); })
             && is_too_long([&] { wtf8.feed(units, to); }) && to == "before" && wtf8.pending() == 0);
     check("texts that are too long",
-        is_too_long([&] { (void)dethrux::to_utf8(bytes, order); })
-            && is_too_long([&] { (void)dethrux::to_utf8_lossy(units); })
-            && is_too_long([&] { (void)dethrux::from_utf8(bytes, order); })
+        is_too_long([&] { (void)dethrux::from_utf8(order, bytes); })
             && is_too_long([&] { (void)dethrux::from_utf8_lossy(bytes); })
-            && is_too_long([&] { (void)dethrux::to_utf32(bytes, order); })
+            && is_too_long([&] { (void)dethrux::to_utf32(order, bytes); })
             && is_too_long([&] { (void)dethrux::to_utf32_lossy(units); })
-            && is_too_long([&] { (void)dethrux::from_latin1(bytes, order); })
+            && is_too_long([&] { (void)dethrux::from_latin1(order, bytes); })
             && is_too_long([&] { decoder.feed(bytes, to); })
             && is_too_long([&] { decoder.feed(units, to); })
             && is_too_long([&] { back.feed(bytes, to); })
@@ -1222,7 +1466,13 @@ int main() {
     no_elements();
     types();
     orders();
+    boms();
+    outputs();
+    in_place();
+    wide_and_utf8();
+    mixed_orders();
     memory();
+    append_without_memory();
     space();
     lengths();
     std::printf("%d passed, %d failed\n", passed, failed);
