@@ -9,13 +9,14 @@
  * not proved.
  *
  * @par Texts
- * UTF-16 is given as code units in the machine's byte order, as in `to_utf8(units)`, or as a
- * byte order and bytes, as in `to_utf8(byte_order::big, bytes)`. Code units are a std::u16string or its view, a literal, a vector or span of any integral type of two bytes,
- * or a pointer and a length. dethrux::bytes are a std::string or its view, a vector or span of
- * std::byte or unsigned char, or a pointer and a length, but no C string, since UTF-16 has zero
- * bytes inside. UTF-8, WTF-8 and Latin-1 are given as dethrux::chars: the same, and C strings,
- * `u8""` and std::u8string. UTF-32 is given as dethrux::points: std::u32string and the like. A
- * std::wstring is UTF-16 where wchar_t has two bytes, as on Windows, and else UTF-32.
+ * UTF-16 is given as code units in the machine's byte order, as in `to_utf8(units)`, or as a byte
+ * order and bytes, as in `to_utf8(byte_order::big, bytes)`. Code units are a std::u16string or its
+ * view, a literal, a vector or span of any integral type of two bytes, or a pointer and a length.
+ * Bytes are a std::string or its view, a vector or span of std::byte or unsigned char, or a pointer
+ * and a length, but no C string, since UTF-16 has zero bytes inside. UTF-8, WTF-8 and Latin-1 are
+ * dethrux::chars: the same, and C strings, `u8""` and std::u8string. UTF-32 is dethrux::points: a
+ * std::u32string and the like. A std::wstring is UTF-16 where wchar_t has two bytes, as on Windows,
+ * and else UTF-32.
  *
  * @par Lengths
  * Offsets and lengths count elements: code units if those were given, and else bytes.
@@ -62,8 +63,8 @@ namespace detail {
 
 // Whether a type is an integer, a character or an enumeration of this many bytes.
 template <std::size_t Size, class T>
-inline constexpr bool is_element =
-    sizeof(T) == Size && (std::is_integral_v<T> || std::is_enum_v<T>);
+inline constexpr bool is_element = sizeof(T) == Size
+                                   && (std::is_integral_v<T> || std::is_enum_v<T>);
 
 template <class C>
 using element_of = std::remove_cv_t<std::remove_pointer_t<decltype(std::declval<C &>().data())>>;
@@ -73,8 +74,7 @@ template <std::size_t Size, class C, class = void>
 struct holds : std::false_type {};
 
 template <std::size_t Size, class C>
-struct holds<Size, C,
-    std::void_t<element_of<const C>, decltype(std::declval<const C &>().size())>>
+struct holds<Size, C, std::void_t<element_of<const C>, decltype(std::declval<const C &>().size())>>
     : std::bool_constant<is_element<Size, element_of<const C>>> {};
 
 template <class N>
@@ -257,9 +257,9 @@ public:
 
     /** @{ */
     /** Returns the value, which must be there. */
-    T &operator*() & noexcept { return *std::get_if<0>(&state_); }
-    const T &operator*() const & noexcept { return *std::get_if<0>(&state_); }
-    T &&operator*() && noexcept { return std::move(*std::get_if<0>(&state_)); }
+    T &operator*() &noexcept { return *std::get_if<0>(&state_); }
+    const T &operator*() const &noexcept { return *std::get_if<0>(&state_); }
+    T &&operator*() &&noexcept { return std::move(*std::get_if<0>(&state_)); }
     /** @} */
     /** @{ */
     /** Returns a pointer to the value, which must be there. */
@@ -274,11 +274,13 @@ public:
     /** Returns what a function that returns a result makes of the value, or the error. */
     template <class F>
     auto and_then(F &&f) const & -> std::invoke_result_t<F, const T &> {
-        return has_value() ? std::forward<F>(f)(**this) : std::invoke_result_t<F, const T &>(error());
+        return has_value() ? std::forward<F>(f)(**this)
+                           : std::invoke_result_t<F, const T &>(error());
     }
     template <class F>
     auto and_then(F &&f) && -> std::invoke_result_t<F, T> {
-        return has_value() ? std::forward<F>(f)(*std::move(*this)) : std::invoke_result_t<F, T>(error());
+        return has_value() ? std::forward<F>(f)(*std::move(*this))
+                           : std::invoke_result_t<F, T>(error());
     }
     /** @} */
     /** @{ */
@@ -525,8 +527,8 @@ element_of<C> *elements(C &to) noexcept {
  *   than the second
  */
 [[nodiscard]] inline int compare(utf16 first, utf16 second) noexcept {
-    return dethrux_compare(first.order(), first.data(), first.len(), second.order(), second.data(),
-        second.len());
+    return dethrux_compare(
+        first.order(), first.data(), first.len(), second.order(), second.data(), second.len());
 }
 
 /** Does the same for bytes, each text in its byte order. */
@@ -538,13 +540,11 @@ element_of<C> *elements(C &to) noexcept {
 /** Returns whether the text may be cut at an offset: dethrux_is_char_boundary. */
 [[nodiscard]] inline bool is_char_boundary(utf16 text, std::size_t at) noexcept {
     return at <= text.len() / text.unit()
-           && dethrux_is_char_boundary(
-               text.order(), text.data(), text.len(), at * text.unit());
+           && dethrux_is_char_boundary(text.order(), text.data(), text.len(), at * text.unit());
 }
 
 /** Does the same for bytes in a byte order. */
-[[nodiscard]] inline bool is_char_boundary(
-    byte_order order, bytes text, std::size_t at) noexcept {
+[[nodiscard]] inline bool is_char_boundary(byte_order order, bytes text, std::size_t at) noexcept {
     return is_char_boundary(utf16(order, text), at);
 }
 
@@ -610,8 +610,8 @@ inline std::size_t in_units(std::size_t found) noexcept {
 
 /** Does the same for code units in the machine's byte order. */
 [[nodiscard]] inline std::size_t find(units text, units pattern) noexcept {
-    return detail::in_units(dethrux_find(DETHRUX_NATIVE_ENDIAN, text.data(), text.size() * 2,
-        pattern.data(), pattern.size() * 2));
+    return detail::in_units(dethrux_find(
+        DETHRUX_NATIVE_ENDIAN, text.data(), text.size() * 2, pattern.data(), pattern.size() * 2));
 }
 
 /** Returns the greatest offset at which a pattern occurs in a text, or npos: dethrux_rfind. */
@@ -622,8 +622,8 @@ inline std::size_t in_units(std::size_t found) noexcept {
 
 /** Does the same for code units in the machine's byte order. */
 [[nodiscard]] inline std::size_t rfind(units text, units pattern) noexcept {
-    return detail::in_units(dethrux_rfind(DETHRUX_NATIVE_ENDIAN, text.data(), text.size() * 2,
-        pattern.data(), pattern.size() * 2));
+    return detail::in_units(dethrux_rfind(
+        DETHRUX_NATIVE_ENDIAN, text.data(), text.size() * 2, pattern.data(), pattern.size() * 2));
 }
 
 /** What a text is. */
@@ -730,7 +730,7 @@ template <class String = std::string>
 /**
  * Appends the text in UTF-8 to a string or vector, which must not be the text.
  *
- * @return nothing, or where the input is ill formed: in that case only what comes before is appended
+ * @return nothing, or where the input is ill formed: then only what comes before is appended
  */
 template <class String>
 [[nodiscard]] std::optional<error> append_utf8(utf16 text, String &to) {
@@ -759,8 +759,7 @@ namespace detail {
 
 template <class Out>
 progress write_utf8_by(conversion call, const utf16 &text, Out &to) noexcept {
-    const dethrux_progress made =
-        from_utf16_by(call, text, 0, elements<1>(to), to_size(to.size()));
+    const dethrux_progress made = from_utf16_by(call, text, 0, elements<1>(to), to_size(to.size()));
     return {made.read / text.unit(), made.written, made.status, made.error_len / text.unit()};
 }
 
@@ -842,7 +841,7 @@ template <class String = std::string>
  * Appends the text in UTF-16 to a string or vector, which must not be the input: of code units, or
  * of bytes in a byte order. To write a file with a BOM, begin with bom_bytes.
  *
- * @return nothing, or where the input is ill formed: in that case only what comes before is appended
+ * @return nothing, or where the input is ill formed: then only what comes before is appended
  */
 template <class String>
 [[nodiscard]] std::optional<error> append_utf16(chars utf8, String &to) {
@@ -873,8 +872,8 @@ namespace detail {
 
 template <std::size_t Size, class Out>
 progress write_utf16_by(conversion call, byte_order order, chars utf8, Out &to) noexcept {
-    const dethrux_progress made = to_utf16_by(
-        call, order, utf8.data(), utf8.size(), elements<Size>(to), to_size(to.size()));
+    const dethrux_progress made =
+        to_utf16_by(call, order, utf8.data(), utf8.size(), elements<Size>(to), to_size(to.size()));
     return {made.read, made.written, made.status, made.error_len};
 }
 
@@ -1012,7 +1011,8 @@ inline dethrux_progress to_wide([[maybe_unused]] widening call, units text, std:
     if (!to.empty()) {
         std::memcpy(to.data(), text.data(), text.size() * 2);
     }
-    const dethrux_validity found = dethrux_validate(DETHRUX_NATIVE_ENDIAN, text.data(), text.size() * 2);
+    const dethrux_validity found =
+        dethrux_validate(DETHRUX_NATIVE_ENDIAN, text.data(), text.size() * 2);
     return {found.valid_up_to, 0, found.status, found.error_len};
 #endif
 }
@@ -1155,19 +1155,17 @@ void swap_byte_order(C &&text) noexcept {
 
 /** @{ */
 /**
- * Replaces each unpaired surrogate by U+FFFD, of code units or of bytes in a byte order, and returns
- * how many there were.
+ * Replaces each unpaired surrogate by U+FFFD, and returns how many there were. The text is code
+ * units, or bytes in a byte order.
  */
 template <class C>
 std::size_t make_well_formed(C &&text) noexcept {
-    return dethrux_u16_make_well_formed(
-        detail::elements<2>(text), detail::to_size(text.size()));
+    return dethrux_u16_make_well_formed(detail::elements<2>(text), detail::to_size(text.size()));
 }
 template <class C>
 std::size_t make_well_formed(byte_order order, C &&text) noexcept {
     return dethrux_make_well_formed(detail::order(order),
-        reinterpret_cast<std::uint8_t *>(detail::elements<1>(text)),
-        detail::to_size(text.size()));
+        reinterpret_cast<std::uint8_t *>(detail::elements<1>(text)), detail::to_size(text.size()));
 }
 /** @} */
 
@@ -1282,8 +1280,8 @@ public:
 };
 
 /**
- * Decodes a stream of UTF-16 whose byte order its BOM gives, to UTF-8, with U+FFFD for each unpaired
- * surrogate. The BOM is not part of the text.
+ * Decodes a stream of UTF-16 whose byte order its BOM gives, to UTF-8, with U+FFFD for each
+ * unpaired surrogate. The BOM is not part of the text.
  */
 class bom_decoder {
 public:
@@ -1351,8 +1349,8 @@ private:
  * Encodes a stream of UTF-8 that comes in chunks, cut anywhere, in UTF-16, with U+FFFD for each
  * maximal subpart of an ill-formed sequence.
  *
- * A string of code units gets the machine's byte order, one of bytes the encoder's. Give one type of
- * string for a whole stream.
+ * A string of code units gets the machine's byte order, one of bytes the encoder's. Give one type
+ * of string for a whole stream.
  */
 class encoder {
 public:
@@ -1440,8 +1438,8 @@ private:
         const bool is_units = sizeof(typename String::value_type) == 2;
         std::string joined(pending_, pending_len_);
         joined.append(reinterpret_cast<const char *>(chunk.data()), chunk.size());
-        const dethrux_progress made = detail::append_utf16_by(
-            call, is_units ? byte_order::native : order_, joined, to);
+        const dethrux_progress made =
+            detail::append_utf16_by(call, is_units ? byte_order::native : order_, joined, to);
         read_ += made.read;
         pending_len_ = 0;
         if (made.status == DETHRUX_ILL_FORMED) {

@@ -76,8 +76,30 @@ c_in_cxx() {
 
 # A program of examples/cpp, by a compiler and in a standard.
 in_cxx() {
-    "$1" -std="$2" "$level" -Wall -Wextra -Wpedantic -Wconversion -Wshadow -Werror "-I$top/include" \
-        "$top/examples/cpp/$3.cpp" "$archive" -o "$room/cpp_$3"
+    "$1" -std="$2" "$level" -Wall -Wextra -Wpedantic -Wconversion -Wsign-conversion -Wshadow -Werror \
+        "-I$top/include" "$top/examples/cpp/$3.cpp" "$archive" -o "$room/cpp_$3"
+}
+
+# Whether the header itself has no cast that a program's warnings tell of.
+casts_nothing() {
+    c++ -std=c++17 -Wold-style-cast -Wuseless-cast -Werror "-I$top/include" -fsyntax-only \
+        "$top/examples/cpp/first.cpp"
+}
+
+# Whether each of these calls is refused: elements of another size, bytes without a byte order, and
+# C strings where UTF-16 has zero bytes inside.
+refuses_in_cxx() {
+    local call
+    for call in 'to_utf8<std::u16string>(u"a")' 'write_utf8(u"a", units)' 'write_utf16("a", bytes)' \
+        'from_utf8<std::string>("a")' 'from_utf8_lossy<std::string>("a")' 'from_wtf8<std::string>("a")' \
+        'append_utf16("a", bytes)' 'append_utf16_lossy("a", bytes)' 'make_well_formed(bytes)' \
+        'encoder().feed(bytes, points)' 'swap_byte_order(points)' 'to_utf8(byte_order::big, "a")' \
+        'decoder().feed("a", bytes)' 'bom_decoder(byte_order::big).feed("a", bytes)'; do
+        printf '#include "dethrux.hpp"\n%s { (void)dethrux::%s; }\n' 'using namespace dethrux;
+            void call(std::string &bytes, std::u16string &units, std::u32string &points); void call(
+            std::string &bytes, std::u16string &units, std::u32string &points)' "$call" > "$room/call.cpp"
+        ! c++ -std=c++17 -w "-I$top/include" -fsyntax-only "$room/call.cpp" 2> /dev/null || return
+    done
 }
 
 header_in_cxx() {
@@ -293,6 +315,8 @@ test_cxx() {
                 count "C++ by $compiler in $standard" "$room/cpp_check"
         done
     done
+    count 'no casts in C++' casts_nothing
+    count 'calls that are refused in C++' refuses_in_cxx
     count 'ignored results in C++' warns "$top/examples/cpp/ignored.cpp" c++ -std=c++17
     count 'two files in C++' in_two_files c++ -std=c++17 -include dethrux.hpp \
         "$top"/examples/cpp/{first,ignored}.cpp
@@ -309,7 +333,7 @@ built=library
 headers=''
 level=-O2
 compilers=(g++ clang++)
-standards=(c++17 c++20)
+standards=(c++17 c++20 c++2b)
 c23=(-std=c2x -Wno-builtin-macro-redefined -U__STDC_VERSION__ -D__STDC_VERSION__=202311L)
 case "${1-}" in
     --over-ci) built=library_over_ci ;;

@@ -224,7 +224,10 @@ static std::u32string points_of(std::string_view utf8) {
         if ((bits & 0xC0) == 0x80) {
             found.back() = found.back() << 6 | (bits & 0x3F);
         } else {
-            found += bits < 0xC0 ? bits : bits < 0xE0 ? bits & 0x1F : bits < 0xF0 ? bits & 0xF : bits & 7;
+            found += bits < 0xC0   ? bits
+                     : bits < 0xE0 ? bits & 0x1F
+                     : bits < 0xF0 ? bits & 0xF
+                                   : bits & 7;
         }
     }
     return found;
@@ -270,8 +273,7 @@ static void to_utf32(const row &from) {
     check_forms("from_utf32", from, [&](std::size_t, auto... order) {
         auto found = dethrux::from_utf32(order..., text);
         auto lossy = dethrux::from_utf32_lossy(order..., text);
-        return found && *found == lossy
-               && (from.reason || lossy == in_form(from.big, order...))
+        return found && *found == lossy && (from.reason || lossy == in_form(from.big, order...))
                && points_of(dethrux::to_utf8(order..., lossy).value()) == text;
     });
 }
@@ -283,7 +285,7 @@ static void to_latin1(const row &from) {
     check_forms("to_latin1", from, [&](std::size_t, auto... order) {
         auto found = dethrux::to_latin1(order..., in_form(from.big, order...));
         return is ? found && *found == latin1
-                          && dethrux::from_latin1(order..., latin1) == in_form(from.big, order...)
+                        && dethrux::from_latin1(order..., latin1) == in_form(from.big, order...)
                   : !found;
     });
 }
@@ -304,9 +306,9 @@ static void to_wstring(const row &from) {
     const std::wstring wide = is_utf16 ? std::wstring(mended.begin(), mended.end())
                                        : std::wstring(text.begin(), text.end());
     auto found = dethrux::to_wstring(units);
-    check("to_wstring: "s + from.name,
-        from.reason ? !found && found.error() == in_elements(from.reason, 2)
-                    : found && is_same(*found, wide));
+    check("to_wstring: "s + from.name, from.reason
+                                           ? !found && found.error() == in_elements(from.reason, 2)
+                                           : found && is_same(*found, wide));
     auto back = dethrux::from_wstring(wide);
     check("from_wstring: "s + from.name, back && *back == mended
                                              && dethrux::from_wstring_lossy(wide) == mended
@@ -325,10 +327,9 @@ static void no_characters() {
                  && dethrux::from_utf32_lossy(order, text) == in_form("\0a\xFF\xFD\0b"s, order);
         }
         auto found = dethrux::from_utf32(text);
-        check("what is no character",
-            is && !found && found.error() == reason
-                && dethrux::from_utf32_lossy(text) == u"a\uFFFDb"
-                && !dethrux::validate_utf32(U"a\U0001F600"));
+        check("what is no character", is && !found && found.error() == reason
+                                          && dethrux::from_utf32_lossy(text) == u"a\uFFFDb"
+                                          && !dethrux::validate_utf32(U"a\U0001F600"));
     }
     const std::wstring wide = {L'a', static_cast<wchar_t>(0xD800), L'b'};
     auto found = dethrux::from_wstring(wide);
@@ -583,7 +584,10 @@ static const search_row searches[] = {
     {"only the end", "\0a\0c\0a\0c\0a\0b"s, "\0a\0b"s, 8, 8},
     {"only the start", "\0a\0b\0a\0c\0a\0c"s, "\0a\0b"s, 0, 0},
     {"bytes in the other order", "a\0\0a"s, "\0a"s, 2, 2},
-    {"bytes of two units", "Aa" "aA"s, "AA"s, npos, npos},
+    {"bytes of two units",
+        "Aa"
+        "aA"s,
+        "AA"s, npos, npos},
     {"a pair", "\xD8\x3D\xDE\0\0a\xD8\x3D\xDE\0"s, "\xD8\x3D\xDE\0"s, 0, 6},
     {"the first half of a pair", "\xD8\x3D\xDE\0\xD8\x3D"s, "\xD8\x3D"s, 4, 4},
     {"the second half of a pair", "\xDE\0\xD8\x3D\xDE\0"s, "\xDE\0"s, 0, 0},
@@ -605,12 +609,14 @@ static void search(const search_row &from) {
     auto is_in_units = from.pattern.size() % 2 == 0;
     check_forms("find", from, [&](std::size_t element, auto... order) {
         return (element == 2 && !is_in_units)
-               || dethrux::find(order..., in_form(from.big, order...), in_form(from.pattern, order...))
+               || dethrux::find(
+                      order..., in_form(from.big, order...), in_form(from.pattern, order...))
                       == in_elements(from.first, element);
     });
     check_forms("rfind", from, [&](std::size_t element, auto... order) {
         return (element == 2 && !is_in_units)
-               || dethrux::rfind(order..., in_form(from.big, order...), in_form(from.pattern, order...))
+               || dethrux::rfind(
+                      order..., in_form(from.big, order...), in_form(from.pattern, order...))
                       == in_elements(from.last, element);
     });
 }
@@ -624,7 +630,8 @@ static void search_nothing() {
               && dethrux::find(units, u"a") == npos && dethrux::rfind(units, u"a") == npos;
     for (byte_order order : {byte_order::little, byte_order::big}) {
         is = is && dethrux::find(order, bytes, bytes) == 0
-             && dethrux::rfind(order, bytes, bytes) == 0 && dethrux::find(order, "abc"sv, bytes) == 0
+             && dethrux::rfind(order, bytes, bytes) == 0
+             && dethrux::find(order, "abc"sv, bytes) == 0
              && dethrux::rfind(order, "abc"sv, bytes) == 3
              && dethrux::find(order, bytes, "ab"sv) == npos
              && dethrux::rfind(order, bytes, "ab"sv) == npos;
@@ -712,8 +719,10 @@ static void results() {
         return dethrux::from_utf8(text.substr(0, 2));
     };
     check("what is made of a value",
-        found_const.transform(size) == std::size_t{4} && lost_const.transform(size).error() == lost.error()
-            && found_const.and_then(halve) == u"te"s && lost_const.and_then(halve) == dethrux::error{0, 1}
+        found_const.transform(size) == std::size_t{4}
+            && lost_const.transform(size).error() == lost.error()
+            && found_const.and_then(halve) == u"te"s
+            && lost_const.and_then(halve) == dethrux::error{0, 1}
             && dethrux::to_utf8(u"text").transform([](std::string text) { return text + "!"; })
                    == "text!"s
             && dethrux::to_utf8(u"\xE9\xE9").and_then([](std::string text) {
@@ -724,9 +733,10 @@ static void results() {
                }) == dethrux::error{0, 1}
             && dethrux::to_utf8(u"\xDC00").transform([](std::string text) { return text; })
                    == dethrux::error{0, 1});
-    check("results that are equal", found_const == dethrux::to_utf8(u"text") && found_const != lost_const
-                                        && !(found_const == "texts"s) && lost_const == lost
-                                        && !(lost_const != lost) && lost_const != dethrux::error{0, 2});
+    check("results that are equal", found_const == dethrux::to_utf8(u"text")
+                                        && found_const != lost_const && !(found_const == "texts"s)
+                                        && lost_const == lost && !(lost_const != lost)
+                                        && lost_const != dethrux::error{0, 2});
     const dethrux::result<std::string> made = dethrux::error{3, 2};
     check("a result that is made of an error", !made && made.error() == dethrux::error{3, 2});
     std::string moved = std::move(found).value(), also = *dethrux::to_utf8(u"text");
@@ -807,15 +817,13 @@ static void views() {
     check("strings",
         dethrux::from_utf8("ab"s).value() == u"ab" && dethrux::from_utf8("ab"sv).value() == u"ab"
             && dethrux::from_utf8("ab").value() == u"ab" && dethrux::to_utf8(u"ab"s).value() == "ab"
-            && dethrux::to_utf8(u"ab"sv).value() == "ab"
-            && dethrux::to_utf8(u"ab").value() == "ab"
+            && dethrux::to_utf8(u"ab"sv).value() == "ab" && dethrux::to_utf8(u"ab").value() == "ab"
             && dethrux::from_utf32(U"ab"s).value() == u"ab"
             && dethrux::from_utf32(U"ab"sv).value() == u"ab"
             && dethrux::from_utf32(U"ab").value() == u"ab");
     const std::u32string text = U"ab";
     const dethrux::points all = text;
-    check("what a view has", all.size() == 2
-                                 && all.data() == static_cast<const void *>(text.data())
+    check("what a view has", all.size() == 2 && all.data() == static_cast<const void *>(text.data())
                                  && dethrux::units(u"abc").size() == 3
                                  && dethrux::bytes("abcd"sv).size() == 4
                                  && *dethrux::bytes("abcd"sv).data() == 'a');
@@ -826,7 +834,7 @@ static void views() {
     using wide = std::conditional_t<sizeof(wchar_t) == 2, dethrux::units, dethrux::points>;
     check("texts of wchar_t", wide(L"abc").size() == 3);
     static_assert(!std::is_constructible_v<dethrux::bytes, const char *>);
-    static_assert(!std::is_constructible_v<dethrux::bytes, char (&)[4]>);
+    static_assert(!std::is_constructible_v<dethrux::bytes, char(&)[4]>);
     static_assert(!std::is_constructible_v<dethrux::chars, const unsigned char *>);
     static_assert(!std::is_constructible_v<dethrux::units, const short *>);
     static_assert(!takes_any<dethrux::bytes, char16_t, char32_t, one_byte, float>);
@@ -913,8 +921,8 @@ static void no_elements() {
                                 && dethrux::points().data() == nullptr
                                 && !dethrux::validate_utf32(points));
     for (byte_order order : {byte_order::little, byte_order::big}) {
-        check("no elements in bytes",
-            reads_nothing(bytes, order) && converts_nothing(bytes, order));
+        check(
+            "no elements in bytes", reads_nothing(bytes, order) && converts_nothing(bytes, order));
         check("no elements in a part of a file",
             dethrux::floor_char_boundary_around(order, bytes, 0) == 0);
         check("no elements in a stream", streams_nothing(order));
@@ -976,8 +984,8 @@ static void types() {
     static_assert(noexcept(*std::declval<const result &>()));
     static_assert(noexcept(*std::declval<result>()));
     static_assert(std::is_same_v<decltype(std::declval<result &>().operator->()), std::string *>);
-    static_assert(std::is_same_v<decltype(std::declval<const result &>().operator->()),
-        const std::string *>);
+    static_assert(
+        std::is_same_v<decltype(std::declval<const result &>().operator->()), const std::string *>);
     static_assert(noexcept(std::declval<result &>().operator->()));
     static_assert(noexcept(std::declval<const result &>().operator->()));
 }
@@ -1073,12 +1081,12 @@ static bool keeps(Decoder decoder, std::string_view first, std::string_view rest
 
 // The same for the encoder of WTF-8, whose calls return an error. The end of the stream is one.
 template <class Text>
-static bool keeps_wtf8(
-    dethrux::wtf8_encoder encoder, std::string_view first, std::string_view rest, const Text &text) {
+static bool keeps_wtf8(dethrux::wtf8_encoder encoder, std::string_view first, std::string_view rest,
+    const Text &text) {
     Text none;
     return !encoder.feed(first, none) && none.empty()
-           && appends(encoder, first.size(), text,
-               [&](auto &by, auto &to) { (void)by.feed(rest, to); })
+           && appends(
+               encoder, first.size(), text, [&](auto &by, auto &to) { (void)by.feed(rest, to); })
            && encoder.finish(none) == dethrux::error{0, 0};
 }
 
@@ -1092,21 +1100,18 @@ static void memory() {
             !waits.feed("\xED\xA0\xBD"sv, none)
                 && appends(waits, 3, in_form("\xD8\x3D"s, order),
                     [](auto &by, auto &to) { finish(by, to); })
-                && appends(waits, 3, u"\xD83D"s,
-                    [](auto &by, auto &to) { finish(by, to); }));
+                && appends(waits, 3, u"\xD83D"s, [](auto &by, auto &to) { finish(by, to); }));
         for (std::size_t at = 1; at < 4; at++) {
             const std::string first = utf8.substr(0, at), rest = utf8.substr(at);
             const std::string name = " without memory, cut at " + std::to_string(at);
             check("decoder" + name, keeps(dethrux::decoder(order), text.substr(0, at),
                                         text.substr(at), utf8, "\xEF\xBF\xBD"s));
-            check("encoder" + name,
-                keeps(dethrux::encoder(order), first, rest, text, mark));
+            check("encoder" + name, keeps(dethrux::encoder(order), first, rest, text, mark));
             check("encoder to code units" + name,
                 keeps(dethrux::encoder(order), first, rest, in_form(pair), u"\uFFFD"s));
             const std::string lead = at < 2 ? ""s : "\xED\xA0\xBD"s;
-            check("wtf8_decoder" + name,
-                keeps(dethrux::wtf8_decoder(order), text.substr(0, at), text.substr(at), utf8,
-                    lead));
+            check("wtf8_decoder" + name, keeps(dethrux::wtf8_decoder(order), text.substr(0, at),
+                                             text.substr(at), utf8, lead));
             check("wtf8_encoder" + name,
                 keeps_wtf8(dethrux::wtf8_encoder(order), first, rest, text)
                     && keeps_wtf8(dethrux::wtf8_encoder(order), first, rest, in_form(pair)));
@@ -1124,7 +1129,7 @@ static void boms() {
         check("bom_bytes", dethrux::bom_bytes(order) == in_form("\xFE\xFF"s, order));
         const dethrux::bom found = dethrux::detect_bom(other, file);
         const dethrux::bom none = dethrux::detect_bom(order, text);
-        check("detect_bom", found.len == 2 && found.order == order && !found.is_undecided
+        check("detect_bom", dethrux::bom{}.len == 0 && found.len == 2 && found.order == order && !found.is_undecided
                                 && none.len == 0 && none.order == order && !none.is_undecided
                                 && dethrux::detect_bom(order, "\xFF"sv).is_undecided
                                 && dethrux::detect_bom(order, {}).is_undecided
@@ -1145,7 +1150,9 @@ static void boms() {
                 by.feed(std::string_view(stream).substr(0, at), to);
                 is = is && (at != 1 || by.pending() == 1) && by.order().has_value() == (at > 1);
                 by.feed(std::string_view(stream).substr(at), to);
-                is = is && (stream.size() < 2 || by.order() == dethrux::detect_bom(order, stream).order);
+                is = is
+                     && (stream.size() < 2
+                         || by.order() == dethrux::detect_bom(order, stream).order);
                 by.finish(to);
                 is = is && to == "before " + wanted && by.pending() == 0 && !by.order();
             }
@@ -1168,12 +1175,14 @@ static void outputs() {
     const std::string utf8 = "a\xC3\xA9\xF0\x9F\x98\x80", mended = "a\xEF\xBF\xBD" + utf8;
     std::string to = "before ";
     std::vector<unsigned char> more = {'x'};
-    check("append_utf8",
-        !dethrux::append_utf8(text, to) && to == "before " + utf8
-            && dethrux::append_utf8(lone, to) == dethrux::error{1, 1} && to == "before " + utf8 + "a"
-            && !dethrux::append_utf8(text, more) && more.size() == 8 && more[0] == 'x' && more[7] == 0x80);
+    check("append_utf8", !dethrux::append_utf8(text, to) && to == "before " + utf8
+                             && dethrux::append_utf8(lone, to) == dethrux::error{1, 1}
+                             && to == "before " + utf8 + "a" && !dethrux::append_utf8(text, more)
+                             && more.size() == 8 && more[0] == 'x' && more[7] == 0x80);
     dethrux::append_utf8_lossy(lone, to = "x");
     check("append_utf8_lossy", to == "x" + mended);
+    check("an odd byte after letters of three bytes",
+        dethrux::to_utf8_lossy(byte_order::big, std::string(34, 'N') + "N").size() == 54);
     for (byte_order order : {byte_order::little, byte_order::big}) {
         const std::string bytes = in_form("\0a\0\xE9\xD8\x3D\xDE\0"s, order);
         const std::string broken = in_form("\0a\xDC\0"s, order) + bytes;
@@ -1193,10 +1202,10 @@ static void outputs() {
         const dethrux::progress part = dethrux::write_utf8(order, broken, room);
         const dethrux::progress marks = dethrux::write_utf8_lossy(order, broken, room);
         check("write in a byte order",
-            made.read == 7 && made.written == 8 && made.status == DETHRUX_DONE
-                && part.read == 2 && part.written == 1 && part.status == DETHRUX_ILL_FORMED
-                && part.error_len == 2 && marks.read == 8 && marks.written == 7
-                && marks.status == DETHRUX_NO_SPACE && std::string(room.data(), 7) == mended.substr(0, 7)
+            made.read == 7 && made.written == 8 && made.status == DETHRUX_DONE && part.read == 2
+                && part.written == 1 && part.status == DETHRUX_ILL_FORMED && part.error_len == 2
+                && marks.read == 8 && marks.written == 7 && marks.status == DETHRUX_NO_SPACE
+                && std::string(room.data(), 7) == mended.substr(0, 7)
                 && dethrux::write_utf16_lossy(order, "\xFF", room).written == 2
                 && std::string(room.data(), 2) == in_form("\xFF\xFD"s, order));
     }
@@ -1208,7 +1217,8 @@ static void outputs() {
     dethrux::append_utf16_lossy("a\xFF", units = u"x");
     check("append_utf16_lossy", units == u"xa\xFFFD");
     check("results of other types",
-        dethrux::from_utf8<std::vector<std::uint16_t>>("a").value() == std::vector<std::uint16_t>{'a'}
+        dethrux::from_utf8<std::vector<std::uint16_t>>("a").value()
+                == std::vector<std::uint16_t>{'a'}
             && dethrux::from_utf8_lossy<std::vector<std::uint16_t>>("\xFF")[0] == 0xFFFD
             && dethrux::to_utf8<std::vector<char>>(u"a").value() == std::vector<char>{'a'}
             && dethrux::to_utf8_lossy<std::vector<char>>(u"\xDC00").size() == 3
@@ -1254,8 +1264,9 @@ static void in_place() {
             && bytes[3] == 0xFD && bytes[4] == 7);
     dethrux::swap_byte_order(units);
     dethrux::swap_byte_order(bytes);
-    check("swap_byte_order of other types", units[0] == 0x6100 && units[1] == 0xFDFF && bytes[0] == 'a'
-                                                && bytes[1] == 0 && bytes[2] == 0xFD && bytes[4] == 7);
+    check("swap_byte_order of other types", units[0] == 0x6100 && units[1] == 0xFDFF
+                                                && bytes[0] == 'a' && bytes[1] == 0
+                                                && bytes[2] == 0xFD && bytes[4] == 7);
 #if __cplusplus >= 202002L
     dethrux::swap_byte_order(std::span(units).subspan(1));
     check("swap_byte_order of a span", units[0] == 0x6100 && units[1] == 0xFFFD);
@@ -1272,7 +1283,9 @@ static void wide_and_utf8() {
             && dethrux::wstring_to_utf8_lossy(wide) == utf8
             && is_same(dethrux::wstring_from_utf8_lossy(utf8), wide)
             && dethrux::wstring_to_utf8(lone).error() == dethrux::error{1, 1}
-            && dethrux::wstring_to_utf8_lossy(lone) == "a\xEF\xBF\xBD" "b"
+            && dethrux::wstring_to_utf8_lossy(lone)
+                   == "a\xEF\xBF\xBD"
+                      "b"
             && dethrux::wstring_from_utf8("a\xFF").error() == dethrux::error{1, 1}
             && is_same(dethrux::wstring_from_utf8_lossy("a\xFF"), L"a\uFFFD")
             && dethrux::wstring_from_utf8("a\xC3").error() == dethrux::error{1, 0});
@@ -1308,8 +1321,8 @@ static void append_without_memory() {
                 && out == old + "ab");
         decoder.feed("\xD8"sv, out);
         check("the end of bom_decoder without memory",
-            without_memory([&] { decoder.finish(end); },
-                [&] { return end == old && decoder.pending() == 1; })
+            without_memory(
+                [&] { decoder.finish(end); }, [&] { return end == old && decoder.pending() == 1; })
                 && end == old + "\xEF\xBF\xBD");
     }
 }
@@ -1330,9 +1343,9 @@ static bool requests_once(std::size_t bytes, Call call) {
 }
 
 // A result in UTF-8 takes the memory that it needs if it is ASCII, and else at most that of the
-// longest text. The others take that of the longest text for their length of input: of UTF-16 a code
-// unit of UTF-32 for each code unit, a code unit for each byte of UTF-8 and Latin-1, and two for
-// each code unit of UTF-32.
+// longest text. The others take that of the longest text for their length of input: of UTF-16 a
+// code unit of UTF-32 for each code unit, a code unit for each byte of UTF-8 and Latin-1, and two
+// for each code unit of UTF-32.
 static void space() {
     const std::string bytes(2000, 'a');
     const std::u16string units(1000, u'a');
@@ -1369,7 +1382,8 @@ static void space() {
             && requests_once(4000, [&] { (void)dethrux::from_latin1(order, bytes); }));
     check("the memory of a std::wstring",
         requests_once(1000 * sizeof(wchar_t), [&] { (void)dethrux::to_wstring(units); })
-            && requests_once(1000 * sizeof(wchar_t), [&] { (void)dethrux::to_wstring_lossy(units); })
+            && requests_once(
+                1000 * sizeof(wchar_t), [&] { (void)dethrux::to_wstring_lossy(units); })
             && requests_once(4000, [&] { (void)dethrux::from_wstring(wide); })
             && requests_once(4000, [&] { (void)dethrux::from_wstring_lossy(wide); }));
     check("the memory of WTF-8",
