@@ -1,9 +1,12 @@
-//! Times the calls of the library and of other decoders on the texts of a folder. It prints a line
+//! Times the calls of the library and of other decoders on the texts of `texts.rs`. It prints a line
 //! for each call, text, byte order and decoder, with GB/s of UTF-16, or for short texts with
 //! nanoseconds per call. It first compares all results.
+#[macro_use]
+mod library;
 mod plain;
 #[cfg(simdutf)]
 mod simdutf;
+mod texts;
 
 use encoding_rs::{DecoderResult, Encoding, UTF_8, UTF_16BE, UTF_16LE, mem};
 use std::cell::RefCell;
@@ -12,72 +15,11 @@ use std::hint::black_box;
 use std::time::Instant;
 
 const ROUNDS: usize = 15;
+const SIZE: usize = 1 << 16;
 const CLASSES: [&str; 4] = ["ascii", "latin_cyrillic", "cjk", "emoji"];
 
 // The last argument is a buffer that is long enough for the text that the call makes.
 type Call = fn(bool, &[u8], &mut [u8]) -> usize;
-
-// The results of `dethrux.h`.
-#[repr(C)]
-struct Progress {
-    read: usize,
-    written: usize,
-    status: u32,
-    error_len: u32,
-}
-
-#[repr(C)]
-struct Validity {
-    valid_up_to: usize,
-    status: u32,
-    error_len: u32,
-}
-
-// The calls of `dethrux.h`, in a build whose names begin with a prefix.
-macro_rules! library {
-    ($name:ident, $prefix:literal) => {
-        mod $name {
-            use super::{Progress, Validity, done};
-
-            mod calls {
-                use super::{Progress, Validity};
-
-                unsafe extern "C" {
-                    #[link_name = concat!($prefix, "validate")]
-                    pub fn validate(order: u32, utf16: *const u8, len: usize) -> Validity;
-                    #[link_name = concat!($prefix, "count_chars")]
-                    pub fn count_chars(order: u32, utf16: *const u8, len: usize) -> usize;
-                    #[link_name = concat!($prefix, "is_ascii")]
-                    pub fn is_ascii(order: u32, utf16: *const u8, len: usize) -> bool;
-                    #[link_name = concat!($prefix, "to_utf8")]
-                    pub fn to_utf8(order: u32, utf16: *const u8, len: usize, to: *mut u8, capacity: usize) -> Progress;
-                    #[link_name = concat!($prefix, "from_utf8")]
-                    pub fn from_utf8(order: u32, utf8: *const u8, len: usize, to: *mut u8, capacity: usize) -> Progress;
-                }
-            }
-
-            pub fn valid_up_to(big: bool, raw: &[u8]) -> usize {
-                super::valid_up_to(unsafe { calls::validate(big.into(), raw.as_ptr(), raw.len()) })
-            }
-
-            pub fn count(big: bool, raw: &[u8], _: &mut [u8]) -> usize {
-                unsafe { calls::count_chars(big.into(), raw.as_ptr(), raw.len()) }
-            }
-
-            pub fn is_ascii(big: bool, raw: &[u8], _: &mut [u8]) -> usize {
-                unsafe { calls::is_ascii(big.into(), raw.as_ptr(), raw.len()) }.into()
-            }
-
-            pub fn to_utf8(big: bool, raw: &[u8], to: &mut [u8]) -> usize {
-                done(unsafe { calls::to_utf8(big.into(), raw.as_ptr(), raw.len(), to.as_mut_ptr(), to.len()) }, raw.len())
-            }
-
-            pub fn from_utf8(big: bool, text: &[u8], to: &mut [u8]) -> usize {
-                done(unsafe { calls::from_utf8(big.into(), text.as_ptr(), text.len(), to.as_mut_ptr(), to.len()) }, text.len())
-            }
-        }
-    };
-}
 
 library!(here, "dethrux_");
 library!(v3, "v3_");
@@ -146,23 +88,10 @@ macro_rules! plain {
     };
 }
 
-// Returns the length of the valid prefix, and tests that `error_len` is 2 for an ill-formed
-// sequence and 0 otherwise.
-fn valid_up_to(answer: Validity) -> usize {
-    assert_eq!(answer.error_len, if answer.status == 1 { 2 } else { 0 });
-    answer.valid_up_to
-}
-
 // Returns the number of bytes written, and tests that the decoder read all of its input.
 fn decoded((answer, read, written): (DecoderResult, usize, usize), len: usize) -> usize {
     assert!(answer == DecoderResult::InputEmpty && read == len);
     written
-}
-
-// Returns the number of bytes written, and tests that all of the input was read and is well formed.
-fn done(answer: Progress, len: usize) -> usize {
-    assert_eq!((answer.read, answer.status, answer.error_len), (len, 0, 0));
-    answer.written
 }
 
 fn icu_units(units: &[u16]) -> usize {
@@ -322,7 +251,6 @@ fn cases(call: &str, text: &str, big: bool, raw: &'static [u8], size: f64, field
 }
 
 fn main() {
-    let folder = std::env::args().nth(1).unwrap();
     // Leaves out the decoders that make a state for each call, which takes longer than a short
     // text.
     let stateless = |all: &[(&'static str, Call)]| -> Vec<_> {
@@ -330,9 +258,8 @@ fn main() {
     };
     let mut all = Vec::new();
     for big in [false, true] {
-        let read = |class: &str| std::fs::read(format!("{folder}/{class}.{}.small", if big { "be" } else { "le" })).unwrap().leak();
         for class in CLASSES {
-            let raw = read(class);
+            let raw = texts::utf16(class, big, SIZE).leak();
             let utf8 = |raw: &[u8]| -> &'static [u8] {
                 let utf8 = vec![0; 3 * raw.len()].leak();
                 let len = plain!(to_utf8, big, raw, &mut *utf8);
@@ -366,8 +293,8 @@ fn main() {
                 add("short from_utf8", of, &stateless(FROM_UTF8));
             }
         }
-        let random = read("random");
-        all.extend(cases("validate", "random", big, random, random.len() as f64 / 1e9, random.len(), FAULTS));
+        let random = texts::utf16("random", big, SIZE).leak();
+        all.extend(cases("validate", "random", big, random, SIZE as f64 / 1e9, SIZE, FAULTS));
     }
     for case in &mut all {
         case.times = (2e-3 / case.time()).ceil() as usize;

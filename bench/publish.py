@@ -20,7 +20,6 @@ PANELS = {
     "validate": "Validation",
     "to_utf8": "UTF-16 to UTF-8",
     "from_utf8": "UTF-8 to UTF-16",
-    "utf16_cat": "The program utf16_cat",
 }
 TEXTS = {
     "ascii": "ASCII",
@@ -39,7 +38,7 @@ BARS = {
     "ICU": ("ICU", "#3c8d4f"),
     "iconv": ("iconv", "#c9a227"),
 }
-SAME = {"uconv": "ICU", "encoding_rs mem": "encoding_rs"}
+SAME = {"encoding_rs mem": "encoding_rs"}
 
 
 def tables(name):
@@ -68,13 +67,11 @@ def run():
     values = {}
     for line in open("out/lines.tsv", encoding="utf-8"):
         call, text, order, decoder, value = (line.rstrip("\n").split("\t") + [""] * 4)[:5]
-        if value and call not in ("memory", "differs"):
+        if value:
             values.setdefault((call, text, order), {})[decoder] = value
     for (call, text, order), its in values.items():
         is_short = call.startswith("short ")
         text, _, size = text.partition(", ")
-        if call in ("utf16_cat", "utf16_enc"):
-            size = "64 MiB" if text in ("ascii", "latin_cyrillic", "cjk", "emoji") else "16 MiB"
         unit = "ns" if is_short else "GB/s"
         for library, name in (("v2", "here"), ("v3", "here v3")):
             for other in [it for it in its if name in its and not it.startswith("here")]:
@@ -97,14 +94,6 @@ def real():
                     other = column.removeprefix("to ").removeprefix("a ")
                     other = f"simdutf, {other}" if other.endswith("bits") else other
                     yield cells[0], order, *cells[1:3], "GB/s", its, speeds[its], other, "", cell
-
-
-def fixed():
-    for _, cells in tables("fixed"):
-        call, order, text = cells[0].split(", ", 2)
-        for library, at, other in (("v2", 1, "simdutf, 128 bits"), ("v3", 4, "simdutf, 256 bits")):
-            what = call, order, text, "64 KiB", "GB/s", library
-            yield *what, cells[at], other, cells[at + 1], cells[at + 2]
 
 
 def walks():
@@ -133,22 +122,10 @@ def python():
                 yield column, cells[2], *cells[:2], "µs", "", "", "CPython", theirs, cell
 
 
-def rust():
-    task, ours = "", []
-    for columns, cells in tables("rust"):
-        if cells[0]:
-            task, ours = cells[0], cells[2:]
-            continue
-        for column, own, by in zip(columns[2:], ours, cells[2:]):
-            (text, _, short), (number, unit) = column.partition("."), own.split(" ")
-            size = "32 bytes" if short else "64 KiB"
-            yield task, "le", text, size, unit, "", number, cells[1], "", by
-
-
 def measured():
     """The rows of all scripts that were run, by their keys."""
     found = {}
-    for it in (run, real, fixed, walks, worst, python, rust):
+    for it in (run, real, walks, worst, python):
         name = "lines.tsv" if it is run else f"{it.__name__}.md"
         for row in it() if os.path.exists(f"out/{name}") else ():
             row = {"script": it.__name__, **dict(zip(COLUMNS[4:], row))}
@@ -172,7 +149,7 @@ def chart(rows):
         drawn.append(f"<text x='{x + 13}' y='19' font-size='10'>{name}</text>")
         x += 30 + 6 * len(name)
     for at, (call, title) in enumerate(PANELS.items()):
-        x, y = 240 * at + 10, 56
+        x, y = 320 * at + 10, 56
         drawn.append(f"<text x='{x}' y='50' class='h'>{title}</text>")
         for text, words in TEXTS.items():
             known = [it for it in BARS if (call, text, it) in speeds]
@@ -181,7 +158,7 @@ def chart(rows):
                 continue
             drawn.append(f"<text x='{x}' y='{y + 12}' class='t'>{words}</text>")
             for speed, colour in bars:
-                y, width = y + 10, 180 * speed / max(bars)[0]
+                y, width = y + 10, 260 * speed / max(bars)[0]
                 size = f"width='{width:.1f}' height='9'"
                 drawn.append(f"<rect x='{x}' y='{y + 6}' {size} fill='{colour}'/>")
                 drawn.append(f"<text x='{x + 3 + width:.1f}' y='{y + 14}'>{speed:.2f}</text>")

@@ -2,6 +2,9 @@
 //! of the folder, in UTF-8. It prints a line for each call, text, form, byte order and decoder,
 //! with the throughput in GB/s of UTF-16. The forms are the lines of a text, one call each, and
 //! pieces of 4 KiB and of 64 KiB of UTF-16. It first compares all results.
+#[macro_use]
+#[allow(dead_code)]
+mod library;
 #[allow(dead_code)]
 mod simdutf;
 
@@ -19,55 +22,10 @@ const FORMS: [(&str, usize); 3] = [("lines", 0), ("4 KiB", 4096), ("64 KiB", 655
 // Converts or tests an input, and returns a number that must be the same for all decoders.
 type Call = fn(bool, &[u8], &mut [u8]) -> usize;
 
-#[repr(C)]
-struct Progress {
-    read: usize,
-    written: usize,
-    status: u32,
-    error_len: u32,
-}
-
-#[repr(C)]
-struct Validity {
-    valid_up_to: usize,
-    status: u32,
-    error_len: u32,
-}
-
-// The calls of `dethrux.h`, in the library of a build, whose names begin with its word.
-macro_rules! library {
-    ($name:ident, $validate:literal, $to_utf8:literal, $from_utf8:literal) => {
-        mod $name {
-            use super::{Progress, Validity};
-
-            unsafe extern "C" {
-                #[link_name = $validate]
-                fn validate(order: u32, utf16: *const u8, len: usize) -> Validity;
-                #[link_name = $to_utf8]
-                fn to_utf8(order: u32, utf16: *const u8, len: usize, to: *mut u8, capacity: usize) -> Progress;
-                #[link_name = $from_utf8]
-                fn from_utf8(order: u32, utf8: *const u8, len: usize, to: *mut u8, capacity: usize) -> Progress;
-            }
-
-            pub fn valid_up_to(big: bool, raw: &[u8], _: &mut [u8]) -> usize {
-                unsafe { validate(big.into(), raw.as_ptr(), raw.len()) }.valid_up_to
-            }
-
-            pub fn decoded(big: bool, raw: &[u8], to: &mut [u8]) -> usize {
-                unsafe { to_utf8(big.into(), raw.as_ptr(), raw.len(), to.as_mut_ptr(), to.len()) }.written
-            }
-
-            pub fn encoded(big: bool, text: &[u8], to: &mut [u8]) -> usize {
-                unsafe { from_utf8(big.into(), text.as_ptr(), text.len(), to.as_mut_ptr(), to.len()) }.written
-            }
-        }
-    };
-}
-
-library!(v2, "v2_validate", "v2_to_utf8", "v2_from_utf8");
-library!(v3, "v3_validate", "v3_to_utf8", "v3_from_utf8");
+library!(v2, "v2_");
+library!(v3, "v3_");
 #[cfg(before)]
-library!(before, "before_validate", "before_to_utf8", "before_from_utf8");
+library!(before, "before_");
 
 fn units(raw: &[u8]) -> &[u16] {
     let (start, units, end) = unsafe { raw.align_to() };
@@ -76,30 +34,30 @@ fn units(raw: &[u8]) -> &[u16] {
 }
 
 const VALIDATE: &[(&str, Call)] = &[
-    ("v2", v2::valid_up_to),
-    ("v3", v3::valid_up_to),
+    ("v2", |big, raw, _| v2::valid_up_to(big, raw)),
+    ("v3", |big, raw, _| v3::valid_up_to(big, raw)),
     #[cfg(before)]
-    ("before", before::valid_up_to),
+    ("before", |big, raw, _| before::valid_up_to(big, raw)),
     ("simdutf westmere", |big, raw, _| 2 * simdutf::westmere::valid_up_to(big, units(raw))),
     ("simdutf haswell", |big, raw, _| 2 * simdutf::haswell::valid_up_to(big, units(raw))),
     ("simdutf icelake", |big, raw, _| 2 * simdutf::icelake::valid_up_to(big, units(raw))),
 ];
 
 const TO_UTF8: &[(&str, Call)] = &[
-    ("v2", v2::decoded),
-    ("v3", v3::decoded),
+    ("v2", v2::to_utf8),
+    ("v3", v3::to_utf8),
     #[cfg(before)]
-    ("before", before::decoded),
+    ("before", before::to_utf8),
     ("simdutf westmere", |big, raw, to| simdutf::westmere::to_utf8(big, units(raw), to)),
     ("simdutf haswell", |big, raw, to| simdutf::haswell::to_utf8(big, units(raw), to)),
     ("simdutf icelake", |big, raw, to| simdutf::icelake::to_utf8(big, units(raw), to)),
 ];
 
 const FROM_UTF8: &[(&str, Call)] = &[
-    ("v2", v2::encoded),
-    ("v3", v3::encoded),
+    ("v2", v2::from_utf8),
+    ("v3", v3::from_utf8),
     #[cfg(before)]
-    ("before", before::encoded),
+    ("before", before::from_utf8),
     ("simdutf westmere", |big, text, to| 2 * simdutf::westmere::from_utf8(big, text, to)),
     ("simdutf haswell", |big, text, to| 2 * simdutf::haswell::from_utf8(big, text, to)),
     ("simdutf icelake", |big, text, to| 2 * simdutf::icelake::from_utf8(big, text, to)),

@@ -17,7 +17,6 @@ simdutf=$(cd "$SIMDUTF" && pwd)
 before=${BEFORE:+$(cd "$BEFORE" && pwd)}
 cd "$(dirname "$0")"
 kit=$(dirname "$(rt doc)")
-registry=/usr/share/cargo/registry
 room=$(mktemp -d)
 trap 'rm -rf "$room"' EXIT
 mkdir -p out
@@ -51,10 +50,6 @@ rust() {
 }
 cxx -c "$simdutf/simdutf.cpp" -o "$room/simdutf.o" &
 cxx -c simdutf_calls.cc -o "$room/simdutf_calls.o" &
-rust --edition 2018 --crate-type rlib --cap-lints allow --crate-name cfg_if $registry/cfg-if-*/src/lib.rs
-rust --edition 2018 --crate-type rlib --cap-lints allow --crate-name encoding_rs $registry/encoding_rs-*/src/lib.rs \
-    --cfg 'feature="alloc"' --extern cfg_if="$room/libcfg_if.rlib"
-rust --edition 2024 cat.rs --extern encoding_rs="$room/libencoding_rs.rlib"
 rust --edition 2024 real_programs.rs
 wait
 cxx -static simdutf_cat.cc "$room/simdutf.o" -o "$room/simdutf_cat"

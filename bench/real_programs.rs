@@ -1,9 +1,9 @@
 //! Times `utf16_cat`, `utf16_enc` and programs that use simdutf on real texts: `real_programs
 //! FOLDER ROOM BIN CAT ENC [CAT ENC]`. It reads each file `NAME.txt` of a folder, in UTF-8, and
-//! repeats it to 32 MiB in ROOM. Then it times each program from that file to the null device. BIN
-//! has the programs `cat` and `simdutf_cat`; a second pair belongs to another build. It prints a
-//! line for each program, text, byte order and decoder, with the throughput in GB/s of input. It
-//! first compares what the programs write.
+//! repeats it to 32 MiB in ROOM. Then it times each program from that file to the null device, and
+//! `dd`, which only copies. BIN has the program `simdutf_cat`; a second pair belongs to another
+//! build. It prints a line for each program, text, byte order and decoder, with the throughput in
+//! GB/s of input. It first compares what the programs write.
 use std::fs::File;
 use std::process::{Command, Stdio};
 use std::time::Instant;
@@ -64,7 +64,7 @@ fn main() {
                     run(words, from, File::create(&made).unwrap().into());
                     assert!(std::fs::read(&made).unwrap() == std::fs::read(to).unwrap(), "{program} {name} {order}: {decoder} differs");
                 }
-                cases.push(("copy", format!("{bin}/cat copy")));
+                cases.push(("copy", "dd bs=4096 status=none".to_string()));
                 let mut best = vec![f64::MAX; cases.len()];
                 for _ in 0..ROUNDS {
                     for ((_, words), best) in cases.iter().zip(&mut best) {

@@ -1,9 +1,9 @@
 #!/bin/sh
-# Builds the library and its competitors, makes the texts, runs all benchmarks, writes what they
-# measured to bench/out/lines.tsv, and prints the rows in which a competitor is faster. The library
-# is built from dist/; `here v3` is its code for processors with AVX2. If SIMDUTF names a folder with simdutf.cpp and simdutf.h,
-# simdutf's kernels are also timed: westmere, haswell if the processor has AVX2, and icelake if it has
-# AVX-512.
+# Builds the library and its competitors, times the calls, writes what they measured to
+# bench/out/lines.tsv, and prints the rows in which a competitor is faster. The library is built from
+# dist/; `here v3` is its code for processors with AVX2. If SIMDUTF names a folder with simdutf.cpp
+# and simdutf.h, simdutf's kernels are also timed: westmere, haswell if the processor has AVX2, and
+# icelake if it has AVX-512.
 set -eu
 [ -z "${SIMDUTF:-}" ] || SIMDUTF=$(cd "$SIMDUTF" && pwd)
 cd "$(dirname "$0")"
@@ -11,12 +11,8 @@ missing=0
 need() { # COMMAND WHAT: if the command fails, says what is missing
     eval "$1" > /dev/null 2>&1 || { echo "bench: missing: $2" >&2; missing=1; }
 }
-need 'command -v rt' 'rt, the toolchain'
 need 'rustc --edition 2024 --print sysroot' 'rustc 1.85 or later'
 need 'command -v gcc' 'gcc (Debian: gcc)'
-need 'command -v iconv' 'iconv (Debian: libc-bin)'
-need 'command -v uconv' 'uconv (Debian: icu-devtools)'
-need 'command -v cmp' 'cmp (Debian: diffutils)'
 need 'echo "#include <unicode/ustring.h>" | gcc -E -' "ICU's headers (Debian: libicu-dev)"
 registry=/usr/share/cargo/registry
 need "ls $registry/encoding_rs-*/src/lib.rs" 'the Rust crate encoding_rs (Debian: librust-encoding-rs-dev)'
@@ -30,9 +26,6 @@ fi
 mkdir -p out
 make -s -C ../dist > out/make.log 2>&1 || { cat out/make.log >&2; exit 1; }
 dist=$(make -s -C ../dist folder)
-for program in utf16_cat utf16_enc; do
-    (cd ../crates/$program && rt run -- le < /dev/null > ../../bench/out/rt.log 2>&1) || { cat out/rt.log >&2; exit 1; }
-done
 
 # The processor that rt builds for. Branches are padded so that none crosses a 32-byte boundary: on
 # some processors a crossing halves the speed of a loop.
@@ -50,7 +43,6 @@ if [ -n "${SIMDUTF:-}" ]; then
     cxx() { g++ -O3 -march=$level -Wa,-mbranches-within-32B-boundaries -I "$SIMDUTF" "$@"; }
     cxx -c "$SIMDUTF/simdutf.cpp" -o out/simdutf.o
     cxx -c simdutf_calls.cc -o out/simdutf_calls.o
-    cxx -static simdutf_cat.cc out/simdutf.o -o out/simdutf_cat
     simdutf="out/simdutf_calls.o out/simdutf.o -lstdc++"
 fi
 # The calls of the library for AVX2 get other names. Its other symbols become local.
@@ -59,22 +51,8 @@ for call in validate count_chars is_ascii to_utf8 from_utf8; do
     set -- "$@" --redefine-sym "dethrux_$call=v3_$call" --keep-global-symbol "v3_$call"
 done
 objcopy "$@" "$dist/linux-x86-64-v3.o" out/v3.o
-rust --edition 2024 texts.rs
-rust --edition 2024 programs.rs
-rust --edition 2024 cat.rs --extern encoding_rs=out/libencoding_rs.rlib
 rust --edition 2024 calls.rs ${simdutf:+--cfg simdutf} --extern encoding_rs=out/libencoding_rs.rlib -l icuuc \
     -C link-args="out/icu.o $simdutf out/v3.o $dist/libdethrux.a"
 
-for encoding in le be utf8; do
-    for class in ascii latin_cyrillic cjk emoji random ascii_100 ascii_1000 ascii_5000 cjk_1000; do
-        size=67108864
-        case $class in random | *00) size=16777216 ;; esac
-        out/texts $class $encoding $size > out/$class.$encoding
-        out/texts $class $encoding 65536 > out/$class.$encoding.small
-    done
-done
-out/calls out > out/lines.tsv
-out/programs out ../crates/utf16_cat/out/utf16_cat ../crates/utf16_enc/out/utf16_enc 1024 >> out/lines.tsv
-rm out/*.made
+out/calls > out/lines.tsv
 ./publish.py --behind
-! grep "^differs" out/lines.tsv >&2

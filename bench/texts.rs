@@ -1,13 +1,8 @@
-//! Writes a text of a class, or random bytes, to standard output: `texts CLASS ENCODING BYTES`. The
-//! encoding is UTF-16 (`le`, `be`) or UTF-8 (`utf8`). With a number after the class, as in
-//! `ascii_1000`, one code unit in about that many bytes of UTF-16 is ill formed. The same arguments
-//! always give the same bytes.
-use std::io::Write;
+//! The texts of `calls.rs`, which are the same in each run.
 
 struct Random {
     state: u64,
     cyrillic: bool,
-    every: u32,
 }
 
 impl Random {
@@ -20,9 +15,6 @@ impl Random {
     }
 
     fn next(&mut self, class: &str) -> u32 {
-        if self.every > 0 && self.among(1, self.every / 2) == 1 {
-            return 0xDC00;
-        }
         match (class, self.among(0, 7)) {
             ("ascii", _) => self.among(0x20, 0x7E),
             ("latin_cyrillic", 0) => {
@@ -40,39 +32,17 @@ impl Random {
     }
 }
 
-// Returns the next bytes: a character, or a letter if the character does not fit, or two random
-// bytes.
-fn encoded(next: u32, class: &str, encoding: &str, left: usize) -> Vec<u8> {
-    let c = char::from_u32(next);
-    if encoding == "utf8" {
-        return match c.filter(|_| class != "random") {
-            Some(c) => (if c.len_utf8() <= left { c } else { 'a' }).to_string().into_bytes(),
-            None => (next as u16).to_le_bytes()[..left.min(2)].to_vec(),
+/// Returns a text of a class, or random bytes, as UTF-16 of this length in bytes. If the last
+/// character does not fit, it is a letter.
+pub fn utf16(class: &str, big: bool, len: usize) -> Vec<u8> {
+    let (mut random, mut bytes) = (Random { state: 1, cyrillic: false }, Vec::new());
+    while bytes.len() < len {
+        let (next, mut pair) = (random.next(class), [0; 2]);
+        let units = match char::from_u32(next) {
+            Some(c) => (if bytes.len() + 2 * c.len_utf16() <= len { c } else { 'a' }).encode_utf16(&mut pair),
+            None => &mut [next as u16][..],
         };
+        bytes.extend(units.iter().flat_map(|unit| if big { unit.to_be_bytes() } else { unit.to_le_bytes() }));
     }
-    let mut pair = [0; 2];
-    let units = match c {
-        Some(c) => (if 2 * c.len_utf16() <= left { c } else { 'a' }).encode_utf16(&mut pair),
-        None => &mut [next as u16][..],
-    };
-    units.iter().flat_map(|unit| if encoding == "be" { unit.to_be_bytes() } else { unit.to_le_bytes() }).collect()
-}
-
-fn main() {
-    let words: Vec<String> = std::env::args().collect();
-    let (class, encoding, mut left) = (words[1].as_str(), words[2].as_str(), words[3].parse::<usize>().unwrap());
-    let (class, every) = match class.rsplit_once('_').map(|(class, every)| (class, every.parse())) {
-        Some((class, Ok(every))) => (class, every),
-        _ => (class, 0),
-    };
-    let (mut random, mut out) = (Random { state: 1, cyrillic: false, every }, std::io::stdout().lock());
-    while left > 0 {
-        let mut bytes = Vec::new();
-        while bytes.len() < 65536 && left > 0 {
-            let next = encoded(random.next(class), class, encoding, left);
-            left -= next.len();
-            bytes.extend(next);
-        }
-        out.write_all(&bytes).unwrap();
-    }
+    bytes
 }

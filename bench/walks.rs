@@ -22,7 +22,7 @@ const CALLS: [&str; 14] = [
     "retain",
 ];
 const KINDS: [&str; 4] = ["ascii", "latin_cyrillic", "cjk", "emoji"];
-const SIZES: [(usize, u32); 5] = [(16, 40_000), (64, 20_000), (1024, 3000), (16_384, 200), (1_048_576, 4)];
+const SIZES: [(usize, u32); 6] = [(4, 80_000), (16, 40_000), (64, 20_000), (1024, 3000), (16_384, 200), (1_048_576, 4)];
 
 fn next(state: &mut u64) -> u32 {
     *state = state.wrapping_mul(6364136223846793005).wrapping_add(1442695040888963407);
