@@ -35,6 +35,7 @@ impl Validity {
 
 macro_rules! library {
     ($name:ident, $prefix:literal) => {
+        #[allow(dead_code)]
         mod $name {
             mod calls {
                 use crate::library::{Progress, Validity};

@@ -3,7 +3,6 @@
 //! with the throughput in GB/s of UTF-16. The forms are the lines of a text, one call each, and
 //! pieces of 4 KiB and of 64 KiB of UTF-16. It first compares all results.
 #[macro_use]
-#[allow(dead_code)]
 mod library;
 #[allow(dead_code)]
 mod simdutf;

@@ -26,6 +26,7 @@ import shards
 
 HERE = Path(__file__).parent
 MIB = 1 << 20
+WORKERS = 4
 passed = 0
 failed = 0
 
@@ -107,16 +108,16 @@ def peak(pid: Optional[int] = None) -> int:
 
 
 class Trial:
-    """A cluster, and the arguments of the trial."""
+    """A cluster, and the size of a part."""
 
-    def __init__(self, args: argparse.Namespace, client: distributed.Client) -> None:
-        self.args = args
+    def __init__(self, part_size: str, client: distributed.Client) -> None:
+        self.part_size = part_size
         self.client = client
         self.scheduler = str(client.scheduler_info()["address"])
 
     def decode(self, source: str, folder: str, order: str, *words: str) -> list[str]:
         """Return the command that decodes a file on the cluster."""
-        size = () if "--part-size" in words else ("--part-size", str(self.args.part_size))
+        size = () if "--part-size" in words else ("--part-size", self.part_size)
         on = ("--scheduler", self.scheduler, "--from", f"utf-16-{order}")
         return command(source, folder, *on, *size, *words)
 
@@ -219,7 +220,7 @@ def killed_worker(trial: Trial) -> None:
             break
     check("a worker is killed in a part", bool(part))
     check("the parts after that", run.returncode == 0 and joined_is("parts", "text.utf8"), said)
-    trial.client.wait_for_workers(trial.args.workers, timeout=60)
+    trial.client.wait_for_workers(WORKERS, timeout=60)
 
 
 def lost_scheduler(trial: Trial) -> None:
@@ -270,7 +271,7 @@ def taken_up(trial: Trial) -> None:
     run = subprocess.run(trial.decode("text", "parts", "le"), capture_output=True)
     kept = all(other.stat().st_mtime_ns == then for other, then in before)
     check("one part is missing", run.returncode == 0 and joined_is("parts", "text.utf8") and kept)
-    job = shards.job_of("text", "little", dask.utils.parse_bytes(trial.args.part_size))
+    job = shards.job_of("text", "little", dask.utils.parse_bytes(trial.part_size))
     dethrux_parts.decode_part(job, "parts", 1)
     check("a part is done twice", joined_is("parts", "text.utf8"))
     run = subprocess.run(trial.decode("random", "parts", "le"), capture_output=True)
@@ -363,56 +364,12 @@ def without_engine(trial: Trial) -> None:
         check(f"the page has {script}", f"\n{(HERE / script).read_text()}```" in page)
 
 
-def one_process(source: str, part_size: str) -> None:
-    """Decode all parts in this process, one after another, without Dask."""
-    job = shards.job_of(source, "little", dask.utils.parse_bytes(part_size))
-    os.mkdir("parts")
-    for index in range(job.count):
-        dethrux_parts.decode_part(job, "parts", index)
-
-
-def seconds(call: Callable[[], object]) -> float:
-    """Return the seconds that a call takes, and remove its parts."""
-    start = time.monotonic()
-    call()
-    spent = time.monotonic() - start
-    shutil.rmtree("parts", ignore_errors=True)
-    return spent
-
-
-def speed(trial: Trial) -> None:
-    """Time the cluster, one process and utf16_cat in turn, and print the best of three."""
-    size = os.path.getsize("text")
-
-    def on_cluster(source: str) -> None:
-        run = trial.decode(source, "parts", "le")
-        subprocess.run(run, check=True, capture_output=True)
-
-    calls: dict[str, Callable[[], object]] = {
-        "the cluster": lambda: on_cluster("text"),
-        "the cluster, an empty file": lambda: on_cluster("empty"),
-        "one process, without Dask": lambda: one_process("text", trial.args.part_size),
-        "utf16_cat": lambda: utf16_cat("le", "text", "again.utf8"),
-        "xargs": lambda: subprocess.run(
-            [str(HERE / "xargs.sh"), "text", "parts", "le", "32"], check=True
-        ),
-    }
-    rounds = [{name: seconds(call) for name, call in calls.items()} for _ in range(3)]
-    best = {name: min(times[name] for times in rounds) for name in calls}
-    for name, spent in best.items():
-        times = spent / best["the cluster"]
-        print(f"{name}: {spent:.2f} s, {times:.2f} times the cluster's time")
-    print(f"the cluster: {size / best['the cluster'] / 1e9:.2f} GB/s")
-
-
 def main() -> int:
     """Run all tests, and return the status."""
     parser = argparse.ArgumentParser(description=__doc__)
     parser.add_argument("--text-size", default="2GiB")
     parser.add_argument("--random-size", default="256MiB")
     parser.add_argument("--part-size", default="64MiB")
-    parser.add_argument("--workers", type=int, default=4)
-    parser.add_argument("--no-speed", action="store_true")
     args = parser.parse_args()
 
     fill("text", mixed_text(), dask.utils.parse_bytes(args.text_size) // 2 * 2)
@@ -429,13 +386,13 @@ def main() -> int:
 
     short_inputs()
     with distributed.Client(
-        n_workers=args.workers,
+        n_workers=WORKERS,
         threads_per_worker=1,
         dashboard_address=None,
         local_directory="dask",
         silence_logs=logging.ERROR,
     ) as client:
-        trial = Trial(args, client)
+        trial = Trial(args.part_size, client)
         before = max(client.run(peak).values())
         whole_files(trial)
         after = max(client.run(peak).values())
@@ -446,8 +403,6 @@ def main() -> int:
         lost_scheduler(trial)
         errors(trial)
         without_engine(trial)
-        if not args.no_speed:
-            speed(trial)
     print(f"{passed} passed, {failed} failed")
     return 1 if failed else 0
 

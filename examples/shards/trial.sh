@@ -1,9 +1,8 @@
 #!/usr/bin/env bash
 # Tests shards.py on a cluster of four local processes. Compares the joined parts with what
-# utf16_cat writes, also after a worker was killed, and tests errors, memory and speed. --small does
-# this on a few MiB, without the speed; trial.py takes the other arguments. It is a failure if Dask is
-# not installed. PYTHON names another Python, and ROOM a folder for the files. The last line is
-# 'N passed, M failed'.
+# utf16_cat writes, also after a worker was killed, and tests errors and memory. --small does this on
+# a few MiB; trial.py takes the other arguments. It is a failure if Dask is not installed. PYTHON
+# names another Python, and ROOM a folder for the files. The last line is 'N passed, M failed'.
 set -uo pipefail
 here=$(cd "$(dirname "${BASH_SOURCE[0]}")" && pwd)
 top=$(cd "$here/../.." && pwd)
@@ -25,7 +24,7 @@ fi
 
 if [ "${1:-}" = --small ]; then
     shift
-    set -- --text-size 12MiB --random-size 3MiB --part-size 256KiB --no-speed "$@"
+    set -- --text-size 12MiB --random-size 3MiB --part-size 256KiB "$@"
 fi
 room=$(mktemp -d -p "${ROOM:-${TMPDIR:-/tmp}}")
 trap 'rm -rf "$room"' EXIT
