@@ -1,7 +1,8 @@
 //! Links the library in the folder `DETHRUX_LIB_DIR`, else the one that pkg-config knows, else the
 //! one that `rt` built in the clone. If there is none, and always with the feature `bundled`, it
-//! compiles the assembly in `dist`. If that is not possible, or the library has another version, the
-//! build ends with one line that says what to do. On docs.rs nothing is linked, so it does nothing.
+//! compiles the assembly in `dist`. If that is not possible, or the library has another version,
+//! the build ends with one line that says what to do. On docs.rs nothing is linked, so it does
+//! nothing.
 
 use std::path::{Path, PathBuf};
 use std::process::{exit, Command};

@@ -2,7 +2,7 @@
 
 use dethrux::io::{Reader, Writer};
 use dethrux::ByteOrder::{self, BigEndian, LittleEndian};
-use dethrux::{decode_lossy, encode_lossy, Decoder, Encoder};
+use dethrux::{decode_lossy, encode, encode_lossy, Decoder, Encoder};
 use std::io::{Error, ErrorKind, Read, Result, Write};
 
 /// A text with characters of each length, longer than a buffer of an adapter.
@@ -10,21 +10,37 @@ fn text() -> String {
     "aß★\u{1F600}".repeat(3000)
 }
 
-/// A reader that gives a few bytes at a time, and an error before each of them.
-struct Slow<'a> {
-    bytes: &'a [u8],
-    len: usize,
-    fails: bool,
+/// A reader that has a result for each call, and ends after the last.
+#[derive(Debug)]
+struct Steps<'a> {
+    results: Vec<Result<&'a [u8]>>,
+    calls: usize,
 }
 
-impl Read for Slow<'_> {
+impl<'a> Steps<'a> {
+    /// Returns a reader whose last result comes first.
+    fn new(results: impl IntoIterator<Item = Result<&'a [u8]>>) -> Self {
+        let mut results: Vec<_> = results.into_iter().collect();
+        results.reverse();
+        Steps { results, calls: 0 }
+    }
+
+    /// Returns a reader that gives a few bytes at a time, and an error before each of them.
+    fn slow(bytes: &'a [u8], len: usize) -> Self {
+        let step = |chunk| [Err(Error::from(ErrorKind::WouldBlock)), Ok(chunk)];
+        Steps::new(bytes.chunks(len).flat_map(step))
+    }
+}
+
+impl Read for Steps<'_> {
     fn read(&mut self, to: &mut [u8]) -> Result<usize> {
-        self.fails = !self.fails;
-        if self.fails {
-            return Err(Error::from(ErrorKind::WouldBlock));
+        self.calls += 1;
+        let mut bytes = self.results.pop().unwrap_or(Ok(b""))?;
+        let read = bytes.read(to)?;
+        if !bytes.is_empty() {
+            self.results.push(Ok(bytes));
         }
-        let len = self.len.min(to.len());
-        (&mut self.bytes).take(len as u64).read(to)
+        Ok(read)
     }
 }
 
@@ -43,76 +59,39 @@ fn read_all(mut reader: impl Read, len: usize) -> (Vec<u8>, usize) {
 }
 
 #[test]
-fn a_reader_decodes_to_buffers_of_any_length() {
-    let mut utf16 = encode_lossy(BigEndian, text().as_bytes());
-    utf16.extend(b"\xD8\x00\x00");
+fn a_reader_fills_buffers_of_any_length() {
+    let utf16 = [&encode(BigEndian, &text())[..], b"\xD8\x00\x00"].concat();
+    let utf8 = [text().as_bytes(), b"\xE2\x98"].concat();
     let expected = text() + "\u{FFFD}";
     for len in [1, 2, 3, 4, 5, 100, 100_000] {
         let (found, _) = read_all(Reader::new(&utf16[..], Decoder::new(BigEndian)), len);
         assert!(found == expected.as_bytes(), "a buffer of {len} bytes");
-    }
-}
-
-#[test]
-fn a_reader_encodes_to_buffers_of_any_length() {
-    let utf8 = [text().as_bytes(), b"\xE2\x98"].concat();
-    let expected: Vec<u8> = (text() + "\u{FFFD}")
-        .encode_utf16()
-        .flat_map(u16::to_le_bytes)
-        .collect();
-    for len in [1, 2, 3, 4, 5, 100, 100_000] {
         let (found, _) = read_all(Reader::new(&utf8[..], Encoder::new(LittleEndian)), len);
-        assert!(found == expected, "a buffer of {len} bytes");
+        let units = expected.encode_utf16();
+        assert!(
+            found.into_iter().eq(units.flat_map(u16::to_le_bytes)),
+            "a buffer of {len} bytes"
+        );
     }
 }
 
 #[test]
-fn a_reader_goes_on_after_an_error() {
-    let utf16 = encode_lossy(LittleEndian, "a★\u{1F600}".as_bytes());
-    for len in 1..5 {
-        let slow = Slow {
-            bytes: &utf16,
-            len,
-            fails: false,
-        };
-        let (found, errors) = read_all(Reader::new(slow, Decoder::new(LittleEndian)), 1);
-        assert_eq!(found, "a★\u{1F600}".as_bytes());
-        assert!(errors > utf16.len() / len);
-    }
-}
-
-#[test]
-fn a_reader_replaces_what_is_ill_formed_wherever_it_is_cut() {
+fn a_reader_goes_on_after_errors_and_replaces_what_is_ill_formed_wherever_it_is_cut() {
     let utf16 = b"\0\xD8\0\xD8a\0\0\xDC\0\xD8\0\xDCb\0\0\xD8\0\0\0\xDC\0";
     let utf8 = b"\xE4\xB8\xE4\xB8\x80\xF0\x9F\x98\xF0\x9F\x98\x80a\xC0\x80\xED\xA0\x80\xF0";
-    let decoded = decode_lossy(LittleEndian, utf16);
-    let encoded = encode_lossy(BigEndian, utf8);
-    for len in 1..6 {
-        for buffer_len in 1..9 {
-            let slow = Slow {
-                bytes: utf16,
-                len,
-                fails: false,
-            };
-            let reader = Reader::new(slow, Decoder::new(LittleEndian));
-            assert_eq!(read_all(reader, buffer_len).0, decoded.as_bytes());
-            let slow = Slow {
-                bytes: utf8,
-                len,
-                fails: false,
-            };
-            let reader = Reader::new(slow, Encoder::new(BigEndian));
-            assert_eq!(read_all(reader, buffer_len).0, encoded);
-        }
+    let decoded = "\u{FFFD}\u{FFFD}a\u{FFFD}\u{10000}b\u{FFFD}\0\u{FFFD}\u{FFFD}";
+    let encoded = encode(BigEndian, &String::from_utf8_lossy(utf8));
+    for (len, buffer_len) in (1..6).flat_map(|len| (1..9).map(move |buffer| (len, buffer))) {
+        let errors = |bytes: &[u8]| bytes.chunks(len).count();
+        let reader = Reader::new(Steps::slow(utf16, len), Decoder::new(LittleEndian));
+        let wanted = (decoded.as_bytes().to_vec(), errors(utf16));
+        assert_eq!(read_all(reader, buffer_len), wanted);
+        let reader = Reader::new(Steps::slow(utf8, len), Encoder::new(BigEndian));
+        assert_eq!(
+            read_all(reader, buffer_len),
+            (encoded.clone(), errors(utf8))
+        );
     }
-    assert_eq!(
-        decoded,
-        "\u{FFFD}\u{FFFD}a\u{FFFD}\u{10000}b\u{FFFD}\0\u{FFFD}\u{FFFD}"
-    );
-    assert_eq!(
-        decode_lossy(BigEndian, &encoded),
-        String::from_utf8_lossy(utf8)
-    );
 }
 
 #[test]
@@ -129,37 +108,6 @@ fn a_reader_at_its_end_stays_there() {
             .unwrap(),
         0
     );
-    assert_eq!(
-        Reader::new(&b"a\0"[..], Decoder::new(LittleEndian))
-            .read(&mut [])
-            .unwrap(),
-        0
-    );
-}
-
-/// A writer that takes a few bytes at a time, and fails at each second call.
-#[derive(Default)]
-struct Narrow {
-    bytes: Vec<u8>,
-    fails: bool,
-    is_flushed: bool,
-}
-
-impl Write for Narrow {
-    fn write(&mut self, bytes: &[u8]) -> Result<usize> {
-        self.fails = !self.fails;
-        if self.fails {
-            return Err(Error::from(ErrorKind::WouldBlock));
-        }
-        let len = bytes.len().min(1000);
-        self.bytes.extend(&bytes[..len]);
-        Ok(len)
-    }
-
-    fn flush(&mut self) -> Result<()> {
-        self.is_flushed = true;
-        Ok(())
-    }
 }
 
 #[test]
@@ -195,7 +143,8 @@ fn a_writer_decodes_and_ends_with_what_is_incomplete() {
 fn a_writer_loses_nothing_by_errors() {
     let utf16 = encode_lossy(LittleEndian, text().as_bytes());
     let utf16 = [&utf16[..], b"\0"].concat();
-    let mut writer = Writer::new(Narrow::default(), Decoder::new(LittleEndian));
+    let results = (0..100).flat_map(|_| [Err(Error::from(ErrorKind::WouldBlock)), Ok(1000)]);
+    let mut writer = Writer::new(Scripted::new(results), Decoder::new(LittleEndian));
     let (mut rest, mut errors) = (&utf16[..], 0);
     while !rest.is_empty() {
         match writer.write(rest) {
@@ -212,7 +161,6 @@ fn a_writer_loses_nothing_by_errors() {
         assert!(errors < 1000, "no end");
     }
     assert!(errors > 10);
-    assert!(writer.get_ref().is_flushed);
     assert!(writer.into_inner().bytes == decode_lossy(LittleEndian, &utf16).into_bytes());
 }
 
@@ -346,19 +294,9 @@ fn each_number_of_pending_bytes_ends_both_adapters() {
 
 #[test]
 fn a_reader_returns_the_errors_of_the_inner_one() {
-    struct Fails(usize);
-    impl Read for Fails {
-        fn read(&mut self, to: &mut [u8]) -> Result<usize> {
-            self.0 += 1;
-            match self.0 {
-                1 | 3 => Err(fault(&self.0.to_string())),
-                2 => (&b"a\0\0"[..]).read(to),
-                _ => Ok(0),
-            }
-        }
-    }
     for len in [1, 3, 4, 100] {
-        let mut reader = Reader::new(Fails(0), Decoder::new(LittleEndian));
+        let steps = Steps::new([Err(fault("1")), Ok(&b"a\0\0"[..]), Err(fault("3"))]);
+        let mut reader = Reader::new(steps, Decoder::new(LittleEndian));
         let mut buffer = vec![0xAA; len];
         let error = reader.read(&mut buffer).unwrap_err();
         assert_eq!(
@@ -369,26 +307,8 @@ fn a_reader_returns_the_errors_of_the_inner_one() {
         assert_eq!(buffer[0], b'a');
         assert_eq!(reader.read(&mut buffer).unwrap_err().to_string(), "3");
         assert_eq!(read_all(&mut reader, len).0, "\u{FFFD}".as_bytes());
-        assert_eq!(reader.get_ref().0, 4);
-        assert_eq!(reader.into_inner().0, 4);
-    }
-}
-
-/// A reader that has a result for each call, and ends after the last.
-#[derive(Debug)]
-struct Steps<'a>(Vec<Result<&'a [u8]>>);
-
-impl Read for Steps<'_> {
-    fn read(&mut self, to: &mut [u8]) -> Result<usize> {
-        if self.0.is_empty() {
-            return Ok(0);
-        }
-        let mut bytes = self.0.remove(0)?;
-        let read = bytes.read(to)?;
-        if !bytes.is_empty() {
-            self.0.insert(0, Ok(bytes));
-        }
-        Ok(read)
+        assert_eq!(reader.get_ref().calls, 4);
+        assert_eq!(reader.into_inner().calls, 4);
     }
 }
 
@@ -422,8 +342,8 @@ fn a_mark_says_the_byte_order() {
             let stream = [mark, &utf16[..]].concat();
             let expected = decode_lossy(order, utf16).into_bytes();
             for len in 1..5 {
-                let steps = stream.chunks(len).map(Ok).collect();
-                let reader = Reader::with_bom(Steps(steps), default_order).unwrap();
+                let steps = Steps::new(stream.chunks(len).map(Ok));
+                let reader = Reader::with_bom(steps, default_order).unwrap();
                 assert_eq!(read_all(reader, 3).0, expected, "{stream:X?}");
             }
         }
@@ -438,8 +358,8 @@ fn a_stream_without_a_mark_is_in_the_default_order() {
         for utf16 in streams(order).iter().filter(|utf16| !has_mark(utf16)) {
             let expected = decode_lossy(order, utf16).into_bytes();
             for len in 1..5 {
-                let steps = utf16.chunks(len).map(Ok).collect();
-                let reader = Reader::with_bom(Steps(steps), order).unwrap();
+                let steps = Steps::new(utf16.chunks(len).map(Ok));
+                let reader = Reader::with_bom(steps, order).unwrap();
                 assert_eq!(read_all(reader, 3).0, expected, "{utf16:X?}");
             }
         }
@@ -477,13 +397,13 @@ fn a_mark_is_read_again_after_an_interruption() {
             Ok(&mark[1..]),
             Ok(&text[..]),
         ];
-        let reader = Reader::with_bom(Steps(steps), BigEndian).unwrap();
+        let reader = Reader::with_bom(Steps::new(steps), BigEndian).unwrap();
         assert_eq!(read_all(reader, 9), (b"a".to_vec(), 0));
     }
     for at in 0..2 {
         let mut steps: Vec<Result<&[u8]>> = vec![Ok(b"\xFF"), Ok(b"\xFE")];
         steps.insert(at, Err(fault("at the mark")));
-        let error = Reader::with_bom(Steps(steps), LittleEndian).unwrap_err();
+        let error = Reader::with_bom(Steps::new(steps), LittleEndian).unwrap_err();
         assert_eq!(
             (error.kind(), &*error.to_string()),
             (ErrorKind::PermissionDenied, "at the mark")

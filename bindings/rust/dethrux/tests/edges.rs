@@ -1,5 +1,6 @@
-//! Every call at its edges, in both byte orders, compared with std on the same input: each
-//! capacity from 0 to what suffices, offsets past the end, odd lengths, each end of a stream.
+//! Every call at its edges, in both byte orders, compared with std on the same input, also on
+//! random code units and bytes: each capacity from 0 to what suffices, offsets past the end, odd
+//! lengths, each end of a stream.
 
 use dethrux::ByteOrder::{BigEndian, LittleEndian};
 use dethrux::*;
@@ -41,6 +42,47 @@ const UTF8: &[&[u8]] = &[
     b"\xED\xA0\x80\xC0\x80",
 ];
 
+/// Random numbers from the steps of splitmix64.
+struct Random(u64);
+
+impl Random {
+    fn below(&mut self, end: u64) -> u64 {
+        self.0 = self.0.wrapping_add(0x9E37_79B9_7F4A_7C15);
+        let mixed = (self.0 ^ (self.0 >> 30)).wrapping_mul(0xBF58_476D_1CE4_E5B9);
+        let mixed = (mixed ^ (mixed >> 27)).wrapping_mul(0x94D0_49BB_1331_11EB);
+        (mixed ^ (mixed >> 31)) % end
+    }
+
+    fn list<T>(&mut self, item: fn(&mut Random) -> T) -> Vec<T> {
+        (0..self.below(24)).map(|_| item(self)).collect()
+    }
+}
+
+/// Code units, many of which are surrogates, paired and unpaired.
+fn random_units() -> Vec<Vec<u16>> {
+    let unit = |random: &mut Random| match random.below(6) {
+        0 => 0xD800 + random.below(0x400) as u16,
+        1 => 0xDC00 + random.below(0x400) as u16,
+        2 => random.below(0x10000) as u16,
+        _ => random.below(0x80) as u16,
+    };
+    (0..100).map(|seed| Random(seed).list(unit)).collect()
+}
+
+/// The samples of UTF-8, and random bytes, many of which begin or continue a character.
+fn utf8_samples() -> Vec<Vec<u8>> {
+    let byte = |random: &mut Random| match random.below(4) {
+        0 => 0x80 + random.below(0x40) as u8,
+        1 => 0xC0 + random.below(0x40) as u8,
+        _ => random.below(0x80) as u8,
+    };
+    let random = (0..100).map(|seed| Random(seed).list(byte));
+    UTF8.iter()
+        .map(|utf8| utf8.to_vec())
+        .chain(random)
+        .collect()
+}
+
 /// The bytes of code units.
 fn bytes(order: ByteOrder, units: &[u16]) -> Vec<u8> {
     let unit_bytes = |unit: &u16| match order {
@@ -59,19 +101,28 @@ fn code_units(order: ByteOrder, utf16: &[u8]) -> Vec<u16> {
     utf16.chunks_exact(2).map(unit).collect()
 }
 
-/// Well-formed and ill-formed bytes of even and of odd lengths.
-fn utf16_samples(order: ByteOrder) -> Vec<Vec<u8>> {
+/// The bytes of code units, of even and of odd lengths.
+fn with_ends(order: ByteOrder, units: &[u16]) -> [Vec<u8>; 3] {
     let ends: [&[u8]; 3] = [b"", b"\xD8", b"a"];
-    let sample = |units: &&[u16]| ends.map(|end| [&bytes(order, units)[..], end].concat());
+    ends.map(|end| [&bytes(order, units)[..], end].concat())
+}
+
+/// Well-formed and ill-formed bytes.
+fn utf16_samples(order: ByteOrder) -> Vec<Vec<u8>> {
+    let sample = |units: &&[u16]| with_ends(order, units);
     UNITS.iter().flat_map(sample).collect()
 }
 
-/// Calls a test with both byte orders and each sample of UTF-16.
+/// Calls a test with both byte orders, each sample of UTF-16, and random code units.
 fn for_utf16(test: impl Fn(ByteOrder, &[u8])) {
     for order in ORDERS {
+        let random = random_units()
+            .into_iter()
+            .flat_map(|units| with_ends(order, &units));
         utf16_samples(order)
-            .iter()
-            .for_each(|utf16| test(order, utf16));
+            .into_iter()
+            .chain(random)
+            .for_each(|utf16| test(order, &utf16));
     }
 }
 
@@ -245,7 +296,7 @@ fn conversions_fill_each_capacity() {
         }
     });
     for order in ORDERS {
-        for utf8 in UTF8 {
+        for utf8 in &utf8_samples() {
             for call in FROM_UTF8 {
                 fill_each_capacity(call, order, utf8, &utf8_items(utf8), Some(order));
             }
@@ -344,7 +395,7 @@ fn reading_calls_are_of_the_items() {
         };
         assert_eq!(text, format!("é{kept}"));
     });
-    for utf8 in UTF8 {
+    for utf8 in &utf8_samples() {
         let items = utf8_items(utf8);
         let (_, strict) = expected(&items, Some(BigEndian), Stops::IllFormed, usize::MAX);
         assert_eq!(from_utf8_len(utf8), strict.len());
@@ -355,7 +406,7 @@ fn reading_calls_are_of_the_items() {
 
 #[test]
 fn encoding_calls_are_of_the_items() {
-    for utf8 in UTF8 {
+    for utf8 in &utf8_samples() {
         let text = lossy(&utf8_items(utf8));
         let units: Vec<u16> = text.encode_utf16().collect();
         assert_eq!(encode_units(&text), units);
@@ -413,22 +464,24 @@ fn search(order: ByteOrder, utf16: &[u8], boundaries: &[usize], pattern: &[u8]) 
 
 #[test]
 fn occurrences_are_bytes_between_boundaries() {
-    for_utf16(|order, utf16| {
-        let others: Vec<_> = ORDERS.into_iter().flat_map(utf16_samples).collect();
-        // The odd byte is at the end, or each code unit after it is moved by one.
-        for end in [utf16.len() / 2 * 2, utf16.len()] {
-            let twice = [&utf16[..end], utf16].concat();
-            let boundaries = boundaries_of(order, &twice);
-            for start in 0..=twice.len() {
-                for end in start..=twice.len() {
-                    search(order, &twice, &boundaries, &twice[start..end]);
+    let others: Vec<_> = ORDERS.into_iter().flat_map(utf16_samples).collect();
+    for order in ORDERS {
+        for utf16 in utf16_samples(order) {
+            // The odd byte is at the end, or each code unit after it is moved by one.
+            for end in [utf16.len() / 2 * 2, utf16.len()] {
+                let twice = [&utf16[..end], &utf16].concat();
+                let boundaries = boundaries_of(order, &twice);
+                for start in 0..=twice.len() {
+                    for end in start..=twice.len() {
+                        search(order, &twice, &boundaries, &twice[start..end]);
+                    }
+                }
+                for other in &others {
+                    search(order, &twice, &boundaries, other);
                 }
             }
-            for other in &others {
-                search(order, &twice, &boundaries, other);
-            }
         }
-    });
+    }
 }
 
 #[test]
@@ -549,7 +602,6 @@ fn chunks_end_at_each_ill_formed_sequence() {
 
 /// A stream of either kind, for tests that are the same for both.
 trait Stream: Clone {
-    type End: AsRef<[u8]>;
     fn start(order: ByteOrder) -> Self;
     fn convert(&mut self, chunk: &[u8], to: &mut [u8]) -> Progress;
     fn append(&mut self, chunk: &[u8], to: &mut Vec<u8>);
@@ -563,8 +615,6 @@ trait Stream: Clone {
 }
 
 impl Stream for Decoder {
-    type End = String;
-
     fn start(order: ByteOrder) -> Self {
         Decoder::new(order)
     }
@@ -604,8 +654,6 @@ impl Stream for Decoder {
 }
 
 impl Stream for Encoder {
-    type End = [u8; 2];
-
     fn start(order: ByteOrder) -> Self {
         Encoder::new(order)
     }
@@ -627,7 +675,7 @@ impl Stream for Encoder {
     }
 
     fn samples(_: ByteOrder) -> Vec<Vec<u8>> {
-        UTF8.iter().map(|utf8| utf8.to_vec()).collect()
+        utf8_samples()
     }
 
     fn items(_: ByteOrder, chunk: &[u8]) -> Vec<Item> {
@@ -771,8 +819,11 @@ fn some_chunk_needs_the_capacity_of_a_feed() {
 }
 
 #[test]
-fn long_ill_formed_texts_are_shown_whole() {
+fn long_texts_are_shown_whole() {
     for order in ORDERS {
+        for text in ["aß★\u{1F600}".repeat(100), "★".repeat(1000)] {
+            assert_eq!(display(order, &encode(order, &text)).to_string(), text);
+        }
         for len in [84, 85, 86, 255, 256, 257, 600] {
             let units = [&vec![TRAILING; len][..], &[0x61, LEADING]].concat();
             let text = "\u{FFFD}".repeat(len) + "a\u{FFFD}";
@@ -822,16 +873,17 @@ fn units_are_bytes_in_the_byte_order_of_the_machine() {
 #[test]
 fn errors_of_units_count_units() {
     let fields = |error: UnitsError| (error.valid_up_to(), error.error_len());
-    for units in UNITS {
-        let items = utf16_items(ByteOrder::NATIVE, &bytes(ByteOrder::NATIVE, units));
+    let samples = UNITS.iter().map(|units| units.to_vec());
+    for units in samples.chain(random_units()) {
+        let items = utf16_items(ByteOrder::NATIVE, &bytes(ByteOrder::NATIVE, &units));
         let is_well_formed = |item: &&Item| item.character.is_some();
         let valid = items.iter().take_while(is_well_formed);
         let valid_up_to = valid.map(|item| item.len / 2).sum::<usize>();
         let stop = items.iter().find(|item| item.character.is_none());
         let error = stop.map(|item| (valid_up_to, (!item.is_incomplete).then_some(1)));
-        assert_eq!(validate_units(units).err().map(fields), error);
+        assert_eq!(validate_units(&units).err().map(fields), error);
         assert_eq!(
-            decode_units(units).map_err(fields),
+            decode_units(&units).map_err(fields),
             error.map_or(Ok(lossy(&items)), Err)
         );
     }

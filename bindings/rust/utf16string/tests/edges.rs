@@ -9,7 +9,7 @@ use std::ops::{Bound, Index, IndexMut, Range, RangeBounds};
 use std::panic::{catch_unwind, set_hook, AssertUnwindSafe};
 use utf16string::{SliceIndex, Utf16Error, WStr, WString, BE, LE};
 
-const TEXTS: [&str; 8] = [
+const TEXTS: [&str; 9] = [
     "",
     "a",
     "\u{10000}",
@@ -18,6 +18,7 @@ const TEXTS: [&str; 8] = [
     "a\u{10000}b",
     "\u{1F600}\u{10FFFF}",
     "\u{4E00}\u{10000}",
+    "\u{100}",
 ];
 
 /// The UTF-16 of a text, by std.
