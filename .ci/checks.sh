@@ -1,6 +1,5 @@
-# Sourced by .ci/arm.sh, .ci/dist.sh, .ci/install.sh, .ci/windows.sh and bindings/js/test.sh: how
-# they count checks and install tools, and what a library's symbols must be. They set `top`, the
-# folder of the tree, and `room`, a temporary folder.
+# Sourced by scripts that test something: how they count checks and install tools, and what a
+# library's symbols must be. They set `top`, the folder of the tree, and `room`, a temporary folder.
 passed=0
 failed=0
 
@@ -33,6 +32,22 @@ count() {
     [ -z "$tests" ] || passed=$((passed - 1 + tests))
 }
 
+# Adds the counts of a command, whose last line is 'N passed, M failed', and prints its other lines.
+counts() {
+    local name=$1 said
+    shift
+    said=$("$@" 2>&1)
+    if [[ ${said##*$'\n'} =~ ^([0-9]+)\ passed,\ ([0-9]+)\ failed$ ]]; then
+        passed=$((passed + BASH_REMATCH[1]))
+        failed=$((failed + BASH_REMATCH[2]))
+        [[ $said != *$'\n'* ]] || echo "${said%$'\n'*}"
+    else
+        failed=$((failed + 1))
+        echo "failed: $name:"
+        tail -n 20 <<< "$said"
+    fi
+}
+
 # Installs Debian packages.
 install_packages() {
     apt-get -o DPkg::Lock::Timeout=600 install -y -q --no-install-recommends "$@"
@@ -41,6 +56,14 @@ install_packages() {
 # Tests that there is a tool or a file.
 is_there() {
     command -v "$1" > /dev/null || [ -f "$1" ]
+}
+
+# Prints the first of these programs that is installed.
+first_of() {
+    local name
+    for name in "$@"; do
+        command -v "$name" && return
+    done
 }
 
 # Takes pairs of a tool or a file and its Debian package. Puts those that are missing into `missing`

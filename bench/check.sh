@@ -21,8 +21,8 @@ tar --exclude=out -cf - crates crates.txt | tar -C "$room" -xf -
 check 'bench/walks.rt.txt' starts walks
 check 'bench/short.rt.txt' starts short
 for source in walks texts library plain real_programs; do
-    check "bench/$source.rs" rustc --edition 2024 --crate-type lib --emit metadata --out-dir "$room" \
-        "bench/$source.rs"
+    check "bench/$source.rs" rustc --edition 2024 --crate-type lib --emit metadata \
+        --out-dir "$room" "bench/$source.rs"
 done
 check 'bench/worst.c' gcc -fsyntax-only -Wall -Wextra -Werror -Iinclude bench/worst.c
 check 'bench/icu.c' gcc -fsyntax-only -Wall -Werror bench/icu.c

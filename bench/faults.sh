@@ -4,8 +4,7 @@
 # interrupted, or moves one byte, and for each write that takes nothing. `faults.c` is preloaded for
 # this. A run must end with the whole output, or with status 1, the message of its error and a
 # prefix of the output. A short call must change nothing. Prints a line for each kind; the last line
-# is 'N passed, M failed'. With a number N as its argument, it also runs `rt try --fail-alloc` from
-# 1 to N, on the interpreter and with checks, which is slow.
+# is 'N passed, M failed'.
 set -uo pipefail
 top=$(cd "$(dirname "$0")/.." && pwd)
 program="$top/crates/utf16_cat/out/utf16_cat"
@@ -92,13 +91,5 @@ for kind in write write_interrupted write_nothing; do
     fi
 done
 
-for at in $(seq "${1:-0}"); do
-    (cd "$top/crates/utf16_cat" && rt try --fail-alloc "$at" -- le < "$room/le" > "$room/found" 2> "$room/said")
-    case $? in
-        0 | 1) passed=$((passed + 1)) ;;
-        *) failed=$((failed + 1)) ;;
-    esac
-    echo "rt try --fail-alloc $at: $(tail -n 1 said)"
-done
 echo "$passed passed, $failed failed"
 [ $failed = 0 ]

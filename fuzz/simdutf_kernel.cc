@@ -263,9 +263,28 @@ inline size_t or_zero(result found) {
 
 } // namespace ours
 
+// A conversion, which simdutf has three times: with reasons, without them, and of well-formed text.
+#define CONVERSION(From, from_form, To, to_form, ...) \
+    result convert_##from_form##_to_##to_form##_with_errors( \
+        const From *from, size_t len, To *to) const noexcept override { \
+        return __VA_ARGS__; \
+    } \
+    size_t convert_##from_form##_to_##to_form(const From *from, size_t len, To *to) const noexcept override { \
+        return ours::or_zero(__VA_ARGS__); \
+    } \
+    size_t convert_valid_##from_form##_to_##to_form( \
+        const From *from, size_t len, To *to) const noexcept override { \
+        return ours::or_zero(__VA_ARGS__); \
+    }
+
 class dethrux_kernel final : public implementation {
   public:
 #define EACH_ORDER(le, ORDER) \
+    CONVERSION(char16_t, utf16##le, char, latin1, ours::utf16(ORDER, from, len).to_latin1(to)) \
+    CONVERSION(char16_t, utf16##le, char, utf8, ours::utf16(ORDER, from, len).to_utf8(to)) \
+    CONVERSION(char16_t, utf16##le, char32_t, utf32, ours::utf16(ORDER, from, len).to_utf32(to)) \
+    CONVERSION(char, utf8, char16_t, utf16##le, ours::from_utf8(ORDER, from, len, to)) \
+    CONVERSION(char32_t, utf32, char16_t, utf16##le, ours::from_utf32(ORDER, from, len, to)) \
     bool validate_utf16##le##_as_ascii(const char16_t *from, size_t len) const noexcept override { \
         return ours::utf16(ORDER, from, len).is_ascii(); \
     } \
@@ -281,69 +300,19 @@ class dethrux_kernel final : public implementation {
     size_t convert_latin1_to_utf16##le(const char *from, size_t len, char16_t *to) const noexcept override { \
         return ours::from_latin1(ORDER, from, len, to); \
     } \
-    size_t convert_utf8_to_utf16##le(const char *from, size_t len, char16_t *to) const noexcept override { \
-        return ours::or_zero(ours::from_utf8(ORDER, from, len, to)); \
-    } \
-    result convert_utf8_to_utf16##le##_with_errors( \
-        const char *from, size_t len, char16_t *to) const noexcept override { \
-        return ours::from_utf8(ORDER, from, len, to); \
-    } \
-    size_t convert_valid_utf8_to_utf16##le(const char *from, size_t len, char16_t *to) const noexcept override { \
-        return ours::or_zero(ours::from_utf8(ORDER, from, len, to)); \
-    } \
     result utf8_length_from_utf16##le##_with_replacement( \
         const char16_t *from, size_t len) const noexcept override { \
         return ours::utf16(ORDER, from, len).utf8_lossy_len(); \
     } \
-    size_t convert_utf16##le##_to_latin1(const char16_t *from, size_t len, char *to) const noexcept override { \
-        return ours::or_zero(ours::utf16(ORDER, from, len).to_latin1(to)); \
-    } \
-    result convert_utf16##le##_to_latin1_with_errors( \
-        const char16_t *from, size_t len, char *to) const noexcept override { \
-        return ours::utf16(ORDER, from, len).to_latin1(to); \
-    } \
-    size_t convert_valid_utf16##le##_to_latin1(const char16_t *from, size_t len, char *to) const noexcept override { \
-        return ours::or_zero(ours::utf16(ORDER, from, len).to_latin1(to)); \
-    } \
-    size_t convert_utf16##le##_to_utf8(const char16_t *from, size_t len, char *to) const noexcept override { \
-        return ours::or_zero(ours::utf16(ORDER, from, len).to_utf8(to)); \
-    } \
-    result convert_utf16##le##_to_utf8_with_errors( \
-        const char16_t *from, size_t len, char *to) const noexcept override { \
-        return ours::utf16(ORDER, from, len).to_utf8(to); \
-    } \
     size_t convert_utf16##le##_to_utf8_with_replacement( \
         const char16_t *from, size_t len, char *to) const noexcept override { \
         return ours::utf16(ORDER, from, len).to_utf8_lossy(to); \
-    } \
-    size_t convert_valid_utf16##le##_to_utf8(const char16_t *from, size_t len, char *to) const noexcept override { \
-        return ours::or_zero(ours::utf16(ORDER, from, len).to_utf8(to)); \
-    } \
-    size_t convert_utf16##le##_to_utf32(const char16_t *from, size_t len, char32_t *to) const noexcept override { \
-        return ours::or_zero(ours::utf16(ORDER, from, len).to_utf32(to)); \
-    } \
-    result convert_utf16##le##_to_utf32_with_errors( \
-        const char16_t *from, size_t len, char32_t *to) const noexcept override { \
-        return ours::utf16(ORDER, from, len).to_utf32(to); \
-    } \
-    size_t convert_valid_utf16##le##_to_utf32(const char16_t *from, size_t len, char32_t *to) const noexcept override { \
-        return ours::or_zero(ours::utf16(ORDER, from, len).to_utf32(to)); \
     } \
     /* For ill-formed text, which simdutf's call does not allow, its own count. */ \
     size_t utf8_length_from_utf16##le(const char16_t *from, size_t len) const noexcept override { \
         ours::utf16 text(ORDER, from, len); \
         return text.is_well_formed() ? text.utf8_lossy_len().count \
                                      : implementation::utf8_length_from_utf16##le(from, len); \
-    } \
-    size_t convert_utf32_to_utf16##le(const char32_t *from, size_t len, char16_t *to) const noexcept override { \
-        return ours::or_zero(ours::from_utf32(ORDER, from, len, to)); \
-    } \
-    result convert_utf32_to_utf16##le##_with_errors( \
-        const char32_t *from, size_t len, char16_t *to) const noexcept override { \
-        return ours::from_utf32(ORDER, from, len, to); \
-    } \
-    size_t convert_valid_utf32_to_utf16##le(const char32_t *from, size_t len, char16_t *to) const noexcept override { \
-        return ours::or_zero(ours::from_utf32(ORDER, from, len, to)); \
     } \
     size_t utf32_length_from_utf16##le(const char16_t *from, size_t len) const noexcept override { \
         return ours::utf16(ORDER, from, len).chars(); \

@@ -12,22 +12,6 @@ trap 'rm -rf "$room"' EXIT
 . "$top/.ci/checks.sh"
 export DETHRUX_TOP=$top
 
-# Adds the counts of a command, whose last line is 'N passed, M failed', and prints its other lines.
-counts() {
-    local name=$1 said
-    shift
-    said=$("$@" 2>&1)
-    if [[ ${said##*$'\n'} =~ ^([0-9]+)\ passed,\ ([0-9]+)\ failed$ ]]; then
-        passed=$((passed + BASH_REMATCH[1]))
-        failed=$((failed + BASH_REMATCH[2]))
-        [[ $said != *$'\n'* ]] || echo "${said%$'\n'*}"
-    else
-        failed=$((failed + 1))
-        echo "failed: $name:"
-        tail -n 20 <<< "$said"
-    fi
-}
-
 # Runs Node with 64-bit memory.
 run_node() {
     (cd "$room" && "$node" "${flags[@]}" "$@")
@@ -142,14 +126,6 @@ test_page() {
     export CHROMIUM
     check 'the page, twice' builds_page
     need "$CHROMIUM:chromium" && counts 'the page in Chromium' "$top/site/test.py"
-}
-
-# Prints the first of these programs that is installed.
-first_of() {
-    local name
-    for name in "$@"; do
-        command -v "$name" && return
-    done
 }
 
 test_node

@@ -1,7 +1,8 @@
 #!/usr/bin/env bash
 # Puts links to what pip builds the package with into FOLDER, so that it needs no network:
 #
-#     bindings/python/offline.sh FOLDER && pip install --no-index --find-links FOLDER bindings/python
+#     bindings/python/offline.sh FOLDER
+#     pip install --no-index --find-links FOLDER bindings/python
 #
 # They are wheel, and the setuptools of the Python that is python3 or that PYTHON names: Debian's is
 # only for Debian's Python. Python 3.12 and later have none.

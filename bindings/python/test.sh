@@ -14,29 +14,7 @@ room=$(mktemp -d)
 trap 'rm -rf "$room"' EXIT
 export PYTHONDONTWRITEBYTECODE=1
 unset PYTHONPATH PYTHONHOME CC
-passed=0
-failed=0
-
-# Runs a step, writes what it prints to $room/said, and counts it.
-count() {
-    local name=$1
-    shift
-    if "$@" > "$room/said" 2>&1; then
-        passed=$((passed + 1))
-        return
-    fi
-    failed=$((failed + 1))
-    echo "failed: $name"
-    tail -n 20 "$room/said"
-    return 1
-}
-
-# Prints the result and ends.
-finish() {
-    echo "$passed passed, $failed failed"
-    [ $failed = 0 ]
-    exit
-}
+. "$top/.ci/checks.sh"
 
 # Whether a tool is installed.
 has() {
@@ -175,40 +153,40 @@ test_wheels() {
 print(sysconfig.get_config_var("EXT_SUFFIX"))')
     mkdir "$tools" && ln -s "$(command -v "$python")" "$tools/python3"
     ! grep -q -w avx2 /proc/cpuinfo || best=_x86_64_v3/
-    count 'the wheel and the sources' make_wheels || return
-    count 'a wheel for a newer glibc' leaves_out_wheels
-    count 'pip install of the wheel' \
+    check 'the wheel and the sources' make_wheels || return
+    check 'a wheel for a newer glibc' leaves_out_wheels
+    check 'pip install of the wheel' \
         install_with_pip --target "$room/wheel" "$room"/wheels/*.whl
-    count 'the extension of the wheel' takes_extension wheel "$best"
+    check 'the extension of the wheel' takes_extension wheel "$best"
     [ "$(uname -m)" != x86_64 ] || {
-        count 'an emulator' has qemu-x86_64 qemu-user
-        count 'the wheel without AVX2' takes_extension wheel '' qemu-x86_64 -cpu Nehalem
+        check 'an emulator' has qemu-x86_64 qemu-user
+        check 'the wheel without AVX2' takes_extension wheel '' qemu-x86_64 -cpu Nehalem
     }
 }
 
 python=${PYTHON:-python3}
-count 'Python' has "$python" python3 || finish
-count 'a C compiler for the tests' has cc gcc || finish
-count 'the headers of Python' has_headers || finish
+check 'Python' has "$python" python3 || finish
+check 'a C compiler for the tests' has cc gcc || finish
+check 'the headers of Python' has_headers || finish
 if [ -z "${WHEELS:-}" ]; then
     WHEELS=$room/build
-    count 'what pip builds with' env PYTHON="$python" "$here/offline.sh" "$WHEELS" || finish
+    check 'what pip builds with' env PYTHON="$python" "$here/offline.sh" "$WHEELS" || finish
 fi
-count 'a virtual environment' make_environment || finish
-count 'a copy of the tree' copy_tree || finish
-count 'pip install' install_with_pip "$room/tree/bindings/python" || finish
-count 'what the tests build with' install_with_pip setuptools || finish
-count 'the first program' first_program
-count 'the page has the first program' page_has_program
+check 'a virtual environment' make_environment || finish
+check 'a copy of the tree' copy_tree || finish
+check 'pip install' install_with_pip "$room/tree/bindings/python" || finish
+check 'what the tests build with' install_with_pip setuptools || finish
+check 'the first program' first_program
+check 'the page has the first program' page_has_program
 modules=(test_build test_calls test_codecs test_cpython test_native test_package test_wtf8)
-count 'each module of tests' runs_all
+check 'each module of tests' runs_all
 for module in "${modules[@]}"; do
     unit_tests $module
 done
-count 'the tables of cases' cases
+check 'the tables of cases' cases
 mkdir "$room/base"
-[ "$(uname -m)" != x86_64 ] || count 'the tables of cases, x86-64-v2' cases_of_the_base
-count 'the warnings of the C compiler' compile_strictly
+[ "$(uname -m)" != x86_64 ] || check 'the tables of cases, x86-64-v2' cases_of_the_base
+check 'the warnings of the C compiler' compile_strictly
 test_wheels
-count 'mypy --strict' check_types
+check 'mypy --strict' check_types
 finish
