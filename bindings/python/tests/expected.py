@@ -5,6 +5,8 @@ import ctypes
 import mmap
 import sys
 import tempfile
+import threading
+import tracemalloc
 from typing import NamedTuple, Optional
 
 from dethrux import Status
@@ -13,8 +15,6 @@ CODECS = {"little": "utf-16-le", "big": "utf-16-be"}
 ORDERS = tuple(CODECS)
 REPLACEMENT = "\ufffd"
 LARGEST = 2**64 - 1
-# Debian's package of Python's modules in C, such as _testcapi.
-STDLIB = "libpython{}.{}-stdlib".format(*sys.version_info)
 LEADING, TRAILING = 0xD83D, 0xDE00
 PAIR = (LEADING, TRAILING)
 
@@ -218,3 +218,39 @@ class Index:
 
     def __index__(self):
         return self.number
+
+
+def peak(call, *arguments):
+    """Return how many bytes of memory a call takes at most."""
+    tracemalloc.start()
+    call(*arguments)
+    most = tracemalloc.get_traced_memory()[1]
+    tracemalloc.stop()
+    return most
+
+
+def without_memory(start, call, *arguments):
+    """Return what a call returns whose allocation of this number fails, or None if it raises."""
+    try:
+        from _testcapi import remove_mem_hooks, set_nomemory
+    except ImportError:
+        package = "libpython{}.{}-stdlib".format(*sys.version_info)
+        raise AssertionError(f"there is no _testcapi: apt-get install {package}") from None
+    found = None
+    set_nomemory(start, start + 1)
+    try:
+        found = call(*arguments)
+    except MemoryError:
+        pass
+    finally:
+        remove_mem_hooks()
+    return found
+
+
+def in_threads(work, arguments):
+    """Call a function in threads at the same time, with one of the arguments each."""
+    threads = [threading.Thread(target=work, args=(it,)) for it in arguments]
+    for thread in threads:
+        thread.start()
+    for thread in threads:
+        thread.join()

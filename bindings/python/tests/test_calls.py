@@ -6,7 +6,6 @@ import collections
 import inspect
 import itertools
 import random
-import tracemalloc
 import typing
 import unittest
 
@@ -20,7 +19,6 @@ from expected import (
     ORDERS,
     READABLE,
     REPLACEMENT,
-    STDLIB,
     UNWRITABLE,
     UTF8,
     WRITABLE,
@@ -29,8 +27,10 @@ from expected import (
     code_units,
     items,
     mapped,
+    peak,
     progress,
     utf16,
+    without_memory,
 )
 
 # The conversions, and the status at which each stops.
@@ -157,41 +157,32 @@ class Functions(unittest.TestCase):
                 with self.subTest(order=order, utf8=utf8, name=name):
                     self.check_conversion(name, order, utf8, "utf-8", codec, stops)
 
-    def test_decode(self):
-        for order, raw, codec in each_utf16():
-            with self.subTest(order=order, raw=raw):
-                self.assertEqual(outcome(dethrux.decode, raw, order), outcome(raw.decode, codec))
-                for errors in ("replace", "ignore", "backslashreplace", "surrogatepass"):
-                    expected = outcome(raw.decode, codec, errors)
-                    self.assertEqual(outcome(dethrux.decode, raw, order, errors), expected)
+    def check_errors(self, call, data, order, expected):
+        """Compare with CPython, with its error handlers and without one."""
+        for errors in HANDLERS:
+            found = outcome(call, data, order, errors)
+            self.assertEqual(found, outcome(expected, errors), (call, data, order, errors))
+        self.assertEqual(outcome(call, data, order), outcome(expected, "strict"))
 
-    def test_encode(self):
+    def test_decode_and_encode(self):
+        for order, raw, codec in each_utf16():
+            self.check_errors(dethrux.decode, raw, order, lambda it: raw.decode(codec, it))
+            self.check_errors(
+                dethrux.decode_to_utf8,
+                raw,
+                order,
+                lambda it: raw.decode(codec, it).encode("utf-8", it),
+            )
         for order, codec in CODECS.items():
             for text in ("", "a", "\ufeffa\x80\u0800\U0010ffff", "a\ud800b", "\udc00"):
-                for errors in ("strict", "replace", "surrogatepass"):
-                    expected = outcome(text.encode, codec, errors)
-                    self.assertEqual(outcome(dethrux.encode, text, order, errors), expected)
-                self.assertEqual(outcome(dethrux.encode, text, order), outcome(text.encode, codec))
-
-    def test_decode_to_utf8(self):
-        for order, raw, codec in each_utf16():
-            with self.subTest(order=order, raw=raw):
-                for errors in HANDLERS:
-                    expected = outcome(lambda: raw.decode(codec, errors).encode("utf-8", errors))
-                    found = outcome(dethrux.decode_to_utf8, raw, order, errors)
-                    self.assertEqual(found, expected, errors)
-                found = outcome(dethrux.decode_to_utf8, raw, order)
-                self.assertEqual(found, outcome(lambda: raw.decode(codec).encode()))
-
-    def test_encode_from_utf8(self):
-        for (order, codec), utf8 in itertools.product(CODECS.items(), UTF8):
-            with self.subTest(order=order, utf8=utf8):
-                for errors in HANDLERS:
-                    expected = outcome(lambda: utf8.decode("utf-8", errors).encode(codec, errors))
-                    found = outcome(dethrux.encode_from_utf8, utf8, order, errors)
-                    self.assertEqual(found, expected, errors)
-                found = outcome(dethrux.encode_from_utf8, utf8, order)
-                self.assertEqual(found, outcome(lambda: utf8.decode().encode(codec)))
+                self.check_errors(dethrux.encode, text, order, lambda it: text.encode(codec, it))
+            for utf8 in UTF8:
+                self.check_errors(
+                    dethrux.encode_from_utf8,
+                    utf8,
+                    order,
+                    lambda it: utf8.decode("utf-8", it).encode(codec, it),
+                )
 
     def test_boundaries(self):
         for order, raw, _codec in each_utf16():
@@ -375,20 +366,12 @@ LEAN.update(
 class Reading(unittest.TestCase):
     """Which buffers are read in place, and until when they are held."""
 
-    def peak(self, call, buffer, order):
-        """Return how much memory a call takes."""
-        tracemalloc.start()
-        call(buffer, order)
-        peak = tracemalloc.get_traced_memory()[1]
-        tracemalloc.stop()
-        return peak
-
     def test_what_is_copied(self):
         raw = b"a\0" * 50_000
         for (name, call), kind in itertools.product(LEAN.items(), READABLE):
             with self.subTest(name=name, kind=kind):
-                peak = self.peak(call, kind(raw), "little")
-                self.assertEqual(peak >= len(raw), kind in IN_PIECES, peak)
+                most = peak(call, kind(raw), "little")
+                self.assertEqual(most >= len(raw), kind in IN_PIECES, most)
 
     def test_held_for_the_call(self):
         """An argument that is asked for its number tries to change the buffer."""
@@ -525,56 +508,20 @@ class Arguments(unittest.TestCase):
                         call(b"a\0", wrong)
 
     def test_byteorder_is_a_keyword(self):
+        """`test_native` tests the keywords of the functions in C."""
         raw = b"a\0\x3d\xd8\x00\xde\xd8\x3d"
-        extra = {"is_char_boundary": (4,), "floor_char_boundary": (5,)}
-        extra["floor_char_boundary_around"] = (3,)
-        between = {"find": (b"\xd8\x3d",), "rfind": (b"a\0",)}
-        found = set()
-        for name in dethrux.__all__:
-            call = getattr(dethrux, name)
-            if not callable(call) or isinstance(call, type) and call not in DECODERS:
-                continue
-            names = list(inspect.signature(call).parameters)
-            if "byteorder" not in names:
-                continue
-            found.add(name)
-            before = between.get(name, ())
-            at = 0 if call in DECODERS else 1 + len(before)
-            self.assertEqual(names.index("byteorder"), at, name)
-            for order in ORDERS:
-                with self.subTest(name=name, order=order):
-                    if call in DECODERS:
-                        self.assertEqual(call(byteorder=order)._order, ORDERS.index(order))
-                        continue
-                    data = "a\ud800" if name == "encode" else bytearray(raw)
-                    also = dict(zip(names[at + 1 :], extra.get(name, ())))
-                    by_keyword = outcome(lambda: call(data, *before, byteorder=order, **also))
-                    data = "a\ud800" if name == "encode" else bytearray(raw)
-                    expected = outcome(call, data, *before, order, *also.values())
-                    self.assertEqual(by_keyword, expected)
+        for order in ORDERS:
+            for kind in DECODERS:
+                self.assertEqual(kind(byteorder=order)._order, ORDERS.index(order))
+            for call in (dethrux.decode_to_wtf8, dethrux.encode_from_wtf8):
+                by_keyword = outcome(lambda: call(raw, byteorder=order))
+                self.assertEqual(by_keyword, outcome(call, raw, order))
+        public = (getattr(dethrux, name) for name in dethrux.__all__)
+        calls = [it for it in public if inspect.isroutine(it) or it in DECODERS]
+        found = {it.__name__ for it in calls if "byteorder" in inspect.signature(it).parameters}
         expected = {*WITH_ORDER, "encode", "make_well_formed"}
         expected -= {"compare, first", "compare, second", "find, pattern", "rfind, pattern"}
         self.assertEqual(found, expected)
-
-    def test_the_buffers_of_a_search_are_keywords(self):
-        for order, codec in CODECS.items():
-            text, pattern = "abab".encode(codec), "ab".encode(codec)
-            for call, expected in ((dethrux.find, 0), (dethrux.rfind, 4)):
-                found = call(byteorder=order, pattern=pattern, utf16=text)
-                self.assertEqual(found, expected)
-
-    def test_the_byte_orders_of_compare_are_keywords(self):
-        names = ["first", "first_byteorder", "second", "second_byteorder"]
-        self.assertEqual(list(inspect.signature(dethrux.compare).parameters), names)
-        for orders in itertools.product(ORDERS, ORDERS):
-            texts = ["\uffff".encode(CODECS[orders[0]]), "\U00010000".encode(CODECS[orders[1]])]
-            found = dethrux.compare(
-                first=texts[0],
-                first_byteorder=orders[0],
-                second=texts[1],
-                second_byteorder=orders[1],
-            )
-            self.assertEqual(found, -1)
 
     def test_numbers(self):
         for name, call in CAPACITIES + OFFSETS + OFFSETS_OF_FILES:
@@ -737,21 +684,11 @@ class Decoders(unittest.TestCase):
 
     def fails_without_memory(self, made, call, wanted, left=b""):
         """Make each allocation of a call fail in turn: nothing changes, and again it succeeds."""
-        try:
-            from _testcapi import remove_mem_hooks, set_nomemory
-        except ImportError:
-            self.fail(f"there is no _testcapi: apt-get install {STDLIB}")
         outcomes = []
         for start in range(60):
-            decoder, found = made(), None
+            decoder = made()
             pending = decoder.pending
-            set_nomemory(start, start + 1)
-            try:
-                found = call(decoder)
-            except MemoryError:
-                pass
-            finally:
-                remove_mem_hooks()
+            found = without_memory(start, call, decoder)
             outcomes.append(found is None)
             if found is None:
                 self.assertEqual(decoder.pending, pending, start)
@@ -783,25 +720,6 @@ class Decoders(unittest.TestCase):
                 for call, wanted, left in calls:
                     with self.subTest(target=target, pending=pending):
                         self.fails_without_memory(made, call, wanted, left)
-
-    def test_an_end_without_memory_is_none(self):
-        """A decoder whose end failed is not finished, and takes more of the stream."""
-        from _testcapi import remove_mem_hooks, set_nomemory
-
-        for kind, order, source, target in each_decoder():
-            for pending in unfinished(kind, order):
-                decoder = kind(order)
-                decoder.feed(pending)
-                with self.assertRaises(MemoryError):
-                    set_nomemory(0, 0)
-                    try:
-                        decoder.finish()
-                    finally:
-                        remove_mem_hooks()
-                self.assertEqual(decoder.pending, pending)
-                rest = "\U0001f600".encode(source)[len(pending) :]
-                self.assertEqual(decoder.feed(rest), "\U0001f600".encode(target))
-                self.assertEqual(decoder.finish(), b"")
 
     def test_decoders_are_apart(self):
         for kind, order, source, target in each_decoder():

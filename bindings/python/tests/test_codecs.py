@@ -5,11 +5,10 @@ import io
 import itertools
 import os
 import tempfile
-import threading
 import unittest
 
 import dethrux._codecs
-from expected import CODECS, STDLIB, Index, spread
+from expected import CODECS, Index, in_threads, spread, without_memory
 
 NAMES = ("utf-16-le", "utf-16-be", "utf-16")
 UNITS = (0x41, 0xE9, 0x4E00, 0xD83D, 0xDE00, 0xFEFF, 0xFFFE)
@@ -459,10 +458,6 @@ class Streams(unittest.TestCase):
 
     def test_without_memory(self):
         """Each allocation of a call fails: nothing changes, and the next call does all of it."""
-        try:
-            from _testcapi import remove_mem_hooks, set_nomemory
-        except ImportError:
-            self.fail(f"there is no _testcapi: apt-get install {STDLIB}")
         text = "a\U0001f600"
         for name in NAMES:
             raw, info = text.encode(name), codecs.lookup(f"dethrux-{name}")
@@ -472,15 +467,9 @@ class Streams(unittest.TestCase):
                 (info.incrementalencoder, "encode", text, raw),
             )
             for (kind, method, chunk, wanted), start in itertools.product(calls, range(120)):
-                coder, found = kind(), None
+                coder = kind()
                 before = coder.getstate()
-                set_nomemory(start, start + 1)
-                try:
-                    found = getattr(coder, method)(chunk)
-                except MemoryError:
-                    pass
-                finally:
-                    remove_mem_hooks()
+                found = without_memory(start, getattr(coder, method), chunk)
                 if found is None:
                     self.assertEqual(coder.getstate(), before, (name, method, start))
                     found = getattr(coder, method)(chunk)
@@ -570,11 +559,7 @@ class Streams(unittest.TestCase):
             parts = [decoder.decode(raw[at : at + step]) for at in range(0, len(raw), step)]
             found[number] = "".join(parts) + decoder.decode(b"", True)
 
-        threads = [threading.Thread(target=decode, args=(number,)) for number in range(8)]
-        for thread in threads:
-            thread.start()
-        for thread in threads:
-            thread.join()
+        in_threads(decode, range(8))
         self.assertTrue(all(each == text for each in found))
 
 

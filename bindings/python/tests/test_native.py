@@ -27,7 +27,7 @@ from unittest import mock
 
 import dethrux
 from dethrux import _native, _types
-from expected import CODECS, ORDERS, STDLIB, mapped
+from expected import CODECS, ORDERS, in_threads, mapped, peak, without_memory
 from test_calls import outcome
 
 # How many calls may not take memory: a million with DETHRUX_CALLS=1000000.
@@ -161,20 +161,6 @@ class Texts(unittest.TestCase):
                 partial = getattr(codecs, codec.replace("-", "_") + "_decode")
                 found = C[codec.replace("-", "_") + "_decode"]
                 self.assertEqual(outcome(found, raw, errors), outcome(partial, raw, errors))
-
-    def test_many_errors(self):
-        """After some of them `replace` is done by the library."""
-        handlers = ("replace", "ignore", "surrogatepass")
-        for count, after in itertools.product((15, 16, 17, 18, 40), ("", "a", "\u4e00", "\ud83d")):
-            text = "\ud800a" * count + after
-            for (order, codec), errors in itertools.product(CODECS.items(), handlers):
-                raw = text.encode(codec, "surrogatepass")
-                for data in (raw, raw + b"\xd8", raw + raw[:2] + b"\xd8"):
-                    expected = outcome(data.decode, codec, errors)
-                    self.assertEqual(outcome(dethrux.decode, data, order, errors), expected)
-                    name = codec.replace("-", "_") + "_decode"
-                    expected = outcome(getattr(codecs, name), data, errors)
-                    self.assertEqual(outcome(C[name], data, errors), expected)
 
     def test_subclasses(self):
         class Text(str):
@@ -438,21 +424,15 @@ class Functions(unittest.TestCase):
             with self.assertRaises((TypeError, OverflowError)):
                 C["utf_16_encode"]("a", None, wrong)
 
-    def test_names_of_handlers_that_are_no_str(self):
-        """They are an error also for well-formed input; None is `strict` for the codecs."""
+    def test_names_of_handlers(self):
+        """None is `strict`. `test_codecs` tests the names that are an error."""
+
+        class Name(str):
+            pass
+
         for name in ("decode", "decode_to_utf8", "encode", "encode_from_utf8"):
-            for wrong in (5, b"strict", ["a"]):
-                with self.assertRaises(TypeError):
-                    C[name](*arguments(name), wrong)
-            for wrong in ("ignore\0", "\ud800"):
-                with self.assertRaises(ValueError):
-                    C[name](*arguments(name), wrong)
             self.assertEqual(C[name](*arguments(name), None), C[name](*arguments(name)))
             self.assertEqual(C[name](*arguments(name), "not known"), C[name](*arguments(name)))
-
-            class Name(str):
-                pass
-
             wrong = arguments(name, b"a\0\0\xdc", "a\udc00", b"a\xff")
             for errors in ("replace", "surrogatepass", "not known", "strict"):
                 expected = self.outcome_of_name(C[name], wrong, errors)
@@ -528,43 +508,28 @@ class Buffers(unittest.TestCase):
 
     def test_no_copy(self):
         """A long text needs no memory except for what is returned."""
-        import tracemalloc
-
         raw = "\u4e00".encode("utf-16-le") * LONG
         buffers = raw, bytearray(raw), memoryview(bytearray(raw)), mapped(raw)
         calls = ("count_chars", "is_ascii", "validate", "to_utf8_lossy_len")
         for name, buffer in itertools.product(calls, buffers):
-            tracemalloc.start()
-            C[name](buffer, "little")
-            peak = tracemalloc.get_traced_memory()[1]
-            tracemalloc.stop()
-            self.assertLess(peak, 4096, (name, type(buffer)))
+            self.assertLess(peak(C[name], buffer, "little"), 4096, (name, type(buffer)))
         for char, (order, codec) in itertools.product("a\xe9\u4e00\U0001f600", CODECS.items()):
             text = char * LONG
             raw = text.encode(codec)
             for call, given, result in (("decode", raw, text), ("encode", text, raw)):
-                tracemalloc.start()
-                C[call](given, order)
-                peak = tracemalloc.get_traced_memory()[1]
-                tracemalloc.stop()
-                self.assertLess(peak, sys.getsizeof(result) + 4096, (call, char))
+                most = sys.getsizeof(result) + 4096
+                self.assertLess(peak(C[call], given, order), most, (call, char))
 
     def test_room(self):
         """A conversion takes the memory of the longest output for its length of input, no more."""
-        import tracemalloc
-
         raw, utf8 = "\u4e00".encode("utf-16-le") * LONG, "\u4e00".encode() * LONG
         names = "to_utf8", "to_utf8_lossy", "to_utf8_partial", "decode_to_utf8"
         calls = [(name, raw, len(raw) // 2 * 3) for name in names]
         names = "from_utf8", "from_utf8_lossy", "encode_from_utf8"
         calls += [(name, utf8, len(utf8) * 2) for name in names]
         for name, data, room in calls:
-            tracemalloc.start()
-            C[name](data, "little")
-            peak = tracemalloc.get_traced_memory()[1]
-            tracemalloc.stop()
             # A block is freed first that is longer: `new_bytes` says why.
-            self.assertLess(peak, room + BLOCK + 4096, name)
+            self.assertLess(peak(C[name], data, "little"), room + BLOCK + 4096, name)
 
 
 # A library whose calls tell whether the thread has the GIL, and need no proof.
@@ -857,10 +822,6 @@ class Memory(unittest.TestCase):
 
     def test_failures(self):
         """Each allocation of a call fails: it raises MemoryError, or returns what it does."""
-        try:
-            from _testcapi import remove_mem_hooks, set_nomemory
-        except ImportError:
-            self.fail(f"there is no _testcapi: apt-get install {STDLIB}")
         for function, given in self.calls():
             expected = self.run_call(function, given)
             if isinstance(expected, type) or function.__name__ in IN_PLACE | OF_STREAMS:
@@ -868,17 +829,10 @@ class Memory(unittest.TestCase):
             # The counters below are small integers, which Python has once: their counts change.
             owned = [each for each in given if not isinstance(each, int)]
             before = [sys.getrefcount(each) for each in owned]
-            found = None
             failed = 0
             for start in range(40):
-                found = None
-                set_nomemory(start, start + 1)
-                try:
-                    found = function(*given)
-                except MemoryError:
-                    failed += 1
-                finally:
-                    remove_mem_hooks()
+                found = without_memory(start, function, *given)
+                failed += found is None
                 if found is not None:
                     self.assertEqual(found, expected)
             found = None
@@ -900,11 +854,7 @@ class Threads(unittest.TestCase):
                 found.append(dethrux.encode(text, order) == raw)
                 found.append(dethrux.decode_to_utf8(raw, order) == text.encode())
 
-        threads = [threading.Thread(target=work, args=(order,)) for order in ORDERS * 3]
-        for thread in threads:
-            thread.start()
-        for thread in threads:
-            thread.join()
+        in_threads(work, ORDERS * 3)
         self.assertEqual(found, [True] * 6 * 12)
 
     def test_ill_formed_texts(self):
@@ -917,18 +867,14 @@ class Threads(unittest.TestCase):
         expected = [raws[codec].decode(codec, errors) for (_, codec), errors in cases]
         found = []
 
-        def work():
+        def work(_number):
             for _ in range(3):
                 decoded = [
                     dethrux.decode(raws[codec], order, errors) for (order, codec), errors in cases
                 ]
                 found.append(decoded == expected)
 
-        threads = [threading.Thread(target=work) for _ in range(6)]
-        for thread in threads:
-            thread.start()
-        for thread in threads:
-            thread.join()
+        in_threads(work, range(6))
         self.assertEqual(found, [True] * 18)
 
     def test_a_buffer_that_another_thread_changes(self):
@@ -1026,33 +972,24 @@ class Interpreters(unittest.TestCase):
         class Members(list):
             pass
 
-        class Member:
-            pass
-
-        for name in ("Validity", "Progress", "Bom", "Status", "BomStatus"):
-            kept = Member()
-            fake = Members([kept]) if name.endswith("Status") else type("Type", (), {"it": kept})
-            with mock.patch.object(_types, name, fake):
-                other = self.other()
-            kept.module = other
-            gone = weakref.ref(kept)
-            del other, kept, fake
-            gc.collect()
-            self.assertIsNone(gone(), name)
-
-    def test_handlers_in_a_cycle(self):
-        class Handler:
+        class Kept:
             def __call__(self, error):
                 return "", error.end
 
-        names = "lookup_error", "replace_errors", "ignore_errors", "backslashreplace_errors"
-        for name in names:
-            kept = Handler()
-            with mock.patch.object(codecs, name, kept):
-                other = self.other()
-            kept.module = other
+        def fake(name, kept):
+            if name.endswith("Status"):
+                return Members([kept])
+            return kept if name.islower() else type("Type", (), {"it": kept})
+
+        names = [(_types, it) for it in ("Validity", "Progress", "Bom", "Status", "BomStatus")]
+        names += [(codecs, "lookup_error"), (codecs, "replace_errors")]
+        names += [(codecs, "ignore_errors"), (codecs, "backslashreplace_errors")]
+        for place, name in names:
+            kept = Kept()
+            with mock.patch.object(place, name, fake(name, kept)):
+                kept.module = self.other()
             gone = weakref.ref(kept)
-            del other, kept
+            del kept
             gc.collect()
             self.assertIsNone(gone(), name)
 

@@ -1,4 +1,4 @@
-//! Errors as std shows them and has them, and what std's traits say about the types.
+//! The messages of errors, the errors of std that they become, and traits of std.
 
 use dethrux::ByteOrder::{BigEndian, LittleEndian};
 use dethrux::*;

@@ -1,5 +1,4 @@
-//! What the crate `utf16string` 0.2.0 has no test for: panics, errors, and what std's traits say
-//! about the types.
+//! What the crate `utf16string` 0.2.0 has no test for: panics, errors, and traits of std.
 
 use std::panic::{catch_unwind, AssertUnwindSafe};
 use utf16string::{Utf16Error, WStr, WString, BE, LE};
