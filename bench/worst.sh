@@ -8,10 +8,9 @@ set -eu
 top=$(cd "$(dirname "$0")/.." && pwd)
 mkdir -p "$top/bench/out"
 cd "$top/bench"
-kit=$(dirname "$(rt doc)")
-(cd ../crates/dethrux && rt lib > ../../bench/out/rt.log 2>&1) || { cat out/rt.log >&2; exit 1; }
+make -s -C ../dist > out/make.log 2>&1 || { cat out/make.log >&2; exit 1; }
 gcc -O2 -Wa,-mbranches-within-32B-boundaries -I ../include worst.c -o out/worst \
-    ../crates/dethrux/out/libdethrux.a "$kit/c/liblibc_c.a" -licuuc
+    "$(make -s -C ../dist folder)/libdethrux.a" -licuuc
 out/worst > out/worst.tsv
 awk -F '\t' '
 {
