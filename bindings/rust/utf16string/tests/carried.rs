@@ -81,12 +81,13 @@ fn test_wstr_chars_and_char_indices() {
         let (text, indices) = (view(raw), expected.iter().copied());
         assert!(text.char_indices().eq(indices.clone()));
         assert!(text.char_indices().rev().eq(indices.clone().rev()));
-        assert_eq!(text.char_indices().last(), indices.clone().last());
+        assert_eq!(text.char_indices().last(), expected.last().copied());
         assert_eq!(text.char_indices().count(), expected.len());
         let chars = indices.map(|(_, character)| character);
         assert!(text.chars().eq(chars.clone()));
-        assert!(text.chars().rev().eq(chars.clone().rev()));
-        assert_eq!(text.chars().last(), chars.last());
+        assert!(text.chars().rev().eq(chars.rev()));
+        let last = expected.last().map(|(_, character)| *character);
+        assert_eq!(text.chars().last(), last);
         assert_eq!(text.chars().count(), expected.len());
         assert_eq!(owned(raw).chars().count(), expected.len());
     }
