@@ -22,7 +22,7 @@
  * Offsets and lengths count elements: code units if those were given, and else bytes.
  *
  * @par Errors
- * Ill-formed input is a value, dethrux::error, and never an exception, but for result::value.
+ * Ill-formed input is a value, dethrux::error; of it, only result::value makes an exception.
  * Functions and decoders throw only if there is not enough memory: std::bad_alloc, or
  * std::length_error if a string cannot be so long. In that case the string that was passed and the
  * decoder are unchanged.
