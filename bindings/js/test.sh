@@ -2,8 +2,8 @@
 # Packages the package, installs it in an empty folder without network, and there runs the first
 # program of docs/JS.md, the tests and the tables of cases in Node. Then it tests the page of site/
 # in headless Chromium. If this runs as root, apt-get installs missing tools; a tool that is still
-# missing is a failure. With --node it tests the package only. The last line is 'N passed, M failed'.
-# NODE and CHROMIUM name other programs.
+# missing is a failure. With --node it tests the package only. NODE and CHROMIUM name other
+# programs. The last line is 'N passed, M failed'.
 set -uo pipefail
 here=$(cd "$(dirname "${BASH_SOURCE[0]}")" && pwd)
 top=$(cd "$here/../.." && pwd)
