@@ -799,6 +799,29 @@ static void check_from_utf8_lossy_len(void) {
     }
 }
 
+/* The items that U+FFFD replaces, which are not the characters U+FFFD. */
+static size_t replaced_items(const decoded *text) {
+    size_t count = 0;
+    for (size_t i = 0; i < text->item_count; i++) {
+        count += text->items[i].kind != CHARACTER;
+    }
+    return count;
+}
+
+static void check_to_utf8_replacements(void) {
+    size_t count = replaced_items(&from_utf16);
+    for (place at = AT_START; at < place_count(in.len); at++) {
+        expect("count", dethrux_to_utf8_replacements(in.order, input_at(at), in.len), count);
+    }
+}
+
+static void check_from_utf8_replacements(void) {
+    size_t count = replaced_items(&from_utf8);
+    for (place at = AT_START; at < place_count(in.len); at++) {
+        expect("count", dethrux_from_utf8_replacements(input_at(at), in.len), count);
+    }
+}
+
 static void check_detect_bom(void) {
     uint32_t first = in.len < 2 ? 0 : unit_at(DETHRUX_BIG_ENDIAN, in.text, 0);
     bool present = first == 0xFEFF || first == 0xFFFE;
@@ -1165,6 +1188,8 @@ const check CHECKS[] = {
     {"dethrux_to_utf8_lossy_len", check_to_utf8_lossy_len},
     {"dethrux_from_utf8_len", check_from_utf8_len},
     {"dethrux_from_utf8_lossy_len", check_from_utf8_lossy_len},
+    {"dethrux_to_utf8_replacements", check_to_utf8_replacements},
+    {"dethrux_from_utf8_replacements", check_from_utf8_replacements},
     {"dethrux_to_utf8", check_to_utf8},
     {"dethrux_to_utf8_lossy", check_to_utf8_lossy},
     {"dethrux_to_utf8_partial", check_to_utf8_partial},

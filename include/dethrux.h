@@ -369,6 +369,29 @@ DETHRUX_NODISCARD size_t dethrux_from_utf8_len(const uint8_t *utf8, size_t len);
 DETHRUX_NODISCARD size_t dethrux_from_utf8_lossy_len(const uint8_t *utf8, size_t len);
 
 /**
+ * Returns how many U+FFFD dethrux_to_utf8_lossy writes for ill-formed sequences of the whole input.
+ *
+ * A U+FFFD of the input is a character, and does not count. dethrux_to_utf32_lossy writes as many.
+ *
+ * @return 0 if and only if the input is well formed
+ * @ingroup dethrux_lossy
+ */
+DETHRUX_NODISCARD size_t dethrux_to_utf8_replacements(
+    dethrux_byte_order byte_order, const uint8_t *utf16, size_t len);
+
+/**
+ * Returns how many U+FFFD dethrux_from_utf8_lossy writes for ill-formed sequences of the whole
+ * input.
+ *
+ * A U+FFFD of the input is a character, and does not count. The number is the same in either byte
+ * order.
+ *
+ * @return 0 if and only if the input is well formed
+ * @ingroup dethrux_lossy
+ */
+DETHRUX_NODISCARD size_t dethrux_from_utf8_replacements(const uint8_t *utf8, size_t len);
+
+/**
  * Converts UTF-16 to UTF-8, up to the first ill-formed sequence, an unpaired surrogate of 2 bytes.
  *
  * @param capacity `len / 2 * 3` suffices, and so does DETHRUX_UTF8_MAX(len)
@@ -989,6 +1012,12 @@ DETHRUX_U16_RESULT bool dethrux_u16_is_ascii(const dethrux_unit *utf16, size_t l
 DETHRUX_U16_RESULT size_t dethrux_u16_to_utf8_lossy_len(
     const dethrux_unit *utf16, size_t len) {
     return dethrux_to_utf8_lossy_len(DETHRUX_NATIVE_ENDIAN, DETHRUX_U16_BYTES(utf16), len * 2);
+}
+
+/** Does what dethrux_to_utf8_replacements does, on code units. */
+DETHRUX_U16_RESULT size_t dethrux_u16_to_utf8_replacements(
+    const dethrux_unit *utf16, size_t len) {
+    return dethrux_to_utf8_replacements(DETHRUX_NATIVE_ENDIAN, DETHRUX_U16_BYTES(utf16), len * 2);
 }
 
 /**

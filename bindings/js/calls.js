@@ -11,6 +11,8 @@ export const CALLS = {
     to_utf8_lossy_len: ["utf16", "size"],
     from_utf8_len: ["bytesForUtf16", "size"],
     from_utf8_lossy_len: ["bytesForUtf16", "size"],
+    to_utf8_replacements: ["utf16", "size"],
+    from_utf8_replacements: ["bytes", "size"],
     to_utf8: ["utf16ToUtf8", "progress"],
     to_utf8_lossy: ["utf16ToUtf8", "progress"],
     to_utf8_partial: ["utf16ToUtf8", "progress"],

@@ -132,6 +132,11 @@ export interface Dethrux {
     toUtf8Partial: FromUtf16<Uint8Array>;
     /** Returns the length of what `toUtf8Lossy` writes. */
     toUtf8LossyLen: OfUtf16<number>;
+    /**
+     * Returns how many U+FFFD `toUtf8Lossy` writes for ill-formed sequences: 0 exactly if this is
+     * UTF-16. A U+FFFD of the input does not count.
+     */
+    toUtf8Replacements: OfUtf16<number>;
     /** Converts UTF-8 to UTF-16, up to the first ill-formed sequence. */
     fromUtf8: ToUtf16<Uint8Array>;
     /** Converts UTF-8 to UTF-16, with U+FFFD for what is ill formed. */
@@ -140,6 +145,11 @@ export interface Dethrux {
     fromUtf8Len: ForUtf16<Uint8Array>;
     /** Returns the length of what `fromUtf8Lossy` writes. */
     fromUtf8LossyLen: ForUtf16<Uint8Array>;
+    /**
+     * Returns how many U+FFFD `fromUtf8Lossy` writes for ill-formed sequences: 0 exactly if this is
+     * UTF-8. A U+FFFD of the input does not count.
+     */
+    fromUtf8Replacements(utf8: Uint8Array): number;
 
     /** Converts all code units to WTF-8, which keeps unpaired surrogates, of 3 bytes each. */
     toWtf8: FromUtf16<Uint8Array>;

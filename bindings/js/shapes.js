@@ -184,6 +184,9 @@ export const SHAPES = {
         const made = (it) => new Uint32Array(it.buffer);
         return fromUtf16(call, words, (len) => Math.ceil(len / 2), 4, made);
     },
+    bytes(call, words) {
+        return asked(call, words, "Uint8Array");
+    },
     bytesToUtf16(call, words) {
         return toUtf16(call, words, "Uint8Array", 2);
     },

@@ -716,6 +716,11 @@ static void ask_utf16_marked_size(dethrux_byte_order order, const text *raw, tex
     add_number(answer, dethrux_from_utf8_lossy_len(raw->bytes, raw->len));
 }
 
+static void ask_utf8_replacements(dethrux_byte_order order, const text *raw, text *answer) {
+    (void)order;
+    add_number(answer, dethrux_from_utf8_replacements(raw->bytes, raw->len));
+}
+
 /* The error's fields, or what is written if there is no error. */
 static void add_validity(dethrux_byte_order order, const text *raw, const char *none, text *answer) {
     dethrux_validity found = dethrux_validate(order, raw->bytes, raw->len);
@@ -1155,6 +1160,7 @@ static struct {
 } calls[] = {
     {.name = "count_chars", .size = dethrux_count_chars},
     {.name = "to_utf8_lossy_len", .size = dethrux_to_utf8_lossy_len},
+    {.name = "to_utf8_replacements", .size = dethrux_to_utf8_replacements},
     {.name = "to_utf32_lossy_len", .size = dethrux_to_utf32_lossy_len},
     {.name = "to_wtf8_len", .size = dethrux_to_wtf8_len},
     {.name = "every_room", .make = call_every_room},
@@ -1184,6 +1190,7 @@ static struct {
     {.name = "is_ascii", .ask = ask_is_ascii},
     {.name = "from_utf8_len", .ask = ask_utf16_size},
     {.name = "from_utf8_lossy_len", .ask = ask_utf16_marked_size},
+    {.name = "from_utf8_replacements", .ask = ask_utf8_replacements},
     {.name = "validate_raw_utf16", .ask = ask_validate},
     {.name = "WStr::from_utf16", .ask = ask_from_utf16},
     {.name = "every_chunking", .ask = ask_every_chunking},
@@ -1646,6 +1653,7 @@ static bool is_empty_fine(void) {
         && feed(&back, NULL, 0, NULL, 0).status == DETHRUX_DONE && finish(&back, NULL, 0).status == DETHRUX_DONE
         && dethrux_validate(little, NULL, 0).status == DETHRUX_DONE && dethrux_is_ascii(big, NULL, 0)
         && dethrux_from_utf8_len(NULL, 0) == 0 && dethrux_from_utf8_lossy_len(NULL, 0) == 0
+        && dethrux_from_utf8_replacements(NULL, 0) == 0
         && dethrux_is_char_boundary(little, NULL, 0, 0) && !dethrux_is_char_boundary(big, NULL, 0, 1)
         && dethrux_floor_char_boundary(little, NULL, 0, 1) == 0 && dethrux_floor_char_boundary_around(big, NULL, 0, 0) == 0
         && dethrux_find(little, NULL, 0, NULL, 0) == 0 && dethrux_find(big, letter, 1, NULL, 0) == 0

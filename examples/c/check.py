@@ -163,11 +163,13 @@ PLAIN = {
     "count_chars": "bytes order",
     "from_utf8_len": "bytes",
     "from_utf8_lossy_len": "bytes",
+    "from_utf8_replacements": "bytes",
     "is_ascii": "bytes order",
     "search::find": "bytes bytes order",
     "search::rfind": "bytes bytes order",
     "shard_offset": "number number number",
     "to_utf8_lossy_len": "bytes order",
+    "to_utf8_replacements": "bytes order",
     "to_wtf8_len": "bytes order",
 }
 CONVERSIONS = [

@@ -58,6 +58,7 @@ static const text texts[] = {
         {0x61, 0x62, 0x63}},
     {"swapped ASCII", 1, {0x6100}, {1, DETHRUX_DONE, 0}, 1, false, "\xE6\x84\x80", "||", 0,
         {0x6100}},
+    {"U+FFFD", 1, {0xFFFD}, {1, DETHRUX_DONE, 0}, 1, false, "\xEF\xBF\xBD", "||", 0, {0xFFFD}},
     {"one to four bytes", 5, {0x61, 0xE9, 0x4E2D, 0xD83D, 0xDE00}, {5, DETHRUX_DONE, 0}, 4, false,
         "a\xC3\xA9\xE4\xB8\xAD\xF0\x9F\x98\x80", "||||.|", 0, {0x61, 0xE9, 0x4E2D, 0xD83D, 0xDE00}},
     {"a swapped pair", 2, {0x3DD8, 0x00DE}, {2, DETHRUX_DONE, 0}, 2, false, "\xE3\xB7\x98\xC3\x9E",
@@ -94,6 +95,8 @@ static void look(const text *from) {
     check("is_ascii", from->name, dethrux_u16_is_ascii(units, from->len) == from->is_ascii);
     check("to_utf8_lossy_len", from->name,
         dethrux_u16_to_utf8_lossy_len(units, from->len) == strlen(from->utf8));
+    check("to_utf8_replacements", from->name,
+        dethrux_u16_to_utf8_replacements(units, from->len) == from->unpaired);
 }
 
 /* At each offset of the text, and after its end: one past, twice as far, and where a multiple of

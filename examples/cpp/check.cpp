@@ -101,6 +101,7 @@ static const row rows[] = {
     {"nothing", ""s, {}, 0, true, ""s, "|"s, 0, 0, ""s},
     {"ASCII", "\0a\0b\0c"s, {}, 3, true, "abc"s, "|.|.|.|"s, 0, 0, "\0a\0b\0c"s},
     {"swapped ASCII", "a\0"s, {}, 1, false, "\xE6\x84\x80"s, "|.|"s, 0, 0, "a\0"s},
+    {"U+FFFD", "\xFF\xFD"s, {}, 1, false, "\xEF\xBF\xBD"s, "|.|"s, 0, 0, "\xFF\xFD"s},
     {"one to four bytes", "\0a\0\xE9\x4E\x2D\xD8\x3D\xDE\0"s, {}, 4, false,
         "a\xC3\xA9\xE4\xB8\xAD\xF0\x9F\x98\x80"s, "|.|.|.|...|"s, 0, 0,
         "\0a\0\xE9\x4E\x2D\xD8\x3D\xDE\0"s},
@@ -143,6 +144,11 @@ static void look(const row &from) {
     });
     check_forms("is_ascii", from, [&](std::size_t, auto... order) {
         return dethrux::is_ascii(order..., in_form(from.big, order...)) == from.is_ascii;
+    });
+    // An odd byte at the end counts, but not after half of a pair, which is unpaired.
+    const std::size_t replaced = from.unpaired + (from.pending == 1 ? 1 : 0);
+    check_forms("to_utf8_replacements", from, [&](std::size_t, auto... order) {
+        return dethrux::to_utf8_replacements(order..., in_form(from.big, order...)) == replaced;
     });
 }
 
@@ -341,29 +347,31 @@ static void no_characters() {
 }
 
 // A text in UTF-8, where it is ill formed, and what it is in UTF-16 in big endian. `pending` is how
-// many of its last bytes a decoder keeps.
+// many of its last bytes a decoder keeps, and `replaced` how many sequences become U+FFFD.
 struct row8 {
     const char *name;
     std::string utf8;
     std::optional<dethrux::error> reason;
     std::string big;
     std::size_t pending;
+    std::size_t replaced;
 };
 
 static const row8 rows8[] = {
-    {"nothing", "", {}, ""s, 0},
-    {"ASCII", "abc", {}, "\0a\0b\0c"s, 0},
+    {"nothing", "", {}, ""s, 0, 0},
+    {"ASCII", "abc", {}, "\0a\0b\0c"s, 0, 0},
     {"one to four bytes", "a\xC3\xA9\xE4\xB8\xAD\xF0\x9F\x98\x80", {},
-        "\0a\0\xE9\x4E\x2D\xD8\x3D\xDE\0"s, 0},
+        "\0a\0\xE9\x4E\x2D\xD8\x3D\xDE\0"s, 0, 0},
+    {"U+FFFD", "\xEF\xBF\xBD", {}, "\xFF\xFD"s, 0, 0},
     {"bytes that UTF-8 never has", "\xFF\xFF\xFF", dethrux::error{0, 1},
-        "\xFF\xFD\xFF\xFD\xFF\xFD"s, 0},
+        "\xFF\xFD\xFF\xFD\xFF\xFD"s, 0, 3},
     {"two bytes of three, and a letter",
         "a\xE4\xB8"
         "b",
-        dethrux::error{1, 2}, "\0a\xFF\xFD\0b"s, 0},
-    {"one byte of two", "a\xC3", dethrux::error{1, 0}, "\0a\xFF\xFD"s, 1},
-    {"two bytes of three", "\xE4\xB8", dethrux::error{0, 0}, "\xFF\xFD"s, 2},
-    {"three bytes of four", "\xF0\x9F\x98", dethrux::error{0, 0}, "\xFF\xFD"s, 3},
+        dethrux::error{1, 2}, "\0a\xFF\xFD\0b"s, 0, 1},
+    {"one byte of two", "a\xC3", dethrux::error{1, 0}, "\0a\xFF\xFD"s, 1, 1},
+    {"two bytes of three", "\xE4\xB8", dethrux::error{0, 0}, "\xFF\xFD"s, 2, 1},
+    {"three bytes of four", "\xF0\x9F\x98", dethrux::error{0, 0}, "\xFF\xFD"s, 3, 1},
 };
 
 static void from_utf8(const row8 &from) {
@@ -375,6 +383,8 @@ static void from_utf8(const row8 &from) {
     check_forms("from_utf8_lossy", from, [&](std::size_t, auto... order) {
         return dethrux::from_utf8_lossy(order..., from.utf8) == in_form(from.big, order...);
     });
+    check("from_utf8_replacements: "s + from.name,
+        dethrux::from_utf8_replacements(from.utf8) == from.replaced);
 }
 
 static void decode8(const row8 &from) {
@@ -848,6 +858,7 @@ static bool reads_nothing(Text none, Order... order) {
     const dethrux::inspection found = dethrux::inspect(order..., none);
     return none.size() == 0 && none.data() == nullptr && !dethrux::validate(order..., none)
            && dethrux::count_chars(order..., none) == 0 && dethrux::is_ascii(order..., none)
+           && dethrux::to_utf8_replacements(order..., none) == 0
            && dethrux::is_char_boundary(order..., none, 0)
            && !dethrux::is_char_boundary(order..., none, 1)
            && dethrux::floor_char_boundary(order..., none, 0) == 0
@@ -946,6 +957,9 @@ static void types() {
     static_assert(noexcept(dethrux::count_chars(wide)));
     static_assert(noexcept(dethrux::is_ascii(order, text)));
     static_assert(noexcept(dethrux::is_ascii(wide)));
+    static_assert(noexcept(dethrux::to_utf8_replacements(order, text)));
+    static_assert(noexcept(dethrux::to_utf8_replacements(wide)));
+    static_assert(noexcept(dethrux::from_utf8_replacements(text)));
     static_assert(noexcept(dethrux::compare(order, text, order, text)));
     static_assert(noexcept(dethrux::compare(wide, wide)));
     static_assert(noexcept(dethrux::is_char_boundary(order, text, 0)));

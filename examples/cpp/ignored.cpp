@@ -36,6 +36,9 @@ void ignore(dethrux::bytes bytes, dethrux::units units, dethrux::points points,
     dethrux::inspect(by, bytes);
     dethrux::inspect(units);
     dethrux::validate_utf32(points);
+    dethrux::to_utf8_replacements(by, bytes);
+    dethrux::to_utf8_replacements(units);
+    dethrux::from_utf8_replacements(bytes);
     dethrux::to_utf32(by, bytes);
     dethrux::to_utf32(units);
     dethrux::to_utf32_lossy(by, bytes);

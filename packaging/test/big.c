@@ -97,6 +97,8 @@ static void test_lengths(const uint8_t *utf16, const uint8_t *utf8) {
     require(dethrux_to_utf8_lossy_len(ORDER, utf16, len) == len, "dethrux_to_utf8_lossy_len");
     require(dethrux_from_utf8_len(utf8, len) == len, "dethrux_from_utf8_len");
     require(dethrux_from_utf8_lossy_len(utf8, len) == len, "dethrux_from_utf8_lossy_len");
+    require(dethrux_to_utf8_replacements(ORDER, utf16, len) == 0, "dethrux_to_utf8_replacements");
+    require(dethrux_from_utf8_replacements(utf8, len) == 0, "dethrux_from_utf8_replacements");
     require(dethrux_floor_char_boundary(ORDER, utf16, len, len - 1) == len - 2,
         "dethrux_floor_char_boundary");
 }
@@ -110,6 +112,8 @@ static void test_end(uint8_t *utf16, const uint8_t *sound, uint8_t *to) {
         "dethrux_to_utf8, ill formed");
     require(dethrux_to_utf8_lossy_len(ORDER, utf16, len) == len + 1,
         "dethrux_to_utf8_lossy_len, ill formed");
+    require(dethrux_to_utf8_replacements(ORDER, utf16, len) == 1,
+        "dethrux_to_utf8_replacements, ill formed");
     require(dethrux_compare(ORDER, sound, len, ORDER, utf16, len) == -1, "dethrux_compare");
     require(dethrux_find(ORDER, utf16, len, utf16 + len - 2, 2) == len - 2, "dethrux_find");
     require(dethrux_rfind(ORDER, sound, len, utf16 + len - 2, 2) == DETHRUX_NOT_FOUND,

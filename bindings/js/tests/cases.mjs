@@ -177,9 +177,11 @@ const CALLS = {
     count_chars: asked("countChars", [], number),
     is_ascii: asked("isAscii", [], number),
     to_utf8_lossy_len: asked("toUtf8LossyLen", [], number),
+    to_utf8_replacements: asked("toUtf8Replacements", [], number),
     to_utf32_lossy_len: asked("toUtf32LossyLen", [], number),
     from_utf8_len: (order, [source]) => [dethrux.fromUtf8Len(bytes(source), order)],
     from_utf8_lossy_len: (order, [source]) => [dethrux.fromUtf8LossyLen(bytes(source), order)],
+    from_utf8_replacements: (_order, [source]) => [dethrux.fromUtf8Replacements(bytes(source))],
     from_utf32_lossy_len: (order, [source]) => [dethrux.fromUtf32LossyLen(points(source), order)],
     inspect: asked("inspect", ["validUpTo", "errorLen"], (it) => [it.validUpTo, it.chars, it.repertoire, ...stop(it)]),
     validate_utf32: (_order, [source]) => {

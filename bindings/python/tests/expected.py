@@ -87,6 +87,11 @@ def items(raw, codec):
     return found
 
 
+def replaced(raw, codec):
+    """Return how many ill-formed sequences bytes have."""
+    return sum(item.char is None for item in items(raw, codec))
+
+
 def boundaries(raw, order):
     """Return the offsets between the characters and the ill-formed sequences of UTF-16."""
     found = [0]

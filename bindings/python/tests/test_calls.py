@@ -29,6 +29,7 @@ from expected import (
     mapped,
     peak,
     progress,
+    replaced,
     utf16,
     without_memory,
 )
@@ -41,6 +42,7 @@ DECODERS = (dethrux.Decoder, dethrux.Encoder)
 
 # All calls that read a buffer, as functions of it and of a byte order.
 NAMES = ("validate", "count_chars", "is_ascii", "to_utf8_lossy_len", *CONVERSIONS)
+NAMES += ("to_utf8_replacements",)
 NAMES += ("decode", "decode_to_utf8", "encode_from_utf8")
 WTF8 = ("to_wtf8", "to_wtf8_partial", "from_wtf8", "from_wtf8_partial")
 NAMES += (*WTF8, "to_wtf8_len", "decode_to_wtf8", "encode_from_wtf8")
@@ -66,6 +68,7 @@ READERS = {
     **WITH_ORDER,
     "from_utf8_len": lambda data, order: dethrux.from_utf8_len(data),
     "from_utf8_lossy_len": lambda data, order: dethrux.from_utf8_lossy_len(data),
+    "from_utf8_replacements": lambda data, order: dethrux.from_utf8_replacements(data),
     "detect_bom": lambda data, order: dethrux.detect_bom(data, order),
     "utf_16_le_decode": lambda data, order: _codecs.utf_16_le_decode(data),
     "utf_16_be_decode": lambda data, order: _codecs.utf_16_be_decode(data),
@@ -124,6 +127,7 @@ class Functions(unittest.TestCase):
                 self.assertEqual(dethrux.validate(raw, order), stopped[1:])
                 lossy = raw.decode(codec, "replace")
                 self.assertEqual(dethrux.to_utf8_lossy_len(raw, order), len(lossy.encode()))
+                self.assertEqual(dethrux.to_utf8_replacements(raw, order), replaced(raw, codec))
                 is_ascii = stopped[2] == Status.DONE and lossy.isascii()
                 self.assertIs(dethrux.is_ascii(raw, order), is_ascii)
                 counted = [unit for unit in code_units(raw, order) if not 0xDC00 <= unit <= 0xDFFF]
@@ -136,6 +140,7 @@ class Functions(unittest.TestCase):
                 self.assertEqual(dethrux.from_utf8_len(utf8), len(strict[0]))
                 lossy = utf8.decode("utf-8", "replace").encode("utf-16-le")
                 self.assertEqual(dethrux.from_utf8_lossy_len(utf8), len(lossy))
+                self.assertEqual(dethrux.from_utf8_replacements(utf8), replaced(utf8, "utf-8"))
 
     def check_conversion(self, name, order, raw, source, target, stops):
         whole = progress(raw, source, target, stops, LARGEST)

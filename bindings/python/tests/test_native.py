@@ -548,10 +548,11 @@ static dethrux_progress p(size_t len, size_t capacity) {
 }
 dethrux_validity dethrux_validate(P) { HELD; dethrux_validity v = {len, 0, 0}; return v; }
 #define SIZE(name) size_t dethrux_##name(P) { HELD; return len; }
-SIZE(count_chars) SIZE(to_utf8_lossy_len) SIZE(to_wtf8_len)
+SIZE(count_chars) SIZE(to_utf8_lossy_len) SIZE(to_utf8_replacements) SIZE(to_wtf8_len)
 bool dethrux_is_ascii(P) { HELD; return len; }
 size_t dethrux_from_utf8_len(const uint8_t *b, size_t len) { HELD; return len; }
 size_t dethrux_from_utf8_lossy_len(const uint8_t *b, size_t len) { HELD; return len; }
+size_t dethrux_from_utf8_replacements(const uint8_t *b, size_t len) { HELD; return len; }
 #define PROGRESS(name) dethrux_progress dethrux_##name(P, TO) { return p(len, capacity); }
 PROGRESS(to_utf8) PROGRESS(to_utf8_lossy) PROGRESS(to_utf8_partial)
 PROGRESS(from_utf8) PROGRESS(from_utf8_lossy) PROGRESS(to_latin1) PROGRESS(from_latin1)

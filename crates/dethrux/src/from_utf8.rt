@@ -1,11 +1,12 @@
-//! From UTF-8 to UTF-16, and the length before.
+//! From UTF-8 to UTF-16, and before it the length and how often it replaces.
 
-ghost use Rattle.std.specs.Prelude.{◌≡◌, ◌≢◌, ◌≤◌, ◌-◌, ◌*◌, drop, length, take};
+ghost use Rattle.std.specs.Prelude.{◌≡◌, ◌≢◌, ◌↔◌, ◌≤◌, ◌-◌, ◌*◌, drop, length, take};
 ghost use Rattle.std.specs.List.{flat_map};
-ghost use Rattle.std.specs.Str.{chars};
+ghost use Rattle.std.specs.Str.{IsUtf8, chars};
 ghost use Rattle.std.specs.Str.Lossy.{utf8_valid_len};
 ghost use Rattle.utf16_units.specs.Encoding.{char_bytes, size};
 ghost use Rattle.utf16_transcode.specs.FromUtf8.{TranscodesToUtf16, StopsEncoding, text_of_utf8};
+ghost use Rattle.utf16_transcode.specs.Replaced.{ill_formed_utf8_count};
 ghost use Rattle.utf16_transcode.specs.Shown.{ShowsWhole};
 ghost use Rattle.utf16_transcode.specs.Stops.{StopsLossyWhole};
 ghost use Rattle.utf16_transcode.specs.Wrote.{Wrote};
@@ -14,7 +15,9 @@ ghost use Rattle.utf16_transcode.specs.declared.progress.Stop.TheVariants.{Done,
 
 use crate::byte_order::in_order;
 use crate::results::{Progress, progress_of};
-use utf16_transcode::{from_utf8, from_utf8_len, from_utf8_lossy, from_utf8_lossy_len};
+use utf16_transcode::{
+    from_utf8, from_utf8_len, from_utf8_lossy, from_utf8_lossy_len, from_utf8_replacements,
+};
 
 /// Converts UTF-8 to UTF-16, up to the first ill-formed sequence or as far as whole characters fit.
 /// An ill-formed sequence and an incomplete character are not read. With status 3 the next
@@ -71,4 +74,14 @@ pub extern "C" fn dethrux_from_utf8_lossy_len(utf8: &[u8]) -> usize
     ensures most { result ≤ 2 * length utf8.now }
 {
     from_utf8_lossy_len(utf8)
+}
+
+/// Returns how many U+FFFD `dethrux_from_utf8_lossy` writes for ill-formed sequences of the whole
+/// input: 0 exactly if the input is UTF-8. A U+FFFD of the input does not count. One pass.
+#[unsafe(no_mangle)]
+pub extern "C" fn dethrux_from_utf8_replacements(utf8: &[u8]) -> usize
+    ensures count { result ≡ ill_formed_utf8_count utf8.now }
+    ensures well_formed { (result ≡ 0) ↔ IsUtf8 utf8.now }
+{
+    from_utf8_replacements(utf8)
 }

@@ -1,8 +1,10 @@
-//! From UTF-16 to UTF-8, and the length before.
+//! From UTF-16 to UTF-8, and before it the length and how often it replaces.
 
-ghost use Rattle.std.specs.Prelude.{◌≡◌, ◌≢◌, [], ◌<◌, ◌≤◌, ◌+◌, ◌-◌, ◌*◌, ◌/◌, drop, encode_utf8_all, length};
+ghost use Rattle.std.specs.Prelude.{◌≡◌, ◌≢◌, ◌↔◌, [], ◌<◌, ◌≤◌, ◌+◌, ◌-◌, ◌*◌, ◌/◌, drop, encode_utf8_all, length};
 ghost use Rattle.std.specs.Char.{encode_utf8};
+ghost use Rattle.utf16_units.specs.Encoding.{IsUtf16};
 ghost use Rattle.utf16_units.specs.Split.{decided_text, lossy_text};
+ghost use Rattle.utf16_transcode.specs.Replaced.{ill_formed_count};
 ghost use Rattle.utf16_transcode.specs.Shown.{ShowsWhole};
 ghost use Rattle.utf16_transcode.specs.Stops.{StopsDecoding, StopsLossy, StopsLossyWhole};
 ghost use Rattle.utf16_transcode.specs.Wrote.{DecodesTo, TranscodesToUtf8, Wrote};
@@ -11,7 +13,9 @@ ghost use Rattle.utf16_transcode.specs.declared.progress.Stop.TheVariants.{Done,
 
 use crate::byte_order::in_order;
 use crate::results::{Progress, progress_of};
-use utf16_transcode::{to_utf8, to_utf8_lossy, to_utf8_lossy_len, to_utf8_partial};
+use utf16_transcode::{
+    to_utf8, to_utf8_lossy, to_utf8_lossy_len, to_utf8_partial, to_utf8_replacements,
+};
 
 /// Returns the length in bytes of what `dethrux_to_utf8_lossy` writes for the whole input: at most
 /// three for each code unit, and three for an odd byte at the end. Two passes.
@@ -21,6 +25,17 @@ pub extern "C" fn dethrux_to_utf8_lossy_len(byte_order: u32, utf16: &[u8]) -> us
     ensures most { result ≤ (length utf16.now + 1) / 2 * 3 }
 {
     in_order!(byte_order, to_utf8_lossy_len(utf16))
+}
+
+/// Returns how many U+FFFD `dethrux_to_utf8_lossy` writes for ill-formed sequences of the whole
+/// input: 0 exactly if the input is well formed. A U+FFFD of the input does not count. In linear
+/// time.
+#[unsafe(no_mangle)]
+pub extern "C" fn dethrux_to_utf8_replacements(byte_order: u32, utf16: &[u8]) -> usize
+    ensures count { result ≡ ill_formed_count (is_big byte_order) utf16.now }
+    ensures well_formed { (result ≡ 0) ↔ IsUtf16 (is_big byte_order) utf16.now }
+{
+    in_order!(byte_order, to_utf8_replacements(utf16))
 }
 
 /// Converts UTF-16 to UTF-8, up to the first ill-formed sequence or as far as whole characters fit.

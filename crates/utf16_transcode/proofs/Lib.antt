@@ -8,6 +8,9 @@ pub mod WholeLemmas
 pub mod DecodeLossyLemmas
 pub mod DecidedLemmas
 pub mod MendLemmas
+pub mod CountLemmas
+pub mod CountUtf8Lemmas
+pub mod CountChunks
 pub mod DecodePrefixLemmas
 pub mod StreamSteps
 pub mod ToUtf8Lemmas

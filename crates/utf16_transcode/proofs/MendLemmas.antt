@@ -19,13 +19,13 @@ use Rattle.utf16_transcode.specs.Unpaired.{lone_items, lone_tail, unpaired}
 use Rattle.utf16_transcode.proofs.ToUtf8Parts.{nil_text, tail_text, whole_lossy_chars-append}
 
 -- characters are not unpaired surrogates
-lone_items-good : (text : List ℕ) (items : List Item) → lone_items (map good text ++ items) ≡ lone_items items
+pub lone_items-good : (text : List ℕ) (items : List Item) → lone_items (map good text ++ items) ≡ lone_items items
 unfolding lone_items
 lone_items-good [] items = refl
 lone_items-good (c ∷ text) items = lone_items-good text items
 
 -- an unpaired surrogate counts as one
-lone_items-lone : (unit : ℕ) (items : List Item) → lone_items (lone_item unit ∷ items) ≡ suc (lone_items items)
+pub lone_items-lone : (unit : ℕ) (items : List Item) → lone_items (lone_item unit ∷ items) ≡ suc (lone_items items)
 unfolding lone_items
 lone_items-lone unit items = by_class (is_high_surrogate unit) where
   by_class : (leading : Bool) → lone_items ((if leading then lone_lead unit else lone_trail unit) ∷ items) ≡ suc (lone_items items)

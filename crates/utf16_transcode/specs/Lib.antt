@@ -1,4 +1,5 @@
 pub mod Unpaired
+pub mod Replaced
 pub mod Decomposition
 pub mod Decodes
 pub mod Wrote

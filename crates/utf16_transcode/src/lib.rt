@@ -1,10 +1,12 @@
 //! Conversion between UTF-16 and UTF-8 into buffers that you own, without allocation. Each
 //! direction converts up to the first ill-formed sequence, lossy with U+FFFD for each ill-formed
-//! sequence, and as a stream that comes in chunks. Also the length of each result.
+//! sequence, and as a stream that comes in chunks. Also the length of each result, and how many
+//! ill-formed sequences are replaced.
 #![tactic(auto)]
 
 mod ascii;
 mod chars;
+mod counts;
 mod decode;
 mod decode_lossy;
 mod direction;
@@ -23,6 +25,7 @@ mod transcoding;
 mod valid;
 mod well_formed;
 
+pub use crate::counts::{from_utf8_replacements, to_utf8_replacements};
 pub use crate::decode::{ToUtf8, to_utf8};
 pub use crate::decode_lossy::{to_utf8_lossy, to_utf8_partial};
 pub use crate::direction::Direction;

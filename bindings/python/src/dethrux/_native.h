@@ -272,6 +272,10 @@ static PyObject *to_utf8_lossy_len(const native *it, arguments given) {
     return number_of_utf16(it, given, dethrux_to_utf8_lossy_len);
 }
 
+static PyObject *to_utf8_replacements(const native *it, arguments given) {
+    return number_of_utf16(it, given, dethrux_to_utf8_replacements);
+}
+
 static PyObject *to_wtf8_len(const native *it, arguments given) {
     return number_of_utf16(it, given, dethrux_to_wtf8_len);
 }
@@ -310,6 +314,11 @@ static PyObject *from_utf8_len(const native *it, arguments given) {
 static PyObject *from_utf8_lossy_len(const native *it, arguments given) {
     (void) it;
     return number_of_utf8(given, dethrux_from_utf8_lossy_len);
+}
+
+static PyObject *from_utf8_replacements(const native *it, arguments given) {
+    (void) it;
+    return number_of_utf8(given, dethrux_from_utf8_replacements);
 }
 
 /* Bytes to bytes. */

@@ -85,6 +85,12 @@ extern "C" {
     ) -> usize;
     pub(crate) fn dethrux_from_utf8_len(utf8: *const u8, len: usize) -> usize;
     pub(crate) fn dethrux_from_utf8_lossy_len(utf8: *const u8, len: usize) -> usize;
+    pub(crate) fn dethrux_to_utf8_replacements(
+        order: ByteOrder,
+        utf16: *const u8,
+        len: usize,
+    ) -> usize;
+    pub(crate) fn dethrux_from_utf8_replacements(utf8: *const u8, len: usize) -> usize;
     pub(crate) fn dethrux_swap_byte_order(utf16: *mut u8, len: usize);
     pub(crate) fn dethrux_make_well_formed(order: ByteOrder, utf16: *mut u8, len: usize) -> usize;
     pub(crate) fn dethrux_compare(

@@ -139,6 +139,36 @@ pub fn from_utf8_lossy_len(utf8: &[u8]) -> usize {
     unsafe { ffi::dethrux_from_utf8_lossy_len(utf8.as_ptr(), utf8.len()) }
 }
 
+/// Returns how many U+FFFD [`to_utf8_lossy`](crate::to_utf8_lossy) writes for ill-formed sequences
+/// of the whole input: 0 exactly if the input is UTF-16. A U+FFFD of the input does not count.
+///
+/// ```
+/// use dethrux::ByteOrder::LittleEndian;
+///
+/// // U+FFFD, an unpaired surrogate, and half a code unit.
+/// let utf16 = b"\xFD\xFF\0\xDCa";
+/// assert_eq!(dethrux::to_utf8_replacements(LittleEndian, utf16), 2);
+/// ```
+#[must_use]
+pub fn to_utf8_replacements(order: ByteOrder, utf16: &[u8]) -> usize {
+    // SAFETY: the pointer and the length come from a slice.
+    unsafe { ffi::dethrux_to_utf8_replacements(order, utf16.as_ptr(), utf16.len()) }
+}
+
+/// Returns how many U+FFFD [`from_utf8_lossy`](crate::from_utf8_lossy) writes for ill-formed
+/// sequences of the whole input: 0 exactly if the input is UTF-8. A U+FFFD of the input does not
+/// count.
+///
+/// ```
+/// // U+FFFD, a byte that begins nothing, and the start of U+4E00.
+/// assert_eq!(dethrux::from_utf8_replacements(b"\xEF\xBF\xBD\xFF\xE4\xB8"), 2);
+/// ```
+#[must_use]
+pub fn from_utf8_replacements(utf8: &[u8]) -> usize {
+    // SAFETY: the pointer and the length come from a slice.
+    unsafe { ffi::dethrux_from_utf8_replacements(utf8.as_ptr(), utf8.len()) }
+}
+
 /// Compares two texts by their scalar values, each in its byte order: the order of `str` on what
 /// [`to_utf8_lossy`](crate::to_utf8_lossy) writes.
 ///

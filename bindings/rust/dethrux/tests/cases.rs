@@ -71,7 +71,7 @@ enum Call {
 use Call::{Any, Raw, RawAndRaw, RawAndWord, ToBytes, ToText, WordAndRaw};
 
 #[rustfmt::skip]
-const CALLS: [(&str, Call); 40] = [
+const CALLS: [(&str, Call); 42] = [
     ("to_utf8", ToText(to_utf8)),
     ("to_utf8_partial", ToText(to_utf8_partial)),
     ("to_utf8_lossy", ToText(to_utf8_lossy)),
@@ -86,9 +86,11 @@ const CALLS: [(&str, Call); 40] = [
     ("is_ascii", Raw(|order, utf16| one(is_ascii(order, utf16)))),
     ("WStr::is_ascii", Raw(|order, utf16| one(is_ascii(order, utf16)))),
     ("to_utf8_lossy_len", Raw(|order, utf16| one(to_utf8_lossy_len(order, utf16)))),
+    ("to_utf8_replacements", Raw(|order, utf16| one(to_utf8_replacements(order, utf16)))),
     ("to_wtf8_len", Raw(|order, utf16| one(to_wtf8_len(order, utf16)))),
     ("from_utf8_len", Raw(|_, utf8| one(from_utf8_len(utf8)))),
     ("from_utf8_lossy_len", Raw(|_, utf8| one(from_utf8_lossy_len(utf8)))),
+    ("from_utf8_replacements", Raw(|_, utf8| one(from_utf8_replacements(utf8)))),
     ("validate_raw_utf16", Raw(|order, utf16| validity(order, utf16, "done"))),
     ("WStr::from_utf16", Raw(|order, utf16| validity(order, utf16, &hex(utf16)))),
     ("WStr::to_utf8", Raw(|order, utf16| one(text(decode(order, utf16).ok()?)))),

@@ -196,6 +196,11 @@ fn lossy(items: &[Item]) -> String {
     items.iter().map(character).collect()
 }
 
+/// How many items U+FFFD replaces.
+fn replaced(items: &[Item]) -> usize {
+    items.iter().filter(|item| item.character.is_none()).count()
+}
+
 fn written(character: char, to: Option<ByteOrder>) -> Vec<u8> {
     match to {
         None => character.to_string().into_bytes(),
@@ -375,6 +380,7 @@ fn reading_calls_are_of_the_items() {
             .all(|item| matches!(item.character, Some('\0'..='\x7F')));
         assert_eq!(is_ascii(order, utf16), is_ascii_text);
         assert_eq!(to_utf8_lossy_len(order, utf16), lossy(&items).len());
+        assert_eq!(to_utf8_replacements(order, utf16), replaced(&items));
         let is_counted = |unit: &&u16| !matches!(unit, 0xDC00..=0xDFFF);
         let counted = code_units(order, utf16).iter().filter(is_counted).count();
         assert_eq!(count_chars(order, utf16), counted);
@@ -401,6 +407,7 @@ fn reading_calls_are_of_the_items() {
         assert_eq!(from_utf8_len(utf8), strict.len());
         let (_, all) = expected(&items, Some(BigEndian), Stops::Never, usize::MAX);
         assert_eq!(from_utf8_lossy_len(utf8), all.len());
+        assert_eq!(from_utf8_replacements(utf8), replaced(&items));
     }
 }
 

@@ -4,7 +4,10 @@ use crate::buffers::output::add_stop;
 use tests_support::Run;
 use utf16_bytes::{count_chars, is_ascii, swap_byte_order};
 use utf16_fixed::{Repertoire, inspect, to_utf32_lossy_len};
-use utf16_transcode::{from_utf8_len, from_utf8_lossy_len, make_well_formed, to_utf8_lossy_len};
+use utf16_transcode::{
+    from_utf8_len, from_utf8_lossy_len, from_utf8_replacements, make_well_formed,
+    to_utf8_lossy_len, to_utf8_replacements,
+};
 use utf16_units::text::{has_ascii_units, trailing_units};
 use utf16_units::{Utf16Order, first_char_len};
 use utf16_wtf8::to_wtf8_len;
@@ -30,9 +33,11 @@ enum MeasureCall {
     CountChars,
     FromUtf8Len,
     FromUtf8LossyLen,
+    FromUtf8Replacements,
     HasAsciiUnits,
     IsAscii,
     ToUtf8LossyLen,
+    ToUtf8Replacements,
     ToUtf32LossyLen,
     ToWtf8Len,
     TrailingUnits,
@@ -45,9 +50,11 @@ impl MeasureCall {
             "count_chars" => Some(MeasureCall::CountChars),
             "from_utf8_len" => Some(MeasureCall::FromUtf8Len),
             "from_utf8_lossy_len" => Some(MeasureCall::FromUtf8LossyLen),
+            "from_utf8_replacements" => Some(MeasureCall::FromUtf8Replacements),
             "has_ascii_units" => Some(MeasureCall::HasAsciiUnits),
             "is_ascii" => Some(MeasureCall::IsAscii),
             "to_utf8_lossy_len" => Some(MeasureCall::ToUtf8LossyLen),
+            "to_utf8_replacements" => Some(MeasureCall::ToUtf8Replacements),
             "to_utf32_lossy_len" => Some(MeasureCall::ToUtf32LossyLen),
             "to_wtf8_len" => Some(MeasureCall::ToWtf8Len),
             "trailing_units" => Some(MeasureCall::TrailingUnits),
@@ -63,9 +70,11 @@ fn measured<E: Utf16Order>(run: &mut Run, call: MeasureCall) {
         MeasureCall::CountChars => answer.number(count_chars::<E>(&bytes)),
         MeasureCall::FromUtf8Len => answer.number(from_utf8_len(&bytes)),
         MeasureCall::FromUtf8LossyLen => answer.number(from_utf8_lossy_len(&bytes)),
+        MeasureCall::FromUtf8Replacements => answer.number(from_utf8_replacements(&bytes)),
         MeasureCall::HasAsciiUnits => answer.truth(has_ascii_units::<E>(&bytes)),
         MeasureCall::IsAscii => answer.truth(is_ascii::<E>(&bytes)),
         MeasureCall::ToUtf8LossyLen => answer.number(to_utf8_lossy_len::<E>(&bytes)),
+        MeasureCall::ToUtf8Replacements => answer.number(to_utf8_replacements::<E>(&bytes)),
         MeasureCall::ToUtf32LossyLen => answer.number(to_utf32_lossy_len::<E>(&bytes)),
         MeasureCall::ToWtf8Len => answer.number(to_wtf8_len::<E>(&bytes)),
         MeasureCall::TrailingUnits => answer.number(trailing_units::<E>(&bytes)),
