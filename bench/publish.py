@@ -145,8 +145,8 @@ def chart(rows):
                 speeds[(*own[:2], other)] = float(it["theirs"])
     drawn, height, x = [], 0, 300
     for name, colour in BARS.values():
-        drawn.append(f"<rect x='{x}' y='11' width='9' height='9' fill='{colour}'/>")
-        drawn.append(f"<text x='{x + 13}' y='19' font-size='10'>{name}</text>")
+        drawn.append(f"<rect x='{x}' y='11' width='9' height='9' fill='{colour}'/>"
+                     f"<text x='{x + 13}' y='19' font-size='10'>{name}</text>")
         x += 30 + 6 * len(name)
     for at, (call, title) in enumerate(PANELS.items()):
         x, y = 320 * at + 10, 56
@@ -160,8 +160,8 @@ def chart(rows):
             for speed, colour in bars:
                 y, width = y + 10, 260 * speed / max(bars)[0]
                 size = f"width='{width:.1f}' height='9'"
-                drawn.append(f"<rect x='{x}' y='{y + 6}' {size} fill='{colour}'/>")
-                drawn.append(f"<text x='{x + 3 + width:.1f}' y='{y + 14}'>{speed:.2f}</text>")
+                drawn.append(f"<rect x='{x}' y='{y + 6}' {size} fill='{colour}'/>"
+                             f"<text x='{x + 3 + width:.1f}' y='{y + 14}'>{speed:.2f}</text>")
             y += 16
         height = max(height, y + 10)
     head = f"<svg xmlns='http://www.w3.org/2000/svg' viewBox='0 0 960 {height}'"
