@@ -240,23 +240,19 @@ pub(crate) mod sealed {
         fn finish_to(&mut self, to: &mut [u8]) -> usize;
     }
 
-    impl Sealed for Decoder {
-        fn feed<B: Buffer + ?Sized>(&mut self, chunk: &[u8], to: &mut B) -> Progress {
-            Decoder::feed(self, chunk, to)
-        }
+    macro_rules! seal {
+        ($($Stream:ident)*) => {$(
+            impl Sealed for $Stream {
+                fn feed<B: Buffer + ?Sized>(&mut self, chunk: &[u8], to: &mut B) -> Progress {
+                    $Stream::feed(self, chunk, to)
+                }
 
-        fn finish_to(&mut self, to: &mut [u8]) -> usize {
-            Decoder::finish_to(self, to)
-        }
+                fn finish_to(&mut self, to: &mut [u8]) -> usize {
+                    $Stream::finish_to(self, to)
+                }
+            }
+        )*};
     }
 
-    impl Sealed for Encoder {
-        fn feed<B: Buffer + ?Sized>(&mut self, chunk: &[u8], to: &mut B) -> Progress {
-            Encoder::feed(self, chunk, to)
-        }
-
-        fn finish_to(&mut self, to: &mut [u8]) -> usize {
-            Encoder::finish_to(self, to)
-        }
-    }
+    seal!(Decoder Encoder);
 }

@@ -170,50 +170,32 @@ where
     }
 }
 
-impl<I, E> Index<I> for WStr<E>
-where
-    I: SliceIndex<WStr<E>>,
-    E: ByteOrder,
-{
-    type Output = I::Output;
+macro_rules! index_by_ranges {
+    ($($Text:ident)*) => {$(
+        impl<I, E> Index<I> for $Text<E>
+        where
+            I: SliceIndex<WStr<E>>,
+            E: ByteOrder,
+        {
+            type Output = I::Output;
 
-    #[inline]
-    fn index(&self, index: I) -> &I::Output {
-        index.index(self)
-    }
+            #[inline]
+            fn index(&self, index: I) -> &I::Output {
+                index.index(self)
+            }
+        }
+
+        impl<I, E> IndexMut<I> for $Text<E>
+        where
+            I: SliceIndex<WStr<E>>,
+            E: ByteOrder,
+        {
+            #[inline]
+            fn index_mut(&mut self, index: I) -> &mut I::Output {
+                index.index_mut(self)
+            }
+        }
+    )*};
 }
 
-impl<I, E> IndexMut<I> for WStr<E>
-where
-    I: SliceIndex<WStr<E>>,
-    E: ByteOrder,
-{
-    #[inline]
-    fn index_mut(&mut self, index: I) -> &mut I::Output {
-        index.index_mut(self)
-    }
-}
-
-impl<I, E> Index<I> for WString<E>
-where
-    I: SliceIndex<WStr<E>>,
-    E: ByteOrder,
-{
-    type Output = I::Output;
-
-    #[inline]
-    fn index(&self, index: I) -> &I::Output {
-        index.index(self)
-    }
-}
-
-impl<I, E> IndexMut<I> for WString<E>
-where
-    I: SliceIndex<WStr<E>>,
-    E: ByteOrder,
-{
-    #[inline]
-    fn index_mut(&mut self, index: I) -> &mut I::Output {
-        index.index_mut(self)
-    }
-}
+index_by_ranges!(WStr WString);
