@@ -577,6 +577,22 @@ static void other_type(void) {
     check("from_utf8", "char16_t", found.written == 2 && to[0] == u'a' && to[1] == u'b');
 }
 
+/* The capacities are half of those in bytes, which examples/c/check.c tests, or as many bytes. A
+ * `len` may be an expression, and of a smaller type. */
+static void capacities(void) {
+    const unsigned len = 0x80000001u;
+    const size_t bytes = (size_t)len * 2;
+    check("capacities", "of code units", DETHRUX_U16_TO_UTF8_MAX(len) == DETHRUX_UTF8_MAX(bytes)
+        && DETHRUX_U16_TO_UTF8_MAX(len) == DETHRUX_WTF8_MAX(bytes)
+        && DETHRUX_U16_FROM_UTF8_MAX(len) == DETHRUX_UTF16_MAX((size_t)len) / 2
+        && DETHRUX_U16_FROM_UTF32_MAX(len) == DETHRUX_FROM_UTF32_MAX((size_t)len) / 2
+        && DETHRUX_U16_DECODER_FEED_MAX(len) == DETHRUX_DECODER_FEED_MAX(bytes)
+        && DETHRUX_U16_ENCODER_FEED_MAX(len) == DETHRUX_ENCODER_FEED_MAX((size_t)len) / 2
+        && DETHRUX_U16_TO_UTF8_MAX(1 + 1) == 6 && DETHRUX_U16_FROM_UTF8_MAX(1 + 1) * 2 == 4
+        && DETHRUX_U16_FROM_UTF32_MAX(1 + 1) == 4 && DETHRUX_U16_DECODER_FEED_MAX(1 + 1) * 2 == 18
+        && DETHRUX_U16_ENCODER_FEED_MAX(1 + 1) * 2 == 6);
+}
+
 int main(void) {
     for (size_t i = 0; i < sizeof texts / sizeof *texts; i++) {
         look(&texts[i]);
@@ -597,6 +613,7 @@ int main(void) {
     compare();
     search();
     other_type();
+    capacities();
     printf("%d passed, %d failed\n", passed, failed);
     return failed != 0;
 }
