@@ -983,17 +983,16 @@ typedef uint16_t dethrux_unit;
 #define DETHRUX_U16_BYTES_MUT(utf16) ((uint8_t *)(utf16))
 #endif
 
-/**
- * @{
- * A capacity that suffices for every input of length `len`. Both count code units of UTF-16 and
- * UTF-32, and bytes of UTF-8, WTF-8 and Latin-1.
- */
+/** The capacity in bytes for the calls from `len` code units to UTF-8 and WTF-8. */
 #define DETHRUX_U16_TO_UTF8_MAX(len) ((size_t)(len) * 3)
+/** The capacity in code units for the calls from `len` bytes of UTF-8, WTF-8 and Latin-1. */
 #define DETHRUX_U16_FROM_UTF8_MAX(len) ((size_t)(len))
+/** The capacity in code units for the calls from `len` code units of UTF-32. */
 #define DETHRUX_U16_FROM_UTF32_MAX(len) ((size_t)(len) * 2)
+/** The capacity in bytes for dethrux_u16_decoder_feed and dethrux_u16_decoder_feed_wtf8. */
 #define DETHRUX_U16_DECODER_FEED_MAX(len) ((size_t)(len) * 3 + 3)
+/** The capacity in code units for dethrux_u16_encoder_feed. */
 #define DETHRUX_U16_ENCODER_FEED_MAX(len) ((size_t)(len) + 1)
-/** @} */
 
 /** Does what dethrux_validate does, on code units. */
 DETHRUX_U16_RESULT dethrux_validity dethrux_u16_validate(
