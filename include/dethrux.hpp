@@ -819,7 +819,6 @@ progress write_utf8_lossy(byte_order order, bytes text, Out &&to) noexcept {
  * @{
  */
 
-/** @{ */
 /** Returns the text in UTF-16, or where the input is ill formed. */
 template <class String = std::u16string>
 result<String> from_utf8(chars utf8) {
@@ -829,15 +828,15 @@ result<String> from_utf8(chars utf8) {
         detail::append_utf16_by(dethrux_from_utf8, byte_order::native, utf8, to);
     return detail::text_or_error(std::move(to), made, 1);
 }
+
+/** Does the same in bytes of a byte order. */
 template <class String = std::string>
 result<String> from_utf8(byte_order order, chars utf8) {
     String to;
     dethrux_progress made = detail::append_utf16_by(dethrux_from_utf8, order, utf8, to);
     return detail::text_or_error(std::move(to), made, 1);
 }
-/** @} */
 
-/** @{ */
 /**
  * Returns the text in UTF-16, with U+FFFD for each maximal subpart of an ill-formed sequence, as
  * the Unicode Standard recommends.
@@ -849,15 +848,15 @@ template <class String = std::u16string>
     detail::append_utf16_by(dethrux_from_utf8_lossy, byte_order::native, utf8, to);
     return to;
 }
+
+/** Does the same in bytes of a byte order. */
 template <class String = std::string>
 [[nodiscard]] String from_utf8_lossy(byte_order order, chars utf8) {
     String to;
     detail::append_utf16_by(dethrux_from_utf8_lossy, order, utf8, to);
     return to;
 }
-/** @} */
 
-/** @{ */
 /**
  * Appends the text in UTF-16 to a string or vector, which must not be the input: of code units, or
  * of bytes in a byte order. To write a file with a BOM, begin with bom_bytes.
@@ -870,24 +869,25 @@ template <class String>
     return detail::error_of(
         detail::append_utf16_by(dethrux_from_utf8, byte_order::native, utf8, to), 1);
 }
+
+/** Does the same in bytes of a byte order. */
 template <class String>
 [[nodiscard]] std::optional<error> append_utf16(byte_order order, chars utf8, String &to) {
     return detail::error_of(detail::append_utf16_by(dethrux_from_utf8, order, utf8, to), 1);
 }
-/** @} */
 
-/** @{ */
 /** Does the same with U+FFFD for what is ill formed. */
 template <class String>
 void append_utf16_lossy(chars utf8, String &to) {
     static_assert(sizeof(typename String::value_type) == 2, "bytes need a byte order");
     detail::append_utf16_by(dethrux_from_utf8_lossy, byte_order::native, utf8, to);
 }
+
+/** Does the same in bytes of a byte order. */
 template <class String>
 void append_utf16_lossy(byte_order order, chars utf8, String &to) {
     detail::append_utf16_by(dethrux_from_utf8_lossy, order, utf8, to);
 }
-/** @} */
 
 namespace detail {
 
@@ -900,29 +900,29 @@ progress write_utf16_by(conversion call, byte_order order, chars utf8, Out &to) 
 
 } // namespace detail
 
-/** @{ */
 /** Writes the text in UTF-16 to an array or span: dethrux_from_utf8. */
 template <class Out>
 progress write_utf16(chars utf8, Out &&to) noexcept {
     return detail::write_utf16_by<2>(dethrux_from_utf8, byte_order::native, utf8, to);
 }
+
+/** Does the same in bytes of a byte order. */
 template <class Out>
 progress write_utf16(byte_order order, chars utf8, Out &&to) noexcept {
     return detail::write_utf16_by<1>(dethrux_from_utf8, order, utf8, to);
 }
-/** @} */
 
-/** @{ */
 /** Writes the text in UTF-16 to an array or span: dethrux_from_utf8_lossy. */
 template <class Out>
 progress write_utf16_lossy(chars utf8, Out &&to) noexcept {
     return detail::write_utf16_by<2>(dethrux_from_utf8_lossy, byte_order::native, utf8, to);
 }
+
+/** Does the same in bytes of a byte order. */
 template <class Out>
 progress write_utf16_lossy(byte_order order, chars utf8, Out &&to) noexcept {
     return detail::write_utf16_by<1>(dethrux_from_utf8_lossy, order, utf8, to);
 }
-/** @} */
 
 /** @} */
 
@@ -958,7 +958,6 @@ inline result<std::u32string> to_utf32(byte_order order, bytes text) {
     return to_utf32_lossy(utf16(order, text));
 }
 
-/** @{ */
 /** Returns the text in UTF-16, in code units or in bytes, or where the input is ill formed. */
 inline result<std::u16string> from_utf32(points utf32) {
     std::u16string to;
@@ -966,26 +965,27 @@ inline result<std::u16string> from_utf32(points utf32) {
         detail::append_from_utf32_by(dethrux_from_utf32, byte_order::native, utf32, to);
     return detail::text_or_error(std::move(to), made, 1);
 }
+
+/** Does the same in bytes of a byte order. */
 inline result<std::string> from_utf32(byte_order order, points utf32) {
     std::string to;
     dethrux_progress made = detail::append_from_utf32_by(dethrux_from_utf32, order, utf32, to);
     return detail::text_or_error(std::move(to), made, 1);
 }
-/** @} */
 
-/** @{ */
 /** Does the same with U+FFFD for each ill-formed code unit. */
 [[nodiscard]] inline std::u16string from_utf32_lossy(points utf32) {
     std::u16string to;
     detail::append_from_utf32_by(dethrux_from_utf32_lossy, byte_order::native, utf32, to);
     return to;
 }
+
+/** Does the same in bytes of a byte order. */
 [[nodiscard]] inline std::string from_utf32_lossy(byte_order order, points utf32) {
     std::string to;
     detail::append_from_utf32_by(dethrux_from_utf32_lossy, order, utf32, to);
     return to;
 }
-/** @} */
 
 /**
  * Returns the text in Latin-1, or nothing if the input is ill formed or has a character above
@@ -1007,19 +1007,19 @@ inline result<std::string> from_utf32(byte_order order, points utf32) {
     return to_latin1(utf16(order, text));
 }
 
-/** @{ */
 /** Returns the text of Latin-1 in UTF-16, in code units or in bytes. */
 [[nodiscard]] inline std::u16string from_latin1(chars latin1) {
     std::u16string to;
     detail::append_utf16_by(dethrux_from_latin1, byte_order::native, latin1, to);
     return to;
 }
+
+/** Does the same in bytes of a byte order. */
 [[nodiscard]] inline std::string from_latin1(byte_order order, chars latin1) {
     std::string to;
     detail::append_utf16_by(dethrux_from_latin1, order, latin1, to);
     return to;
 }
-/** @} */
 
 namespace detail {
 
@@ -1141,7 +1141,6 @@ inline result<std::string> to_wtf8(byte_order order, bytes text) {
     return detail::text_or_error(std::move(to), made, 1);
 }
 
-/** @{ */
 /** Returns WTF-8 in UTF-16, in code units or in bytes, or where the input is not WTF-8. */
 template <class String = std::u16string>
 result<String> from_wtf8(chars wtf8) {
@@ -1151,12 +1150,13 @@ result<String> from_wtf8(chars wtf8) {
         detail::append_utf16_by(dethrux_from_wtf8, byte_order::native, wtf8, to);
     return detail::text_or_error(std::move(to), made, 1);
 }
+
+/** Does the same in bytes of a byte order. */
 inline result<std::string> from_wtf8(byte_order order, chars wtf8) {
     std::string to;
     dethrux_progress made = detail::append_utf16_by(dethrux_from_wtf8, order, wtf8, to);
     return detail::text_or_error(std::move(to), made, 1);
 }
-/** @} */
 
 /** @} */
 
@@ -1174,7 +1174,6 @@ void swap_byte_order(C &&text) noexcept {
         detail::to_size(text.size()) * size);
 }
 
-/** @{ */
 /**
  * Replaces each unpaired surrogate by U+FFFD, and returns how many there were. The text is code
  * units, or bytes in a byte order.
@@ -1183,12 +1182,13 @@ template <class C>
 std::size_t make_well_formed(C &&text) noexcept {
     return dethrux_u16_make_well_formed(detail::elements<2>(text), detail::to_size(text.size()));
 }
+
+/** Does the same for bytes in a byte order. */
 template <class C>
 std::size_t make_well_formed(byte_order order, C &&text) noexcept {
     return dethrux_make_well_formed(detail::order(order),
         reinterpret_cast<std::uint8_t *>(detail::elements<1>(text)), detail::to_size(text.size()));
 }
-/** @} */
 
 /** @} */
 

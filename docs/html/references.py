@@ -19,7 +19,7 @@ PACKAGE = TOP / "bindings/python/src/dethrux"
 FUNCTION = re.compile(r'^ *X\((\w+), \d, \w+, *"[^"]*",((?:[\s\\]*"(?:\\.|[^"\\])*")+)\)', re.M)
 PROGRAMS = ("utf16_cat", "utf16_enc", "utf16_check")
 # Doxygen's lists of all names, to which no other page of it leads.
-INDEX = re.compile(r"index|functions|globals|namespace(?:s|members)|files|classes")
+INDEX = re.compile(r"index|functions|globals|namespace(?:s|members)|files|classes|hierarchy")
 # A name of C, or before one what may have a name: a link, a heading or a tag.
 NAME = re.compile(r"<(a|h[12]|title)\b.*?</\1>|<[^>]*>|\b((?:dethrux|DETHRUX)_\w+)", re.S)
 HEADERS = """# C and C++
