@@ -1,8 +1,7 @@
 #!/usr/bin/env bash
-# Installs the C library below PREFIX (by default /usr/local), and prints each path. In a clone it
-# first builds the library from the assembly in dist/, and on a machine with rt also the programs;
-# in an unpacked release archive everything is built. With --uninstall it removes what it installed
-# there, and nothing else.
+# Installs the C library and the programs below PREFIX (by default /usr/local), and prints each
+# path. In a clone it first builds them from the assembly in dist/; in an unpacked release archive
+# everything is built. With --uninstall it removes what it installed there, and nothing else.
 #
 #     ./install.sh [--uninstall] [PREFIX]
 #
@@ -68,14 +67,28 @@ put() {
     echo "$root/$2"
 }
 
+# Builds what is installed into a folder. The output of make appears if it fails.
+build() {
+    local tool
+    for tool in "${CC:-cc}" make python3; do
+        command -v "${tool%% *}" > /dev/null ||
+            fail "there is no $tool: install gcc, make and python3"
+    done
+    env -u MAKEFLAGS make -C "$top/dist" "CC=${CC:-cc}" "LEVEL=${LEVEL:-x86-64-v2}" stage \
+        "STAGE=$1" "LIBDIR=$libdir" > "$room/log" 2>&1 || {
+        cat "$room/log" >&2
+        fail 'make -C dist failed'
+    }
+}
+
 # Installs all files of a folder, which has the same folders as PREFIX, and the manifest.
 install_all() {
     local from=$top file line
     room=$(mktemp -d)
     trap 'rm -rf "$room"' EXIT
-    if [ -d "$top/packaging" ]; then
+    if [ -f "$top/dist/Makefile" ]; then
         from=$room/built
-        "$top/packaging/build.sh" "$from" > /dev/null
+        build "$from"
     elif [ "$libdir" != lib ]; then
         fail 'a release archive has its libraries only in lib: unset LIBDIR'
     fi

@@ -1,8 +1,8 @@
 #!/usr/bin/env bash
-# Tests the library for Linux on ARM64, which cross compilers build from dist/, under qemu-aarch64:
-# the tables of cases, the programs of the documents, a decoder of chunks, big buffers, the fuzzing
-# harness with pages of 4 and of 64 KiB, the symbols and the Debian packages. .ci/install.sh tests
-# the release archive.
+# Tests the library and the programs for Linux on ARM64, which cross compilers build from dist/,
+# under qemu-aarch64: the tables of cases, the programs of the documents, a decoder of chunks, big
+# buffers, the fuzzing harness with pages of 4 and of 64 KiB, the symbols and the Debian packages.
+# .ci/install.sh tests the release archive.
 # qemu emulates a Cortex-A53, which has no more than what each ARM64 processor has. If this runs as
 # root, apt-get installs missing tools; a tool that is still missing is a failure. Prints each check
 # that fails; the last line is 'N passed, M failed'.
@@ -21,13 +21,13 @@ warnings=(-O2 -Wall -Wextra -Wpedantic -Werror)
 
 # == dist/
 
-# Builds the library with a compiler and runs its checks: the tables of cases over both libraries,
-# and code units.
+# Builds the library and the programs with a compiler and runs the checks: the tables of cases over
+# both libraries and over the programs, and code units.
 tables() {
     make -s -C "$top/dist" CC="$1" check > "$room/tables"
     local status=$?
     cat "$room/tables"
-    [ $status = 0 ] && [ "$(grep -cxE '[0-9]+ passed, 0 failed' "$room/tables")" = 4 ]
+    [ $status = 0 ] && [ "$(grep -cxE '[0-9]+ passed, 0 failed' "$room/tables")" = 5 ]
 }
 
 # Tests that the shared library has its name, needs only libc, and only what glibc 2.17 has, the
@@ -116,7 +116,7 @@ makes_same_packages() {
     "$top/packaging/release.sh" "$room/debs" deb-arm64 &&
         "$top/packaging/release.sh" "$room/debs again" deb-arm64 &&
         diff -r "$room/debs" "$room/debs again" && [ "$(ls "$room/debs")" = "$(
-            printf '%s\n' "libdethrux-dev_${version}_arm64.deb" "libdethrux0.2_${version}_arm64.deb"
+            printf '%s\n' {dethrux-tools,libdethrux-dev,libdethrux0.2}"_${version}_arm64.deb"
         )" ]
 }
 
@@ -137,9 +137,17 @@ runs_unpacked() {
     with_files "$room/unpacked/usr/lib/$triplet"
 }
 
-# Tests that the packages have neither programs nor a library for another processor.
+# Tests that the programs of the packages run, and need the glibc that the package depends on.
+packed_programs_run() {
+    $triplet-readelf -V "$room"/unpacked/usr/bin/* | grep -o 'GLIBC_[0-9.]*' | sort -V |
+        tail -n 1 | tee "$room/needed" && grep -x GLIBC_2.34 "$room/needed" &&
+        [ "$(dpkg-deb -f "$room"/debs/dethrux-tools_*.deb Depends)" = 'libc6 (>= 2.34)' ] &&
+        programs_run "$room/unpacked/usr/bin" qemu-aarch64
+}
+
+# Tests that the packages have no library for another processor.
 has_no_more() {
-    ! find "$room/unpacked" -path '*/bin/*' -o -path '*hwcaps*' -o -path '*x86*' | grep .
+    ! find "$room/unpacked" -path '*hwcaps*' -o -path '*x86*' | grep .
 }
 
 need "${for_arm64[@]}" $triplet-g++:g++-$triplet qemu-aarch64:qemu-user clang:clang gcc:gcc \
@@ -160,7 +168,8 @@ check_programs
 if check 'the Debian packages, twice' makes_same_packages; then
     check 'lintian' lintian --allow-root --fail-on error,warning "$room"/debs/*.deb
     check 'the packages unpacked' runs_unpacked
-    check 'no programs in the packages' has_no_more
+    check 'the programs of the packages' packed_programs_run
+    check 'no other libraries in the packages' has_no_more
 fi
 wait
 count 'fuzzing' finds_nothing "$room/fuzzing"

@@ -100,6 +100,15 @@ need() {
 for_arm64=(aarch64-linux-gnu-gcc:gcc-aarch64-linux-gnu)
 for_arm64+=(/usr/aarch64-linux-gnu/include/stdio.h:libc6-dev-arm64-cross)
 
+# Tests that the programs of a folder, which more words start, convert and check U+20AC and U+1F600.
+programs_run() {
+    local utf8='\xE2\x82\xAC\xF0\x9F\x98\x80'
+    printf '\xAC\x20\x3D\xD8\x00\xDE' | "${@:2}" "$1/utf16_cat" le | cmp - <(printf "$utf8") &&
+        printf "$utf8" | "${@:2}" "$1/utf16_enc" be |
+        cmp - <(printf '\x20\xAC\xD8\x3D\xDE\x00') &&
+        printf '\xAC\x20\x3D\xD8\x00\xDE' | "${@:2}" "$1/utf16_check" le
+}
+
 # Prints the functions that the header in a folder declares with these words, according to the
 # compiler.
 declared() {

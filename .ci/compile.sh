@@ -1,8 +1,8 @@
 #!/usr/bin/env bash
 # Compiles the C library or a program from the crates that rt ci has just proved:
 # .ci/compile.sh llvm|rattle CRATE FILE [WORD..]. FILE is the static library, or the program, whose
-# object file is FILE.o. More words, such as --target and --cpu, are for the compiler's check and
-# build. TOOLCHAIN names a folder of tools instead of the kit's.
+# object file is FILE.o, or if FILE ends with .o only that. More words, such as --target and --cpu,
+# are for the compiler's check and build. TOOLCHAIN names a folder of tools instead of the kit's.
 #
 # rt ci checks a static library, but does not build it. In a clone in which it proved nothing again
 # it builds no program. It leaves the libraries below without the stamp by which rt lib and rt run
@@ -28,7 +28,7 @@ words+=(--extern "std=$kit/rlibs/std.rlib" -L "dependency=$kit/rlibs")
 words+=(--antt-project "$kit/rattle/logic/antt-project.json")
 words+=(--crate-name "$crate" --links "$crate=" "$@")
 if [ -e src/main.rt ]; then
-    source=src/main.rt made=$to.o
+    source=src/main.rt made=${to%.o}.o
 else
     source=src/lib.rt made=$to
     words+=(--crate-type staticlib)

@@ -1,10 +1,11 @@
 #!/usr/bin/env bash
-# Tests dist/, the library as assembly: that packaging/assembly would write the same files from the
-# crates that rt ci has just proved, that their assembled code is the compiler's, and that make and
-# CMake build libraries of this machine that pass the tables of cases, with gcc and clang and
-# without rt. qemu emulates a processor with AVX2 for the library for x86-64-v3, so this needs none.
-# The other platforms are tested by .ci/arm.sh and .ci/windows.sh. If this runs as root, apt-get
-# installs missing tools; a tool that is still missing is a failure. The last line is
+# Tests dist/, the library and the programs as assembly: that packaging/assembly would write the
+# same files from the crates that rt ci has just proved, that their assembled code is the
+# compiler's, and that make and CMake build libraries and programs of this machine that pass the
+# tables of cases, with gcc and clang and without rt. With an argument, library or programs, it
+# compares only these with the crates. qemu emulates a processor with AVX2 for x86-64-v3, so this
+# needs none. The other platforms are tested by .ci/arm.sh and .ci/windows.sh. If this runs as root,
+# apt-get installs missing tools; a tool that is still missing is a failure. The last line is
 # 'N passed, M failed'.
 set -uo pipefail
 top=$(cd "$(dirname "$0")/.." && pwd)
@@ -14,14 +15,6 @@ trap 'rm -rf "$room"' EXIT
 tools=(aarch64-linux-gnu-gcc:gcc-aarch64-linux-gnu cmake:cmake clang:clang)
 tools+=(x86_64-w64-mingw32-gcc:gcc-mingw-w64-x86-64 qemu-x86_64:qemu-user)
 
-# Runs a step. It counts by the lines 'N passed, 0 failed' of its tests, or as one.
-count() {
-    local tests
-    check "$@" || return
-    tests=$(sed -n 's/^\([0-9]*\) passed, 0 failed\r\?$/\1/p' "$room/said" | paste -sd +)
-    [ -z "$tests" ] || passed=$((passed - 1 + tests))
-}
-
 # Builds and tests dist/ with make, without rt.
 with_make() {
     PATH=/usr/bin:/bin make -C "$clone/dist" BUILD="$room/make-$1" "${@:2}" all check
@@ -30,7 +23,7 @@ with_make() {
 # Tests that nearly no jump of make's object files crosses or ends a block of 32 bytes. Without the
 # option a tenth of them does; gcc's assembler leaves a few.
 keeps_blocks() {
-    objdump -d -w --no-show-raw-insn "$room/make-$1"/linux-x86-64-v?.o | python3 -c '
+    objdump -d -w --no-show-raw-insn "$room/make-$1"/{linux-x86-64-v?,utf16_*}.o | python3 -c '
 import re, sys
 lines = [it.groups() for it in map(re.compile(r" +([0-9a-f]+):\t(\S+)").match, sys.stdin) if it]
 jumps = [(int(at, 16), int(end, 16)) for (at, name), (end, _) in zip(lines, lines[1:])
@@ -58,7 +51,7 @@ installs() {
         chmod +x "$room/path/rt" && git clone -q "$top" "$room/new" &&
         PATH=$room/path:/usr/bin:/bin make -C "$room/new/dist" install PREFIX="$prefix" &&
         [ ! -e "$room/called" ] && [ -s "$prefix/lib/libdethrux.a" ] &&
-        [ -s "$prefix/share/man/man3/dethrux_validate.3" ] && [ ! -e "$prefix/bin" ]
+        [ -s "$prefix/share/man/man3/dethrux_validate.3" ] && [ -x "$prefix/bin/utf16_cat" ]
 }
 
 # Tests that make refuses words with this line.
@@ -75,7 +68,7 @@ refuses_target() {
 }
 
 need "${tools[@]}" || finish
-count 'dist/ is what packaging/assembly writes' "$top/packaging/assembly" --check
+count 'dist/ is what packaging/assembly writes' "$top/packaging/assembly" --check "$@"
 clone="$room/a clone"
 count 'a clone' git clone -q "$top" "$clone"
 count 'make' with_make gcc

@@ -1,8 +1,8 @@
 #!/usr/bin/env bash
 # Installs what is built into empty folders, with install.sh, from the release archives and from the
-# Debian packages, and compiles and runs programs against each. Compares the symbols of the libraries
-# with the header, and the versions in files with VERSION. rt proves nothing here that rt ci has
-# proved. If this runs as root, apt-get installs missing tools; a tool that is still missing is a
+# Debian packages, runs the programs, and compiles and runs programs against each. Compares the
+# symbols of the libraries with the header, and the versions in files with VERSION. Nothing here may
+# call rt. If this runs as root, apt-get installs missing tools; a tool that is still missing is a
 # failure. Prints each check that fails; the last line is 'N passed, M failed'.
 set -uo pipefail
 top=$(cd "$(dirname "$0")/.." && pwd)
@@ -70,14 +70,6 @@ cmake_refuses() {
         "find_package(dethrux $1 REQUIRED)" > "$room/refused/CMakeLists.txt"
     ! cmake -S "$room/refused" -B "$room/refused/out" -DCMAKE_PREFIX_PATH="$prefix" \
         > "$room/log" 2>&1 && grep -F "version: $version" "$room/log"
-}
-
-# Tests that the installed programs convert and check U+20AC and U+1F600.
-programs_run() {
-    local utf8='\xE2\x82\xAC\xF0\x9F\x98\x80'
-    printf '\xAC\x20\x3D\xD8\x00\xDE' | "$1/utf16_cat" le | cmp - <(printf "$utf8") &&
-        printf "$utf8" | "$1/utf16_enc" be | cmp - <(printf '\x20\xAC\xD8\x3D\xDE\x00') &&
-        printf '\xAC\x20\x3D\xD8\x00\xDE' | "$1/utf16_check" le
 }
 
 # Processors that qemu emulates: the best one below each level, and one that has it.
@@ -151,11 +143,10 @@ for_packagers() {
         ! grep -rlF "$room" "$DESTDIR" && "$top/install.sh" --uninstall /usr && [ ! -e "$DESTDIR/usr" ]
 }
 
-# Installs from a clone in which nothing is built, without rt: all but the programs.
-installs_without_rt() {
-    git clone -q "$top" "$room/clone" && PATH=/usr/bin:/bin "$room/clone/install.sh" "$room/no rt" &&
-        diff -r -x bin -x man1 -x install_manifest.txt "$prefix" "$room/no rt" &&
-        [ ! -e "$room/no rt/bin" ]
+# Installs from a clone in which nothing is built.
+installs_from_clone() {
+    git clone -q "$top" "$room/clone" && "$room/clone/install.sh" "$room/from clone" &&
+        diff -r "$prefix" "$room/from clone"
 }
 
 # Tests that release.sh makes these files, and the same ones again. Their names have the version.
@@ -163,8 +154,8 @@ makes_same_release() {
     "$top/packaging/release.sh" "$room/first" && sleep 1 &&
         "$top/packaging/release.sh" "$room/second" && diff -r "$room/first" "$room/second" &&
         diff <(printf '%s\n' SHA256SUMS "dethrux-$version"{,-{dist,{x86_64,aarch64}-linux-gnu}}.tar.gz \
-            "dethrux-$version"{.crate,.tgz,-x86_64-windows.zip} "dethrux-tools_${version}_amd64.deb" \
-            libdethrux{-dev,0.2}"_${version}_"{amd,arm}64.deb | sort) \
+            "dethrux-$version"{.crate,.tgz,-x86_64-windows.zip} \
+            {dethrux-tools,libdethrux{-dev,0.2}}"_${version}_"{amd,arm}64.deb | sort) \
             <(cd "$room/first" && printf '%s\n' * | grep -v "^dethrux-$version-.*\.whl$" | sort) &&
         (cd "$room/first" && sha256sum -c SHA256SUMS)
 }
@@ -174,9 +165,9 @@ unpacks() {
         (cd "$room/dethrux-$version-$1" && sha256sum -c --quiet SHA256SUMS)
 }
 
-# Tests that the archive's install.sh installs, without rt, what the clone's install.sh did.
+# Tests that the archive's install.sh installs what the clone's install.sh did.
 installs_unpacked() {
-    unpacks x86_64-linux-gnu && PATH=/usr/bin:/bin:/usr/sbin:/sbin \
+    unpacks x86_64-linux-gnu &&
         "$room/dethrux-$version-x86_64-linux-gnu/install.sh" "$room/from archive" &&
         diff -r "$room/from archive" "$prefix"
 }
@@ -185,18 +176,18 @@ installs_unpacked() {
 installs_for_arm64() {
     unpacks aarch64-linux-gnu &&
         "$room/dethrux-$version-aarch64-linux-gnu/install.sh" "$room/arm64" &&
-        [ ! -e "$room/arm64/bin" ] &&
+        programs_run "$room/arm64/bin" qemu-aarch64 -L /usr/aarch64-linux-gnu &&
         CC=aarch64-linux-gnu-gcc compile "$(config "$room/arm64" --cflags --libs)" &&
         LD_LIBRARY_PATH="$room/arm64/lib" qemu-aarch64 -L /usr/aarch64-linux-gnu "$room/program"
 }
 
-# Tests that make builds the library from the archive of the assembly, runs the tables of cases, and
-# installs it, without rt.
+# Tests that make builds the libraries and the programs from the archive of the assembly, runs their
+# tables, and installs them.
 builds_sources() {
-    local make=(env PATH=/usr/bin:/bin make -C "$room/dethrux-$version-dist/dist")
+    local make=(make -C "$room/dethrux-$version-dist/dist")
     unpacks dist && "${make[@]}" check > "$room/checked" &&
-        [ "$(grep -cE '^[1-9][0-9]* passed, 0 failed$' "$room/checked")" = 4 ] &&
-        "${make[@]}" install PREFIX="$room/built" && diff -r "$room/built/lib" "$prefix/lib"
+        [ "$(grep -cE '^[1-9][0-9]* passed, 0 failed$' "$room/checked")" = 5 ] &&
+        "${make[@]}" install PREFIX="$room/built" && diff -r "$room/built" "$prefix"
 }
 
 # Compiles and runs programs with the packages below a folder.
@@ -229,7 +220,11 @@ packages_run_installed() {
 need "${for_arm64[@]}" x86_64-w64-mingw32-gcc:gcc-mingw-w64-x86-64 gcc:gcc nm:binutils make:make \
     cmake:cmake pkg-config:pkg-config dh:debhelper dpkg-buildpackage:dpkg-dev lintian:lintian \
     qemu-x86_64:qemu-user npm:npm cargo:cargo || finish
-check 'the build' "$top/packaging/build.sh" || finish
+# Another program with this name, such as Request Tracker's.
+mkdir "$room/path"
+printf '#!/bin/sh\ntouch "%s/called"\nexit 9\n' "$room" > "$room/path/rt"
+chmod +x "$room/path/rt"
+PATH=$room/path:$PATH
 check 'the files with another version' diff /dev/null <(cd "$top" && grep -LE \
     "^(Version $version of |\.Os Dethrux $version\$| \(regex\).* $version\$)" \
     README.md crates/utf16_{cat,enc,check}/*.1 packaging/debian/*.symbols)
@@ -268,7 +263,7 @@ check 'a manifest with an absolute path' keeps_outside "$room/kept"
 check 'a manifest with a path upwards' keeps_outside ../kept
 check 'other files below the prefix' keeps_others
 check 'DESTDIR and LIBDIR' for_packagers
-check 'a clone without rt' installs_without_rt
+check 'a clone' installs_from_clone
 
 if check 'the release, twice' makes_same_release; then
     check 'the archive' installs_unpacked
@@ -280,4 +275,5 @@ if check 'the release, twice' makes_same_release; then
         check 'the packages installed' packages_run_installed
     fi
 fi
+check 'no call of rt' [ ! -e "$room/called" ]
 finish

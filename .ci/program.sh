@@ -3,15 +3,28 @@
 # error and their status. Without arguments it takes each build of utf16_cat, utf16_enc and
 # utf16_check in their crates; if there is none, it builds one over the crates that rt ci proved. A
 # program that is named is run over the cases of utf16_enc or utf16_check if the name of its file
-# begins so. Prints each case that fails, and last a line 'N passed, M failed'.
+# begins so. RUN starts a program of another machine, such as `wine`, and CC compiles for it: a line
+# says how many cases need more than that. Prints each case that fails, and last a line
+# 'N passed, M failed'.
 set -uo pipefail
 top=$(cd "$(dirname "$0")/.." && pwd)
 room=$(mktemp -d)
 trap 'rm -rf "$room"' EXIT
+programs=()
+for program; do programs+=("$(realpath -m "$program")"); done
 cd "$room" || exit 1
 passed=0
 failed=0
-cc -O2 -Wall -shared -fPIC -o faults.so "$top/bench/faults.c" -ldl || exit 1
+left_out=0
+# What only this machine has of what a case needs, and how a library is preloaded.
+case ${RUN-}${OS-} in
+    '') native='^$' preload=LD_PRELOAD ;;
+    *wine* | *Windows_NT) native='with_|ulimit|>&- 2>&-|\((letters|seq) .0000' preload='' ;;
+    *) native='with_little_memory|ulimit -v' preload=QEMU_SET_ENV=LD_PRELOAD ;;
+esac
+export WINEDEBUG=-all
+[ -z "$preload" ] ||
+    ${CC:-cc} -O2 -Wall -shared -fPIC -o faults.so "$top/bench/faults.c" -ldl || exit 1
 mkdir folder
 # The rows of the table, with a tab between columns.
 sed -E '/^(#|$)/d; s/ {2,}/\t/g' "$top/.ci/program.txt" > rows || exit 1
@@ -51,7 +64,7 @@ with_little_memory() {
 # Descriptor 9 gets a byte if the call is made, and one for each later write to where a write
 # failed.
 with_fault() {
-    FAULT_KIND=$1 FAULT_AT=$2 LD_PRELOAD=$PWD/faults.so "$P" "${@:3}"
+    FAULT_KIND=$1 FAULT_AT=$2 env "$preload=$PWD/faults.so" "$P" "${@:3}"
 }
 
 # Runs $P with these arguments and each allocation failing in turn. Prints once what each such run
@@ -72,7 +85,7 @@ with_each_allocation() {
     return $status
 }
 export -f letters units with_little_memory with_fault with_each_allocation
-export P W A FRONT BIG
+export P W A FRONT BIG preload
 
 # Runs a command over a file, and compares what it does with the output, the status and the message
 # of the row.
@@ -92,11 +105,22 @@ try() {
     fi
 }
 
+# Makes `program`, which has no blank in its path and starts a program.
+make_startable() {
+    rm -f program
+    if [ -z "${RUN-}" ]; then
+        ln -s "$1" program
+    else
+        printf '#!/bin/sh\nexec %s "%s" "$@"\n' "$RUN" "$1" > program && chmod +x program
+    fi
+}
+
 # Runs a program over the table.
 run() {
     local whose words input output status message each
     while IFS=$'\t' read -r whose words input output status message; do
         [[ $whose = all || utf16_$whose = "$name" ]] || continue
+        [[ ! "$words $input" =~ $native ]] || { left_out=$((left_out + 1)) && continue; }
         [ "$input" != ! ] || input='h\0i\0' output='h\0i\0' status=2 message=usage
         W=le
         for each in words input output; do
@@ -123,25 +147,27 @@ while IFS=$'\t' read -r whose file command; do
         *) echo "failed: program.txt: no program is $whose" && failed=$((failed + 1)) ;;
     esac
 done < rows
-programs=("$@")
 for name in $([ $# != 0 ] || echo utf16_cat utf16_enc utf16_check); do
     built="$top/crates/$name/out/$name"
     [ -x "$built" ] || "$top/.ci/compile.sh" llvm "$name" "$built" > said 2>&1 || tail -n 3 said
     programs+=("$built")
     [ ! -x "$built.by-rattle" ] || programs+=("$built.by-rattle")
 done
-for P in "${programs[@]}"; do
-    if [ ! -x "$P" ]; then
+P=$room/program
+for program in "${programs[@]}"; do
+    if [ ! -x "$program" ]; then
         failed=$((failed + 1))
-        echo "failed: there is no program $P"
+        echo "failed: there is no program $program"
         continue
     fi
+    make_startable "$program"
     name=utf16_cat orders='le be auto' A=auto BIG=zeros front=front
-    case $(basename "$P") in
+    case $(basename "$program") in
         utf16_enc*) name=utf16_enc orders='le be le-bom be-bom' A=le-bom ;;
         utf16_check*) name=utf16_check BIG=trailing front=front_report ;;
     esac
     run
 done
+[ $left_out = 0 ] || echo "$left_out cases are only for this machine"
 echo "$passed passed, $failed failed"
 [ $failed = 0 ]

@@ -1,11 +1,11 @@
 #!/usr/bin/env bash
-# Builds the library for Windows with MinGW's gcc and with clang, and runs everything under Wine:
-# the tables of cases/, the first programs, the check in C++, the programs of examples/windows and
-# the archive of packaging/release.sh. Tests what the libraries export and call, what a call takes
-# of the stack, and that it keeps the registers that a function must keep there. Then clang compiles
-# for MSVC. If this runs as root, apt-get installs missing tools; a tool that is still missing is a
-# failure. Only MSVC itself is left out, and a line says so. Prints each check that fails; the last
-# line is 'N passed, M failed'.
+# Builds the library and the programs for Windows with MinGW's gcc and with clang, and runs
+# everything under Wine: the tables of cases, the first programs, the check in C++, the programs of
+# examples/windows and the archive of packaging/release.sh. Tests what the libraries export and
+# call, what a call takes of the stack, and that it keeps the registers that a function must keep
+# there. Then clang compiles for MSVC. If this runs as root, apt-get installs missing tools; a tool
+# that is still missing is a failure. Only MSVC itself is left out, and a line says so. Prints each
+# check that fails; the last line is 'N passed, M failed'.
 set -uo pipefail
 top=$(cd "$(dirname "$0")/.." && pwd)
 dist=$top/dist
@@ -24,9 +24,7 @@ export WINEDLLOVERRIDES='mscoree,mshtml=;winemenubuilder.exe,winedbg.exe=d'
 
 # Ends the server of this Wine, and removes what this made.
 clean() {
-    local server
-    server=$(command -v wineserver || command -v /usr/lib/wine/wineserver) &&
-        [ -d "$WINEPREFIX" ] && "$server" -k > /dev/null 2>&1
+    [ ! -d "$WINEPREFIX" ] || "$server" -k > /dev/null 2>&1
     rm -rf "$room"
 }
 trap clean EXIT
@@ -83,14 +81,15 @@ run() {
 
 # == the library
 
-# Builds both libraries with a compiler, and runs the tables with each and the check of code units.
+# Builds both libraries and the programs with a compiler, and runs the tables with each and the
+# check of code units.
 build_and_check() {
     local folder=$room/$1
     shift
     make -C "$dist" "BUILD=$folder" "RUN=$wine" "$@" check | tr -d '\r' > "$room/tables"
     local status=${PIPESTATUS[0]}
     cat "$room/tables"
-    [ "$status" = 0 ] && [ "$(grep -cxE '[0-9]{3,} passed, 0 failed' "$room/tables")" = 4 ]
+    [ "$status" = 0 ] && [ "$(grep -cxE '[0-9]{3,} passed, 0 failed' "$room/tables")" = 5 ]
 }
 
 # Compiles a program and compares all that it prints with the block of text of a page. Windows ends
@@ -195,6 +194,28 @@ passes_status() {
     run "$room/program.exe"
     status=$?
     [ $status = 3 ] && ! run "$room/program.exe" word
+}
+
+# == the programs
+
+# Tests that a program reads a pipe of Windows to its end, which unlike one of Linux is an error.
+reads_pipe() {
+    echo '#include <stdio.h>
+int main(int count, char **words) {
+    FILE *to = _popen(words[count - 1], "wb");
+    return !to || fwrite("h\0i", 1, 4, to) != 4 || _pclose(to);
+}' > "$room/pipe.c" && $gcc "$room/pipe.c" -o "$room/program.exe" &&
+        (cd "$room/gcc" && run ../program.exe 'utf16_cat.exe le') > "$room/found" &&
+        cmp <(printf hi) "$room/found"
+}
+
+# Tests that a program for which there is no memory ends with its message.
+tells_memory() {
+    sed -E 's/block\((malloc|realloc)\(.*\)\);/block(NULL);/' "$dist/programs/system.c" \
+        > "$room/planted.c" && $gcc -O2 -municode "$room/planted.c" "$room/gcc/utf16_cat.o" \
+        -o "$room/program.exe" || return
+    printf 'h\0i\0' | "$wine" "$room/program.exe" le 2> "$room/line"
+    [ $? = 1 ] && diff "$room/line" <(echo 'utf16_cat: out of memory')
 }
 
 # == the stack
@@ -310,7 +331,7 @@ for_windows=(-DCMAKE_SYSTEM_NAME=Windows -DCMAKE_SYSTEM_PROCESSOR=x86_64 "-DCMAK
 installs() {
     make -C "$dist" CC=$gcc install "PREFIX=$1" && [ -s "$1/bin/dethrux.dll" ] &&
         [ -s "$1/lib/libdethrux.dll.a" ] && cmp "$1/lib/dethrux.def" "$dist/src/dethrux.def" &&
-        [ ! -e "$1/bin/utf16_cat" ]
+        [ "$(printf 'h\0i\0' | "$wine" "$1/bin/utf16_cat.exe" le)" = hi ]
 }
 
 uninstalls() {
@@ -343,7 +364,7 @@ tests_by_cmake() {
     cmake -S "$dist" -B "$room/cmake" "${for_windows[@]}" \
         "-DCMAKE_CROSSCOMPILING_EMULATOR=$wine" && cmake --build "$room/cmake" -j 2 &&
         ctest --test-dir "$room/cmake" --output-on-failure > "$room/tested" &&
-        grep -F '100% tests passed, 0 tests failed out of 2' "$room/tested" &&
+        grep -F '100% tests passed, 0 tests failed out of 3' "$room/tested" &&
         dll_exports_header "$room/cmake/dethrux.dll" && imports_memory "$room/cmake/dethrux.dll"
 }
 
@@ -376,8 +397,9 @@ unzips() {
 # Tests that the files of the archive are these.
 has_files() {
     (cd "$1" && find . -type f -printf '%P\n' | sort) | diff <(printf '%s\n' CHANGELOG.md \
-        LICENSE-{APACHE,MIT} README.md SHA256SUMS THIRD-PARTY.md VERSION bin/dethrux.dll \
-        docs/{C,CPP,INSTALL}.md include/dethrux.{h,hpp} \
+        LICENSE-{APACHE,MIT} README.md SHA256SUMS THIRD-PARTY.md VERSION \
+        bin/{dethrux.dll,utf16_{cat,check,enc}.exe} docs/{C,CPP,INSTALL}.md \
+        include/dethrux.{h,hpp} \
         lib/{cmake/dethrux/dethruxConfig{,Version}.cmake,dethrux.def,libdethrux.{a,dll.a}} \
         lib/pkgconfig/dethrux.pc | sort) -
 }
@@ -427,6 +449,9 @@ runs_for_msvc() {
 need "${tools[@]}" || finish
 wine=$(wine_program)
 mingw=$(dirname "$($gcc -print-libgcc-file-name)")
+server=$(command -v wineserver || command -v /usr/lib/wine/wineserver)
+# It ends with this, and not before: a program cannot start while a server ends.
+mkdir "$WINEPREFIX" && "$server" -p
 check 'Wine' run wineboot -i || finish
 
 check 'the tables by gcc' build_and_check gcc CC=$gcc || finish
@@ -450,6 +475,8 @@ for register in rdi rsi xmm6 xmm15; do
     check "a lost $register" sees_register $register
 done
 check_stack
+check 'a pipe of Windows' reads_pipe
+check 'too little memory' tells_memory
 
 for compiler in gcc clang; do
     check "the first program in C by $compiler" prints_page $compiler "$examples/c/first.c" C

@@ -89,7 +89,7 @@ pack() {
 built() {
     need "$2"
     name=dethrux-$version-$1
-    CC=$2 LEVEL=x86-64-v2 LIBDIR=lib "$here/build.sh" "$room/$name" > "$room/log"
+    run make -C "$top/dist" "CC=$2" LEVEL=x86-64-v2 LIBDIR=lib stage "STAGE=$room/$name"
     [[ $1 != *-windows ]] || rm -r "$room/$name/share"
     copy "${@:3}"
     cp "$here/README.md" "$room/$name/"
@@ -112,8 +112,8 @@ make_windows() {
 
 make_dist() {
     name=dethrux-$version-dist
-    copy install.sh cases dist docs/{C,CPP}.md examples/c/{check,decode,first,fixed,units}.c include \
-        packaging/{build.sh,man3}
+    copy install.sh .ci/program.{sh,txt} bench/faults.c cases crates/utf16_{cat,enc,check}/*.1 \
+        dist docs/{C,CPP}.md examples/c/{check,decode,first,fixed,units}.c include packaging/man3
     cp "$top/dist/README.md" "$room/$name/"
     pack
 }

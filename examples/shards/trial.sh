@@ -28,11 +28,11 @@ if [ "${1:-}" = --small ]; then
 fi
 room=$(mktemp -d -p "${ROOM:-${TMPDIR:-/tmp}}")
 trap 'rm -rf "$room"' EXIT
-if ! "$top/packaging/build.sh" > /dev/null ||
+if ! make -s -C "$top/dist" > /dev/null ||
     ! PYTHON=$python "$top/bindings/python/build.sh" "$room/package"; then
     echo 'failed: the build'
     echo '0 passed, 1 failed'
     exit 1
 fi
-export PYTHONPATH=$room/package PATH=$top/packaging/out:$PATH
+export PYTHONPATH=$room/package PATH=$(make -s -C "$top/dist" folder):$PATH
 cd "$room" && "$python" "$here/trial.py" "$@"
