@@ -38,13 +38,13 @@ reported() {
 }
 
 # Runs $P in a byte order with so little memory that it starts and an allocation fails. The limit is
-# searched between one at which it does not start, so that the shell, the loader or a signal gives
+# searched between one at which it does not start, so that prlimit, the loader or a signal gives
 # the status, and one at which it succeeds.
 with_little_memory() {
     local low=0 high=1048576 limit status
     while [ $((high - low)) -gt 1 ]; do
         limit=$(((low + high) / 2))
-        (ulimit -v $limit; exec "$P" "$1") > part 2> line < front
+        prlimit --as=$((limit * 1024)) "$P" "$1" > part 2> line < front
         status=$?
         if [ $status = 0 ]; then
             high=$limit
