@@ -454,54 +454,30 @@ typedef struct {
 /* The calls over a state that ends or begins where its buffers do; and over one type of state, so
  * that the checks are for both. */
 
-static dethrux_progress feed_utf16(dethrux_decoder *decoder, dethrux_byte_order order,
-                                   const uint8_t *chunk, size_t len, uint8_t *to, size_t capacity) {
-    dethrux_decoder *state = guarded_state(decoder, sizeof *decoder, situation.at);
-    dethrux_progress got = dethrux_decoder_feed(state, order, chunk, len, to, capacity);
-    memcpy(decoder, state, sizeof *decoder);
-    return got;
-}
+#define FEED_BY(name, state_of, call) \
+    static dethrux_progress name(dethrux_decoder *decoder, dethrux_byte_order order, \
+                                 const uint8_t *chunk, size_t len, uint8_t *to, size_t capacity) { \
+        state_of *state = guarded_state(decoder, sizeof *decoder, situation.at); \
+        dethrux_progress got = call(state, order, chunk, len, to, capacity); \
+        memcpy(decoder, state, sizeof *decoder); \
+        return got; \
+    }
+FEED_BY(feed_utf16, dethrux_decoder, dethrux_decoder_feed)
+FEED_BY(feed_utf8, dethrux_encoder, dethrux_encoder_feed)
+FEED_BY(feed_wtf8, dethrux_decoder, dethrux_decoder_feed_wtf8)
 
-static dethrux_progress finish_utf16(dethrux_decoder *decoder, dethrux_byte_order order,
-                                     uint8_t *to, size_t capacity) {
-    (void)order;
-    dethrux_decoder *state = guarded_state(decoder, sizeof *decoder, situation.at);
-    dethrux_progress got = dethrux_decoder_finish(state, to, capacity);
-    memcpy(decoder, state, sizeof *decoder);
-    return got;
-}
-
-static dethrux_progress feed_utf8(dethrux_decoder *decoder, dethrux_byte_order order,
-                                  const uint8_t *chunk, size_t len, uint8_t *to, size_t capacity) {
-    dethrux_encoder *state = guarded_state(decoder, sizeof *decoder, situation.at);
-    dethrux_progress got = dethrux_encoder_feed(state, order, chunk, len, to, capacity);
-    memcpy(decoder, state, sizeof *decoder);
-    return got;
-}
-
-static dethrux_progress finish_utf8(dethrux_decoder *decoder, dethrux_byte_order order, uint8_t *to,
-                                    size_t capacity) {
-    dethrux_encoder *state = guarded_state(decoder, sizeof *decoder, situation.at);
-    dethrux_progress got = dethrux_encoder_finish(state, order, to, capacity);
-    memcpy(decoder, state, sizeof *decoder);
-    return got;
-}
-
-static dethrux_progress feed_wtf8(dethrux_decoder *decoder, dethrux_byte_order order,
-                                  const uint8_t *chunk, size_t len, uint8_t *to, size_t capacity) {
-    dethrux_decoder *state = guarded_state(decoder, sizeof *decoder, situation.at);
-    dethrux_progress got = dethrux_decoder_feed_wtf8(state, order, chunk, len, to, capacity);
-    memcpy(decoder, state, sizeof *decoder);
-    return got;
-}
-
-static dethrux_progress finish_wtf8(dethrux_decoder *decoder, dethrux_byte_order order, uint8_t *to,
-                                    size_t capacity) {
-    dethrux_decoder *state = guarded_state(decoder, sizeof *decoder, situation.at);
-    dethrux_progress got = dethrux_decoder_finish_wtf8(state, order, to, capacity);
-    memcpy(decoder, state, sizeof *decoder);
-    return got;
-}
+#define FINISH_BY(name, state_of, ...) \
+    static dethrux_progress name(dethrux_decoder *decoder, dethrux_byte_order order, uint8_t *to, \
+                                 size_t capacity) { \
+        (void)order; \
+        state_of *state = guarded_state(decoder, sizeof *decoder, situation.at); \
+        dethrux_progress got = __VA_ARGS__; \
+        memcpy(decoder, state, sizeof *decoder); \
+        return got; \
+    }
+FINISH_BY(finish_utf16, dethrux_decoder, dethrux_decoder_finish(state, to, capacity))
+FINISH_BY(finish_utf8, dethrux_encoder, dethrux_encoder_finish(state, order, to, capacity))
+FINISH_BY(finish_wtf8, dethrux_decoder, dethrux_decoder_finish_wtf8(state, order, to, capacity))
 
 static void decode_chunk_to_wtf8(dethrux_byte_order order, const uint8_t *bytes, size_t len,
                                  decoded *to) {

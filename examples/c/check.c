@@ -983,6 +983,12 @@ static bool call_shard(dethrux_byte_order order, char **values, size_t count, te
     return count == 3;
 }
 
+/* A call of the tables that shares its body with others. */
+#define CALLED(name, by, call) \
+    static bool name(dethrux_byte_order order, char **values, size_t count, text *answer) { \
+        return by(call, order, values, count, answer); \
+    }
+
 typedef size_t search(dethrux_byte_order order, const uint8_t *utf16, size_t len, const uint8_t *pattern, size_t pattern_len);
 
 static bool search_by(search *make, dethrux_byte_order order, char **values, size_t count, text *answer) {
@@ -1001,13 +1007,8 @@ static bool search_by(search *make, dethrux_byte_order order, char **values, siz
     return is;
 }
 
-static bool call_find(dethrux_byte_order order, char **values, size_t count, text *answer) {
-    return search_by(dethrux_find, order, values, count, answer);
-}
-
-static bool call_rfind(dethrux_byte_order order, char **values, size_t count, text *answer) {
-    return search_by(dethrux_rfind, order, values, count, answer);
-}
+CALLED(call_find, search_by, dethrux_find)
+CALLED(call_rfind, search_by, dethrux_rfind)
 
 /* UTF-32 is spelled by its bytes in big endian. Returns its code units, and makes `count` their
  * number. */
@@ -1050,13 +1051,8 @@ static bool to_utf32_by(widen *make, dethrux_byte_order order, char **values, si
     return is;
 }
 
-static bool call_to_utf32(dethrux_byte_order order, char **values, size_t count, text *answer) {
-    return to_utf32_by(dethrux_to_utf32, order, values, count, answer);
-}
-
-static bool call_to_utf32_lossy(dethrux_byte_order order, char **values, size_t count, text *answer) {
-    return to_utf32_by(dethrux_to_utf32_lossy, order, values, count, answer);
-}
+CALLED(call_to_utf32, to_utf32_by, dethrux_to_utf32)
+CALLED(call_to_utf32_lossy, to_utf32_by, dethrux_to_utf32_lossy)
 
 typedef dethrux_progress narrow(dethrux_byte_order order, const uint32_t *from, size_t len, uint8_t *to, size_t room);
 
@@ -1082,13 +1078,8 @@ static bool from_utf32_by(narrow *make, dethrux_byte_order order, char **values,
     return is;
 }
 
-static bool call_from_utf32(dethrux_byte_order order, char **values, size_t count, text *answer) {
-    return from_utf32_by(dethrux_from_utf32, order, values, count, answer);
-}
-
-static bool call_from_utf32_lossy(dethrux_byte_order order, char **values, size_t count, text *answer) {
-    return from_utf32_by(dethrux_from_utf32_lossy, order, values, count, answer);
-}
+CALLED(call_from_utf32, from_utf32_by, dethrux_from_utf32)
+CALLED(call_from_utf32_lossy, from_utf32_by, dethrux_from_utf32_lossy)
 
 static bool latin1_by(convert *make, dethrux_byte_order order, char **values, size_t count, text *answer) {
     text from = {0};
@@ -1108,13 +1099,8 @@ static bool latin1_by(convert *make, dethrux_byte_order order, char **values, si
     return is;
 }
 
-static bool call_to_latin1(dethrux_byte_order order, char **values, size_t count, text *answer) {
-    return latin1_by(dethrux_to_latin1, order, values, count, answer);
-}
-
-static bool call_from_latin1(dethrux_byte_order order, char **values, size_t count, text *answer) {
-    return latin1_by(dethrux_from_latin1, order, values, count, answer);
-}
+CALLED(call_to_latin1, latin1_by, dethrux_to_latin1)
+CALLED(call_from_latin1, latin1_by, dethrux_from_latin1)
 
 static void ask_from_utf32_len(dethrux_byte_order order, const text *raw, text *answer) {
     size_t len;
