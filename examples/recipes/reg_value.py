@@ -12,7 +12,7 @@ bom = dethrux.detect_bom(raw, "little")
 text = dethrux.decode(raw[bom.len :], bom.byteorder, "replace")
 
 wanted = f'"{sys.argv[2]}"='
-for line in text.splitlines():
+for line in text.split("\r\n"):
     if line.startswith(wanted):
         print(line[len(wanted) :])
         break

@@ -57,6 +57,8 @@ utf16() {
 
 printf '\xEF\xBB\xBFWindows Registry Editor\r\n"Pat"="no"\r\n"Path"="C:\\\\Grüße"\r\n' | utf16 UTF-16LE
 prints reg_value '"C:\\\\Grüße"\n' input Path
+printf '"Path"="a\xE2\x80\xA8b"\r\n' | utf16 UTF-16LE
+prints reg_value '"a\xE2\x80\xA8b"\n' input Path
 printf '"Path"="without a BOM"\r\n' | utf16 UTF-16LE
 prints reg_value '"without a BOM"\n' input Path
 printf '\3a\0\0\xD8b\0\1\0\xDC\4\x3D\xD8\0\xDE\xE4\0\0\xD8' > input
