@@ -76,7 +76,7 @@ count 'make with clang' with_make clang CC=clang
 for compiler in gcc clang; do
     count "jumps by $compiler" keeps_blocks $compiler
 done
-count 'make for x86-64-v3' with_make v3 LEVEL=x86-64-v3 RUN='qemu-x86_64 -cpu Haswell'
+count 'make for x86-64-v3' with_make v3 LEVEL=x86-64-v3 RUN='qemu-x86_64 -cpu max'
 count 'make install' installs
 count 'CMake' with_cmake
 for target in i686-linux-gnu x86_64-linux-gnux32 riscv64-linux-gnu x86_64-unknown-freebsd; do
