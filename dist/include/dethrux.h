@@ -369,6 +369,29 @@ DETHRUX_NODISCARD size_t dethrux_from_utf8_len(const uint8_t *utf8, size_t len);
 DETHRUX_NODISCARD size_t dethrux_from_utf8_lossy_len(const uint8_t *utf8, size_t len);
 
 /**
+ * Returns how many U+FFFD dethrux_to_utf8_lossy writes for ill-formed sequences of the whole input.
+ *
+ * A U+FFFD of the input is a character, and does not count. dethrux_to_utf32_lossy writes as many.
+ *
+ * @return 0 if and only if the input is well formed
+ * @ingroup dethrux_lossy
+ */
+DETHRUX_NODISCARD size_t dethrux_to_utf8_replacements(
+    dethrux_byte_order byte_order, const uint8_t *utf16, size_t len);
+
+/**
+ * Returns how many U+FFFD dethrux_from_utf8_lossy writes for ill-formed sequences of the whole
+ * input.
+ *
+ * A U+FFFD of the input is a character, and does not count. The number is the same in either byte
+ * order.
+ *
+ * @return 0 if and only if the input is well formed
+ * @ingroup dethrux_lossy
+ */
+DETHRUX_NODISCARD size_t dethrux_from_utf8_replacements(const uint8_t *utf8, size_t len);
+
+/**
  * Converts UTF-16 to UTF-8, up to the first ill-formed sequence, an unpaired surrogate of 2 bytes.
  *
  * @param capacity `len / 2 * 3` suffices, and so does DETHRUX_UTF8_MAX(len)
@@ -960,6 +983,17 @@ typedef uint16_t dethrux_unit;
 #define DETHRUX_U16_BYTES_MUT(utf16) ((uint8_t *)(utf16))
 #endif
 
+/** The capacity in bytes for the calls from `len` code units to UTF-8 and WTF-8. */
+#define DETHRUX_U16_TO_UTF8_MAX(len) ((size_t)(len) * 3)
+/** The capacity in code units for the calls from `len` bytes of UTF-8, WTF-8 and Latin-1. */
+#define DETHRUX_U16_FROM_UTF8_MAX(len) ((size_t)(len))
+/** The capacity in code units for the calls from `len` code units of UTF-32. */
+#define DETHRUX_U16_FROM_UTF32_MAX(len) ((size_t)(len) * 2)
+/** The capacity in bytes for dethrux_u16_decoder_feed and dethrux_u16_decoder_feed_wtf8. */
+#define DETHRUX_U16_DECODER_FEED_MAX(len) ((size_t)(len) * 3 + 3)
+/** The capacity in code units for dethrux_u16_encoder_feed. */
+#define DETHRUX_U16_ENCODER_FEED_MAX(len) ((size_t)(len) + 1)
+
 /** Does what dethrux_validate does, on code units. */
 DETHRUX_U16_RESULT dethrux_validity dethrux_u16_validate(
     const dethrux_unit *utf16, size_t len) {
@@ -989,6 +1023,12 @@ DETHRUX_U16_RESULT bool dethrux_u16_is_ascii(const dethrux_unit *utf16, size_t l
 DETHRUX_U16_RESULT size_t dethrux_u16_to_utf8_lossy_len(
     const dethrux_unit *utf16, size_t len) {
     return dethrux_to_utf8_lossy_len(DETHRUX_NATIVE_ENDIAN, DETHRUX_U16_BYTES(utf16), len * 2);
+}
+
+/** Does what dethrux_to_utf8_replacements does, on code units. */
+DETHRUX_U16_RESULT size_t dethrux_u16_to_utf8_replacements(
+    const dethrux_unit *utf16, size_t len) {
+    return dethrux_to_utf8_replacements(DETHRUX_NATIVE_ENDIAN, DETHRUX_U16_BYTES(utf16), len * 2);
 }
 
 /**

@@ -21,6 +21,8 @@ CALL(bool, dethrux_is_ascii, (dethrux_byte_order byte_order, const uint8_t *utf1
 CALL(size_t, dethrux_to_utf8_lossy_len, (dethrux_byte_order byte_order, const uint8_t *utf16, size_t len), (byte_order, utf16, len))
 CALL(size_t, dethrux_from_utf8_len, (const uint8_t *utf8, size_t len), (utf8, len))
 CALL(size_t, dethrux_from_utf8_lossy_len, (const uint8_t *utf8, size_t len), (utf8, len))
+CALL(size_t, dethrux_to_utf8_replacements, (dethrux_byte_order byte_order, const uint8_t *utf16, size_t len), (byte_order, utf16, len))
+CALL(size_t, dethrux_from_utf8_replacements, (const uint8_t *utf8, size_t len), (utf8, len))
 CALL(dethrux_progress, dethrux_to_utf8, (dethrux_byte_order byte_order, const uint8_t *utf16, size_t len, uint8_t *to, size_t capacity), (byte_order, utf16, len, to, capacity))
 CALL(dethrux_progress, dethrux_to_utf8_lossy, (dethrux_byte_order byte_order, const uint8_t *utf16, size_t len, uint8_t *to, size_t capacity), (byte_order, utf16, len, to, capacity))
 CALL(dethrux_progress, dethrux_to_utf8_partial, (dethrux_byte_order byte_order, const uint8_t *utf16, size_t len, uint8_t *to, size_t capacity), (byte_order, utf16, len, to, capacity))
