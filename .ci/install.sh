@@ -222,7 +222,7 @@ need "${for_arm64[@]}" x86_64-w64-mingw32-gcc:gcc-mingw-w64-x86-64 gcc:gcc nm:bi
     qemu-x86_64:qemu-user npm:npm cargo:cargo || finish
 # Another program with this name, such as Request Tracker's.
 mkdir "$room/path"
-printf '#!/bin/sh\ntouch "%s/called"\nexit 9\n' "$room" > "$room/path/rt"
+printf '#!/bin/sh\ntouch "%s/rt was called"\nexit 9\n' "$room" > "$room/path/rt"
 chmod +x "$room/path/rt"
 PATH=$room/path:$PATH
 check 'the files with another version' diff /dev/null <(cd "$top" && grep -LE \
@@ -275,5 +275,5 @@ if check 'the release, twice' makes_same_release; then
         check 'the packages installed' packages_run_installed
     fi
 fi
-check 'no call of rt' [ ! -e "$room/called" ]
+check 'no call of rt' [ ! -e "$room/rt was called" ]
 finish
