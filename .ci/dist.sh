@@ -44,16 +44,6 @@ with_cmake() {
         "$room/user/user_shared" && "$room/user/user_static"
 }
 
-# Installs dist/ in a clone that has not built it, with an rt that must not be called.
-installs() {
-    local prefix=$room/installed
-    mkdir "$room/path" && printf '#!/bin/sh\ntouch "%s/called"\nexit 9\n' "$room" > "$room/path/rt" &&
-        chmod +x "$room/path/rt" && git clone -q "$top" "$room/new" &&
-        PATH=$room/path:/usr/bin:/bin make -C "$room/new/dist" install PREFIX="$prefix" &&
-        [ ! -e "$room/called" ] && [ -s "$prefix/lib/libdethrux.a" ] &&
-        [ -s "$prefix/share/man/man3/dethrux_validate.3" ] && [ -x "$prefix/bin/utf16_cat" ]
-}
-
 # Tests that make refuses words with this line.
 refuses() {
     local line=$1
@@ -77,7 +67,6 @@ for compiler in gcc clang; do
     count "jumps by $compiler" keeps_blocks $compiler
 done
 count 'make for x86-64-v3' with_make v3 LEVEL=x86-64-v3 RUN='qemu-x86_64 -cpu max'
-count 'make install' installs
 count 'CMake' with_cmake
 for target in i686-linux-gnu x86_64-linux-gnux32 riscv64-linux-gnu x86_64-unknown-freebsd; do
     count "a compiler for $target" refuses_target "$target"
