@@ -93,16 +93,19 @@ try() {
     local line="$name: $message\n" found
     [ -n "$message" ] || line=''
     [ "$message" != usage ] || line="usage: $name ${orders// /|}\n"
-    bash -c "$1" > found 2> errors < "$2"
-    found=$?
-    # shellcheck disable=SC2059
-    if [ $found = "${status:-0}" ] && printf "${output//\$NAME/$name}" | cmp -s - found &&
-        printf "$line" | cmp -s - errors; then
-        passed=$((passed + 1))
-    else
-        failed=$((failed + 1))
-        echo "failed: $name: $words ${input//\$W/$W}: status $found, $(head -c 200 errors)"
-    fi
+    # On a busy machine wine does not always start a program, so a case is tried twice.
+    for _ in 1 ${RUN:+2}; do
+        bash -c "$1" > found 2> errors < "$2"
+        found=$?
+        # shellcheck disable=SC2059
+        if [ $found = "${status:-0}" ] && printf "${output//\$NAME/$name}" | cmp -s - found &&
+            printf "$line" | cmp -s - errors; then
+            passed=$((passed + 1))
+            return
+        fi
+    done
+    failed=$((failed + 1))
+    echo "failed: $name: $words ${input//\$W/$W}: status $found, $(head -c 200 errors)"
 }
 
 # Makes `program`, which has no blank in its path and starts a program.
