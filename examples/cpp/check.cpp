@@ -951,11 +951,9 @@ static void types() {
     const byte_order order = byte_order::big;
     constexpr dethrux_byte_order any{5u};
     static_assert(any == 5);
-    static_assert(noexcept(dethrux::validate(order, text)));
-    static_assert(noexcept(dethrux::validate(wide)));
+    static_assert(noexcept(dethrux::validate(order, text)) && noexcept(dethrux::validate(wide)));
     static_assert(noexcept(dethrux::count_chars(order, text)));
-    static_assert(noexcept(dethrux::count_chars(wide)));
-    static_assert(noexcept(dethrux::is_ascii(order, text)));
+    static_assert(noexcept(dethrux::count_chars(wide)) && noexcept(dethrux::is_ascii(order, text)));
     static_assert(noexcept(dethrux::is_ascii(wide)));
     static_assert(noexcept(dethrux::to_utf8_replacements(order, text)));
     static_assert(noexcept(dethrux::to_utf8_replacements(wide)));
@@ -976,12 +974,9 @@ static void types() {
     static_assert(noexcept(dethrux::swap_byte_order(changed_wide)));
     static_assert(noexcept(dethrux::make_well_formed(order, changed)));
     static_assert(noexcept(dethrux::make_well_formed(changed_wide)));
-    static_assert(noexcept(dethrux::decoder()));
-    static_assert(noexcept(dethrux::encoder()));
-    static_assert(noexcept(dethrux::decoder().pending()));
-    static_assert(noexcept(dethrux::encoder().pending()));
-    static_assert(noexcept(dethrux::wtf8_decoder()));
-    static_assert(noexcept(dethrux::wtf8_encoder()));
+    static_assert(noexcept(dethrux::decoder()) && noexcept(dethrux::encoder()));
+    static_assert(noexcept(dethrux::decoder().pending()) && noexcept(dethrux::encoder().pending()));
+    static_assert(noexcept(dethrux::wtf8_decoder()) && noexcept(dethrux::wtf8_encoder()));
     static_assert(noexcept(dethrux::wtf8_decoder().pending()));
     static_assert(noexcept(dethrux::wtf8_encoder().pending()));
     static_assert(!std::is_convertible_v<byte_order, dethrux::wtf8_decoder>);
@@ -994,8 +989,7 @@ static void types() {
     static_assert(std::is_same_v<decltype(*std::declval<result &>()), std::string &>);
     static_assert(std::is_same_v<decltype(*std::declval<const result &>()), const std::string &>);
     static_assert(std::is_same_v<decltype(*std::declval<result>()), std::string &&>);
-    static_assert(noexcept(*std::declval<result &>()));
-    static_assert(noexcept(*std::declval<const result &>()));
+    static_assert(noexcept(*std::declval<result &>()) && noexcept(*std::declval<const result &>()));
     static_assert(noexcept(*std::declval<result>()));
     static_assert(std::is_same_v<decltype(std::declval<result &>().operator->()), std::string *>);
     static_assert(
