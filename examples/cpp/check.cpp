@@ -685,11 +685,12 @@ static bool has_no_value(Call call, dethrux::error reason, const char *message) 
     return false;
 }
 
-template <class Call>
-static bool has_no_error(Call call) {
+// Whether a call throws an exception of this type.
+template <class Exception, class Call>
+static bool throws(Call call) {
     try {
         call();
-    } catch (const std::bad_variant_access &) {
+    } catch (const Exception &) {
         return true;
     }
     return false;
@@ -720,7 +721,8 @@ static void results() {
             && has_no_value([&] { (void)std::move(lost).value(); }, {0, 1}, says)
             && has_no_value([] { (void)dethrux::to_utf8(u"ab\xD800").value(); }, {2, 0},
                 "incomplete character at offset 2"));
-    check("the error of a value", has_no_error([&] { (void)found_const.error(); }));
+    check("the error of a value",
+        throws<std::bad_variant_access>([&] { (void)found_const.error(); }));
     check("a value or another of a result that is kept",
         found_const.value_or("other") == "text" && lost_const.value_or("other") == "other"
             && *found_const == "text");
@@ -951,9 +953,9 @@ static void types() {
     const byte_order order = byte_order::big;
     constexpr dethrux_byte_order any{5u};
     static_assert(any == 5);
-    static_assert(noexcept(dethrux::validate(order, text)) && noexcept(dethrux::validate(wide)));
+    static_assert(noexcept(dethrux::validate(order, text)) &&noexcept(dethrux::validate(wide)));
     static_assert(noexcept(dethrux::count_chars(order, text)));
-    static_assert(noexcept(dethrux::count_chars(wide)) && noexcept(dethrux::is_ascii(order, text)));
+    static_assert(noexcept(dethrux::count_chars(wide)) &&noexcept(dethrux::is_ascii(order, text)));
     static_assert(noexcept(dethrux::is_ascii(wide)));
     static_assert(noexcept(dethrux::to_utf8_replacements(order, text)));
     static_assert(noexcept(dethrux::to_utf8_replacements(wide)));
@@ -974,9 +976,9 @@ static void types() {
     static_assert(noexcept(dethrux::swap_byte_order(changed_wide)));
     static_assert(noexcept(dethrux::make_well_formed(order, changed)));
     static_assert(noexcept(dethrux::make_well_formed(changed_wide)));
-    static_assert(noexcept(dethrux::decoder()) && noexcept(dethrux::encoder()));
-    static_assert(noexcept(dethrux::decoder().pending()) && noexcept(dethrux::encoder().pending()));
-    static_assert(noexcept(dethrux::wtf8_decoder()) && noexcept(dethrux::wtf8_encoder()));
+    static_assert(noexcept(dethrux::decoder()) &&noexcept(dethrux::encoder()));
+    static_assert(noexcept(dethrux::decoder().pending()) &&noexcept(dethrux::encoder().pending()));
+    static_assert(noexcept(dethrux::wtf8_decoder()) &&noexcept(dethrux::wtf8_encoder()));
     static_assert(noexcept(dethrux::wtf8_decoder().pending()));
     static_assert(noexcept(dethrux::wtf8_encoder().pending()));
     static_assert(!std::is_convertible_v<byte_order, dethrux::wtf8_decoder>);
@@ -989,7 +991,7 @@ static void types() {
     static_assert(std::is_same_v<decltype(*std::declval<result &>()), std::string &>);
     static_assert(std::is_same_v<decltype(*std::declval<const result &>()), const std::string &>);
     static_assert(std::is_same_v<decltype(*std::declval<result>()), std::string &&>);
-    static_assert(noexcept(*std::declval<result &>()) && noexcept(*std::declval<const result &>()));
+    static_assert(noexcept(*std::declval<result &>()) &&noexcept(*std::declval<const result &>()));
     static_assert(noexcept(*std::declval<result>()));
     static_assert(std::is_same_v<decltype(std::declval<result &>().operator->()), std::string *>);
     static_assert(
@@ -1137,8 +1139,9 @@ static void boms() {
         check("bom_bytes", dethrux::bom_bytes(order) == in_form("\xFE\xFF"s, order));
         const dethrux::bom found = dethrux::detect_bom(other, file);
         const dethrux::bom none = dethrux::detect_bom(order, text);
-        check("detect_bom", dethrux::bom{}.len == 0 && found.len == 2 && found.order == order && !found.is_undecided
-                                && none.len == 0 && none.order == order && !none.is_undecided
+        check("detect_bom", dethrux::bom{}.len == 0 && found.len == 2 && found.order == order
+                                && !found.is_undecided && none.len == 0 && none.order == order
+                                && !none.is_undecided
                                 && dethrux::detect_bom(order, "\xFF"sv).is_undecided
                                 && dethrux::detect_bom(order, {}).is_undecided
                                 && dethrux::detect_bom(order, {}).order == order);
@@ -1426,17 +1429,7 @@ static void space() {
     }));
 }
 
-// Whether a call refuses a text for which no string is long enough. None of it is read.
-template <class Call>
-static bool is_too_long(Call call) {
-    try {
-        call();
-    } catch (const std::length_error &) {
-        return true;
-    }
-    return false;
-}
-
+// Calls refuse a text for which no string is long enough. None of it is read.
 static void lengths() {
     const std::size_t len = PTRDIFF_MAX / 4 * 3;
     const dethrux::bytes bytes("", len);
@@ -1448,21 +1441,22 @@ static void lengths() {
     dethrux::encoder back(order);
     dethrux::wtf8_decoder wtf8(order);
     check("texts of WTF-8 that are too long",
-        is_too_long([&] { (void)dethrux::from_wtf8(order, bytes); })
-            && is_too_long([&] { (void)dethrux::from_wtf8(bytes); })
-            && is_too_long([&] { wtf8.feed(bytes, to); })
-            && is_too_long([&] { wtf8.feed(units, to); }) && to == "before" && wtf8.pending() == 0);
+        throws<std::length_error>([&] { (void)dethrux::from_wtf8(order, bytes); })
+            && throws<std::length_error>([&] { (void)dethrux::from_wtf8(bytes); })
+            && throws<std::length_error>([&] { wtf8.feed(bytes, to); })
+            && throws<std::length_error>([&] { wtf8.feed(units, to); }) && to == "before"
+            && wtf8.pending() == 0);
     check("texts that are too long",
-        is_too_long([&] { (void)dethrux::from_utf8(order, bytes); })
-            && is_too_long([&] { (void)dethrux::from_utf8_lossy(bytes); })
-            && is_too_long([&] { (void)dethrux::to_utf32(order, bytes); })
-            && is_too_long([&] { (void)dethrux::to_utf32_lossy(units); })
-            && is_too_long([&] { (void)dethrux::from_latin1(order, bytes); })
-            && is_too_long([&] { decoder.feed(bytes, to); })
-            && is_too_long([&] { decoder.feed(units, to); })
-            && is_too_long([&] { back.feed(bytes, to); })
-            && is_too_long([&] { back.feed(bytes, wide); }) && to == "before" && wide == u"before"
-            && decoder.pending() == 0 && back.pending() == 0);
+        throws<std::length_error>([&] { (void)dethrux::from_utf8(order, bytes); })
+            && throws<std::length_error>([&] { (void)dethrux::from_utf8_lossy(bytes); })
+            && throws<std::length_error>([&] { (void)dethrux::to_utf32(order, bytes); })
+            && throws<std::length_error>([&] { (void)dethrux::to_utf32_lossy(units); })
+            && throws<std::length_error>([&] { (void)dethrux::from_latin1(order, bytes); })
+            && throws<std::length_error>([&] { decoder.feed(bytes, to); })
+            && throws<std::length_error>([&] { decoder.feed(units, to); })
+            && throws<std::length_error>([&] { back.feed(bytes, to); })
+            && throws<std::length_error>([&] { back.feed(bytes, wide); }) && to == "before"
+            && wide == u"before" && decoder.pending() == 0 && back.pending() == 0);
 }
 
 template <class Rows, class... Tests>
