@@ -706,20 +706,15 @@ static void ask_is_ascii(dethrux_byte_order order, const text *raw, text *answer
     add_word(answer, dethrux_is_ascii(order, raw->bytes, raw->len) ? "true" : "false");
 }
 
-static void ask_utf16_size(dethrux_byte_order order, const text *raw, text *answer) {
-    (void)order;
-    add_number(answer, dethrux_from_utf8_len(raw->bytes, raw->len));
-}
-
-static void ask_utf16_marked_size(dethrux_byte_order order, const text *raw, text *answer) {
-    (void)order;
-    add_number(answer, dethrux_from_utf8_lossy_len(raw->bytes, raw->len));
-}
-
-static void ask_utf8_replacements(dethrux_byte_order order, const text *raw, text *answer) {
-    (void)order;
-    add_number(answer, dethrux_from_utf8_replacements(raw->bytes, raw->len));
-}
+/* A number that UTF-8 has in either byte order. */
+#define NUMBER_OF_UTF8(name, call) \
+    static void name(dethrux_byte_order order, const text *raw, text *answer) { \
+        (void)order; \
+        add_number(answer, call(raw->bytes, raw->len)); \
+    }
+NUMBER_OF_UTF8(ask_utf16_size, dethrux_from_utf8_len)
+NUMBER_OF_UTF8(ask_utf16_marked_size, dethrux_from_utf8_lossy_len)
+NUMBER_OF_UTF8(ask_utf8_replacements, dethrux_from_utf8_replacements)
 
 /* The error's fields, or what is written if there is no error. */
 static void add_validity(dethrux_byte_order order, const text *raw, const char *none, text *answer) {
