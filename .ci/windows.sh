@@ -211,7 +211,7 @@ int main(int count, char **words) {
 
 # Tests that a program for which there is no memory ends with its message.
 tells_memory() {
-    sed -E 's/block\((malloc|realloc)\(.*\)\);/block(NULL);/' "$dist/programs/system.c" \
+    sed -E 's/block\((malloc|realloc)\(.*\)\);/block(NULL);/' "$dist/src/programs/system.c" \
         > "$room/planted.c" && $gcc -O2 -municode "$room/planted.c" "$room/gcc/utf16_cat.o" \
         -o "$room/program.exe" || return
     printf 'h\0i\0' | "$wine" "$room/program.exe" le 2> "$room/line"

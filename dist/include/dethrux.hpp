@@ -22,7 +22,7 @@
  * Offsets and lengths count elements: code units if those were given, and else bytes.
  *
  * @par Errors
- * Ill-formed input is a value, dethrux::error; of it, only result::value makes an exception.
+ * Ill-formed input is a value, dethrux::error. Only result::value throws because of it.
  * Functions and decoders throw only if there is not enough memory: std::bad_alloc, or
  * std::length_error if a string cannot be so long. In that case the string that was passed and the
  * decoder are unchanged.
@@ -675,8 +675,8 @@ struct bom {
 }
 
 /**
- * Returns the text of a file, without its BOM and in the byte order that this gives, as in
- * `to_utf8(after_bom(byte_order::little, file))`. Offsets count from its end.
+ * Returns the text of a file without its BOM, in the byte order that the BOM gives, as in
+ * `to_utf8(after_bom(byte_order::little, file))`. Offsets count from the end of the BOM.
  */
 [[nodiscard]] inline utf16 after_bom(byte_order default_order, bytes file) noexcept {
     const bom found = detect_bom(default_order, file);
@@ -751,7 +751,7 @@ template <class String = std::string>
 /**
  * Appends the text in UTF-8 to a string or vector, which must not be the text.
  *
- * @return nothing, or where the input is ill formed: then only what comes before is appended
+ * @return nothing, or where the input is ill formed: in that case the text before it is appended
  */
 template <class String>
 [[nodiscard]] std::optional<error> append_utf8(utf16 text, String &to) {
@@ -861,7 +861,7 @@ template <class String = std::string>
  * Appends the text in UTF-16 to a string or vector, which must not be the input: of code units, or
  * of bytes in a byte order. To write a file with a BOM, begin with bom_bytes.
  *
- * @return nothing, or where the input is ill formed: then only what comes before is appended
+ * @return nothing, or where the input is ill formed: in that case the text before it is appended
  */
 template <class String>
 [[nodiscard]] std::optional<error> append_utf16(chars utf8, String &to) {
