@@ -231,7 +231,8 @@ def lost_scheduler(trial: Trial) -> None:
     scheduler = engine("dask_scheduler", *there, *local)
     worker = engine("dask_worker", *there, "--no-nanny", "--death-timeout", "60")
     try:
-        wait_until(lambda: os.path.exists("other.json"))
+        # The scheduler makes the file, and fills it afterwards.
+        wait_until(lambda: os.path.exists("other.json") and os.path.getsize("other.json") > 0)
         address = json.loads(Path("other.json").read_text())["address"]
         words = ("--from", "utf-16-le", "--scheduler", address, *size)
         run = subprocess.Popen(
