@@ -17,55 +17,31 @@ mod private {
         fn window(self, len: usize) -> Option<Range<usize>>;
     }
 
-    impl SealedSliceIndex for RangeFull {
-        #[inline]
-        fn window(self, len: usize) -> Option<Range<usize>> {
-            Some(0..len)
-        }
+    macro_rules! windows {
+        ($($Range:ty: |$range:ident, $len:ident| $window:expr;)*) => {$(
+            impl SealedSliceIndex for $Range {
+                #[inline]
+                fn window(self, $len: usize) -> Option<Range<usize>> {
+                    let $range = self;
+                    $window
+                }
+            }
+        )*};
     }
 
-    impl SealedSliceIndex for Range<usize> {
-        #[inline]
-        fn window(self, _len: usize) -> Option<Range<usize>> {
-            Some(self)
-        }
-    }
-
-    impl SealedSliceIndex for RangeFrom<usize> {
-        #[inline]
-        fn window(self, len: usize) -> Option<Range<usize>> {
-            Some(self.start..len)
-        }
-    }
-
-    impl SealedSliceIndex for RangeTo<usize> {
-        #[inline]
-        fn window(self, _len: usize) -> Option<Range<usize>> {
-            Some(0..self.end)
-        }
-    }
-
-    impl SealedSliceIndex for RangeInclusive<usize> {
-        #[inline]
-        fn window(self, _len: usize) -> Option<Range<usize>> {
-            Some(*self.start()..self.end().checked_add(1)?)
-        }
-    }
-
-    impl SealedSliceIndex for RangeToInclusive<usize> {
-        #[inline]
-        fn window(self, _len: usize) -> Option<Range<usize>> {
-            Some(0..self.end.checked_add(1)?)
-        }
+    windows! {
+        RangeFull: |_range, len| Some(0..len);
+        Range<usize>: |range, _len| Some(range);
+        RangeFrom<usize>: |range, len| Some(range.start..len);
+        RangeTo<usize>: |range, _len| Some(0..range.end);
+        RangeInclusive<usize>: |range, _len| Some(*range.start()..range.end().checked_add(1)?);
+        RangeToInclusive<usize>: |range, _len| Some(0..range.end.checked_add(1)?);
     }
 }
 
 /// A range of offsets, like [`std::slice::SliceIndex`]. The trait is sealed: only the ranges of
 /// `usize` implement it.
-pub trait SliceIndex<T>: private::SealedSliceIndex
-where
-    T: ?Sized,
-{
+pub trait SliceIndex<T: ?Sized>: private::SealedSliceIndex {
     /// The type of a substring: the same as the type of the string.
     type Output: ?Sized;
 
@@ -120,11 +96,7 @@ fn checked<E: ByteOrder>(window: Range<usize>, slice: &WStr<E>) -> Option<Range<
     is_substring.then_some(window)
 }
 
-impl<I, E> SliceIndex<WStr<E>> for I
-where
-    I: private::SealedSliceIndex,
-    E: 'static + ByteOrder,
-{
+impl<I: private::SealedSliceIndex, E: 'static + ByteOrder> SliceIndex<WStr<E>> for I {
     type Output = WStr<E>;
 
     #[inline]
@@ -172,11 +144,7 @@ where
 
 macro_rules! index_by_ranges {
     ($($Text:ident)*) => {$(
-        impl<I, E> Index<I> for $Text<E>
-        where
-            I: SliceIndex<WStr<E>>,
-            E: ByteOrder,
-        {
+        impl<I: SliceIndex<WStr<E>>, E: ByteOrder> Index<I> for $Text<E> {
             type Output = I::Output;
 
             #[inline]
@@ -185,11 +153,7 @@ macro_rules! index_by_ranges {
             }
         }
 
-        impl<I, E> IndexMut<I> for $Text<E>
-        where
-            I: SliceIndex<WStr<E>>,
-            E: ByteOrder,
-        {
+        impl<I: SliceIndex<WStr<E>>, E: ByteOrder> IndexMut<I> for $Text<E> {
             #[inline]
             fn index_mut(&mut self, index: I) -> &mut I::Output {
                 index.index_mut(self)

@@ -15,20 +15,14 @@ mod private {
         fn with_bytes<T>(self, call: impl FnOnce(&[u8]) -> T) -> T;
     }
 
-    impl<E> SealedPattern<E> for &WStr<E>
-    where
-        E: ByteOrder,
-    {
+    impl<E: ByteOrder> SealedPattern<E> for &WStr<E> {
         #[inline]
         fn with_bytes<T>(self, call: impl FnOnce(&[u8]) -> T) -> T {
             call(self.as_bytes())
         }
     }
 
-    impl<E> SealedPattern<E> for char
-    where
-        E: ByteOrder,
-    {
+    impl<E: ByteOrder> SealedPattern<E> for char {
         #[inline]
         fn with_bytes<T>(self, call: impl FnOnce(&[u8]) -> T) -> T {
             let mut bytes = [0; 4];
@@ -50,10 +44,7 @@ impl<E, P> Pattern<E> for P where P: private::SealedPattern<E> {}
 /// boundaries, so it cuts neither a code unit nor a surrogate pair. The time is linear in both
 /// lengths, as measured with the most expensive inputs that are known; this is not proved. Nothing
 /// is allocated.
-impl<E> WStr<E>
-where
-    E: ByteOrder,
-{
+impl<E: ByteOrder> WStr<E> {
     /// Returns the least offset at which a string or a character occurs, or `None` if it occurs
     /// nowhere. The empty string occurs first at 0.
     ///
@@ -67,10 +58,7 @@ where
     /// assert_eq!(line.find(WString::from("=b").as_wstr()), Some(8));
     /// ```
     #[inline]
-    pub fn find<P>(&self, pattern: P) -> Option<usize>
-    where
-        P: Pattern<E>,
-    {
+    pub fn find<P: Pattern<E>>(&self, pattern: P) -> Option<usize> {
         pattern.with_bytes(|bytes| dethrux::find(byte_order::<E>(), self.as_bytes(), bytes))
     }
 
@@ -84,10 +72,7 @@ where
     /// assert_eq!(path.rfind('\\'), Some(8));
     /// ```
     #[inline]
-    pub fn rfind<P>(&self, pattern: P) -> Option<usize>
-    where
-        P: Pattern<E>,
-    {
+    pub fn rfind<P: Pattern<E>>(&self, pattern: P) -> Option<usize> {
         pattern.with_bytes(|bytes| dethrux::rfind(byte_order::<E>(), self.as_bytes(), bytes))
     }
 
@@ -102,10 +87,7 @@ where
     /// assert!(text.contains('\u{6100}'));
     /// ```
     #[inline]
-    pub fn contains<P>(&self, pattern: P) -> bool
-    where
-        P: Pattern<E>,
-    {
+    pub fn contains<P: Pattern<E>>(&self, pattern: P) -> bool {
         self.find(pattern).is_some()
     }
 
@@ -119,10 +101,7 @@ where
     /// assert!(!name.starts_with(&name[4..]));
     /// ```
     #[inline]
-    pub fn starts_with<P>(&self, pattern: P) -> bool
-    where
-        P: Pattern<E>,
-    {
+    pub fn starts_with<P: Pattern<E>>(&self, pattern: P) -> bool {
         pattern.with_bytes(|bytes| self.as_bytes().starts_with(bytes))
     }
 
@@ -136,10 +115,7 @@ where
     /// assert!(!name.ends_with('x'));
     /// ```
     #[inline]
-    pub fn ends_with<P>(&self, pattern: P) -> bool
-    where
-        P: Pattern<E>,
-    {
+    pub fn ends_with<P: Pattern<E>>(&self, pattern: P) -> bool {
         pattern.with_bytes(|bytes| self.as_bytes().ends_with(bytes))
     }
 }

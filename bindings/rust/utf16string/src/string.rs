@@ -66,10 +66,7 @@ impl WString<BigEndian> {
     }
 }
 
-impl<E> WString<E>
-where
-    E: ByteOrder,
-{
+impl<E: ByteOrder> WString<E> {
     /// Returns an empty string. It does not allocate.
     #[inline]
     pub fn new() -> Self {
@@ -222,10 +219,7 @@ where
     /// Keeps the characters for which `f`, called on each from the first to the last, returns true.
     /// If `f` panics, the characters from that one on are kept.
     #[inline]
-    pub fn retain<F>(&mut self, mut f: F)
-    where
-        F: FnMut(char) -> bool,
-    {
+    pub fn retain<F: FnMut(char) -> bool>(&mut self, mut f: F) {
         let mut compaction = Compaction {
             bytes: &mut self.buf,
             read: 0,
@@ -346,20 +340,14 @@ impl Drop for Compaction<'_> {
     }
 }
 
-impl<E> Default for WString<E>
-where
-    E: ByteOrder,
-{
+impl<E: ByteOrder> Default for WString<E> {
     #[inline]
     fn default() -> Self {
         Self::new()
     }
 }
 
-impl<E> Deref for WString<E>
-where
-    E: ByteOrder,
-{
+impl<E: ByteOrder> Deref for WString<E> {
     type Target = WStr<E>;
 
     #[inline]
@@ -369,10 +357,7 @@ where
     }
 }
 
-impl<E> DerefMut for WString<E>
-where
-    E: ByteOrder,
-{
+impl<E: ByteOrder> DerefMut for WString<E> {
     #[inline]
     fn deref_mut(&mut self) -> &mut WStr<E> {
         // SAFETY: the bytes of a string are well formed.
@@ -380,49 +365,34 @@ where
     }
 }
 
-impl<E> From<&str> for WString<E>
-where
-    E: ByteOrder,
-{
+impl<E: ByteOrder> From<&str> for WString<E> {
     #[inline]
     fn from(source: &str) -> Self {
         Self::from_vec(dethrux::encode(byte_order::<E>(), source))
     }
 }
 
-impl<E> From<&mut str> for WString<E>
-where
-    E: ByteOrder,
-{
+impl<E: ByteOrder> From<&mut str> for WString<E> {
     #[inline]
     fn from(source: &mut str) -> Self {
         Self::from(&*source)
     }
 }
 
-impl<E> From<&String> for WString<E>
-where
-    E: ByteOrder,
-{
+impl<E: ByteOrder> From<&String> for WString<E> {
     #[inline]
     fn from(source: &String) -> Self {
         Self::from(source.as_str())
     }
 }
 
-impl<E> Ord for WString<E>
-where
-    E: ByteOrder,
-{
+impl<E: ByteOrder> Ord for WString<E> {
     fn cmp(&self, other: &Self) -> Ordering {
         self.as_wstr().cmp(other)
     }
 }
 
-impl<E> PartialOrd for WString<E>
-where
-    E: ByteOrder,
-{
+impl<E: ByteOrder> PartialOrd for WString<E> {
     fn partial_cmp(&self, other: &Self) -> Option<Ordering> {
         Some(self.cmp(other))
     }

@@ -99,10 +99,7 @@ impl WStr<BigEndian> {
     }
 }
 
-impl<E> WStr<E>
-where
-    E: ByteOrder,
-{
+impl<E: ByteOrder> WStr<E> {
     /// Returns the bytes as a string, if they are well formed.
     ///
     /// # Errors
@@ -198,19 +195,13 @@ where
     /// Returns a substring, or `None` if the range is out of bounds, its start is after its end, or
     /// one of them is not a character boundary.
     #[inline]
-    pub fn get<I>(&self, index: I) -> Option<&<I as SliceIndex<WStr<E>>>::Output>
-    where
-        I: SliceIndex<WStr<E>>,
-    {
+    pub fn get<I: SliceIndex<WStr<E>>>(&self, index: I) -> Option<&I::Output> {
         index.get(self)
     }
 
     /// Returns a substring, mutable, or `None` like [`get`](WStr::get).
     #[inline]
-    pub fn get_mut<I>(&mut self, index: I) -> Option<&mut <I as SliceIndex<WStr<E>>>::Output>
-    where
-        I: SliceIndex<WStr<E>>,
-    {
+    pub fn get_mut<I: SliceIndex<WStr<E>>>(&mut self, index: I) -> Option<&mut I::Output> {
         index.get_mut(self)
     }
 
@@ -220,10 +211,7 @@ where
     ///
     /// [`get`](WStr::get) would return `Some`.
     #[inline]
-    pub unsafe fn get_unchecked<I>(&self, index: I) -> &<I as SliceIndex<WStr<E>>>::Output
-    where
-        I: SliceIndex<WStr<E>>,
-    {
+    pub unsafe fn get_unchecked<I: SliceIndex<WStr<E>>>(&self, index: I) -> &I::Output {
         // SAFETY: the caller says it.
         unsafe { index.get_unchecked(self) }
     }
@@ -234,13 +222,7 @@ where
     ///
     /// [`get_mut`](WStr::get_mut) would return `Some`.
     #[inline]
-    pub unsafe fn get_unchecked_mut<I>(
-        &mut self,
-        index: I,
-    ) -> &mut <I as SliceIndex<WStr<E>>>::Output
-    where
-        I: SliceIndex<WStr<E>>,
-    {
+    pub unsafe fn get_unchecked_mut<I: SliceIndex<WStr<E>>>(&mut self, index: I) -> &mut I::Output {
         // SAFETY: the caller says it.
         unsafe { index.get_unchecked_mut(self) }
     }
@@ -269,10 +251,7 @@ where
     }
 }
 
-impl<E> AsRef<[u8]> for WStr<E>
-where
-    E: ByteOrder,
-{
+impl<E: ByteOrder> AsRef<[u8]> for WStr<E> {
     #[inline]
     fn as_ref(&self) -> &[u8] {
         self.as_bytes()
@@ -280,29 +259,20 @@ where
 }
 
 /// Writes the text. Width and fill are ignored.
-impl<E> fmt::Display for WStr<E>
-where
-    E: ByteOrder,
-{
+impl<E: ByteOrder> fmt::Display for WStr<E> {
     fn fmt(&self, f: &mut fmt::Formatter<'_>) -> fmt::Result {
         dethrux::display(byte_order::<E>(), &self.raw).fmt(f)
     }
 }
 
-impl<E> Ord for WStr<E>
-where
-    E: ByteOrder,
-{
+impl<E: ByteOrder> Ord for WStr<E> {
     fn cmp(&self, other: &Self) -> Ordering {
         let order = byte_order::<E>();
         dethrux::compare(order, &self.raw, order, &other.raw)
     }
 }
 
-impl<E> PartialOrd for WStr<E>
-where
-    E: ByteOrder,
-{
+impl<E: ByteOrder> PartialOrd for WStr<E> {
     fn partial_cmp(&self, other: &Self) -> Option<Ordering> {
         Some(self.cmp(other))
     }
