@@ -1,7 +1,7 @@
 //! What the crate `utf16string` 0.2.0 has no test for: panics, errors, and traits of std.
 
 use std::panic::{catch_unwind, AssertUnwindSafe};
-use utf16string::{Utf16Error, WStr, WString, BE, LE};
+use utf16string::{BigEndian, LittleEndian, Utf16Error, WStr, WString, BE, LE};
 
 /// The message of the panic of a call.
 fn panic_message(call: impl FnOnce()) -> String {
@@ -68,8 +68,8 @@ fn width_and_fill_are_ignored() {
 #[test]
 fn strings_may_go_to_other_threads() {
     fn is_send_and_sync<T: Send + Sync + ?Sized>() {}
-    is_send_and_sync::<WStr<LE>>();
-    is_send_and_sync::<WString<BE>>();
+    is_send_and_sync::<WStr<LittleEndian>>();
+    is_send_and_sync::<WString<BigEndian>>();
 }
 
 /// The lines of ordinary Rust in `docs/DIFFERENCES.md`.
