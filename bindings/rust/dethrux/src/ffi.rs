@@ -57,7 +57,6 @@ pub(crate) type Feed =
 extern "C" {
     pub(crate) fn dethrux_version() -> u32;
     pub(crate) fn dethrux_validate(order: ByteOrder, utf16: *const u8, len: usize) -> Validity;
-    pub(crate) fn dethrux_count_chars(order: ByteOrder, utf16: *const u8, len: usize) -> usize;
     pub(crate) fn dethrux_is_ascii(order: ByteOrder, utf16: *const u8, len: usize) -> bool;
     pub(crate) fn dethrux_is_char_boundary(
         order: ByteOrder,
@@ -78,19 +77,6 @@ extern "C" {
         at: u64,
     ) -> u64;
     pub(crate) fn dethrux_shard_offset(len: u64, count: u64, index: u64) -> u64;
-    pub(crate) fn dethrux_to_utf8_lossy_len(
-        order: ByteOrder,
-        utf16: *const u8,
-        len: usize,
-    ) -> usize;
-    pub(crate) fn dethrux_from_utf8_len(utf8: *const u8, len: usize) -> usize;
-    pub(crate) fn dethrux_from_utf8_lossy_len(utf8: *const u8, len: usize) -> usize;
-    pub(crate) fn dethrux_to_utf8_replacements(
-        order: ByteOrder,
-        utf16: *const u8,
-        len: usize,
-    ) -> usize;
-    pub(crate) fn dethrux_from_utf8_replacements(utf8: *const u8, len: usize) -> usize;
     pub(crate) fn dethrux_swap_byte_order(utf16: *mut u8, len: usize);
     pub(crate) fn dethrux_make_well_formed(order: ByteOrder, utf16: *mut u8, len: usize) -> usize;
     pub(crate) fn dethrux_compare(
@@ -101,114 +87,43 @@ extern "C" {
         second: *const u8,
         second_len: usize,
     ) -> i32;
-    pub(crate) fn dethrux_find(
-        order: ByteOrder,
-        utf16: *const u8,
-        len: usize,
-        pattern: *const u8,
-        pattern_len: usize,
-    ) -> usize;
-    pub(crate) fn dethrux_rfind(
-        order: ByteOrder,
-        utf16: *const u8,
-        len: usize,
-        pattern: *const u8,
-        pattern_len: usize,
-    ) -> usize;
     pub(crate) fn dethrux_detect_bom(default_order: ByteOrder, bytes: *const u8, len: usize)
         -> Bom;
-
-    pub(crate) fn dethrux_to_utf8(
-        order: ByteOrder,
-        utf16: *const u8,
-        len: usize,
-        to: *mut u8,
-        capacity: usize,
-    ) -> Progress;
-    pub(crate) fn dethrux_to_utf8_lossy(
-        order: ByteOrder,
-        utf16: *const u8,
-        len: usize,
-        to: *mut u8,
-        capacity: usize,
-    ) -> Progress;
-    pub(crate) fn dethrux_to_utf8_partial(
-        order: ByteOrder,
-        utf16: *const u8,
-        len: usize,
-        to: *mut u8,
-        capacity: usize,
-    ) -> Progress;
-    pub(crate) fn dethrux_from_utf8(
-        order: ByteOrder,
-        utf8: *const u8,
-        len: usize,
-        to: *mut u8,
-        capacity: usize,
-    ) -> Progress;
-    pub(crate) fn dethrux_from_utf8_lossy(
-        order: ByteOrder,
-        utf8: *const u8,
-        len: usize,
-        to: *mut u8,
-        capacity: usize,
-    ) -> Progress;
-
-    pub(crate) fn dethrux_to_wtf8(
-        order: ByteOrder,
-        utf16: *const u8,
-        len: usize,
-        to: *mut u8,
-        capacity: usize,
-    ) -> Progress;
-    pub(crate) fn dethrux_to_wtf8_len(order: ByteOrder, utf16: *const u8, len: usize) -> usize;
-    pub(crate) fn dethrux_to_wtf8_partial(
-        order: ByteOrder,
-        utf16: *const u8,
-        len: usize,
-        to: *mut u8,
-        capacity: usize,
-    ) -> Progress;
-    pub(crate) fn dethrux_from_wtf8(
-        order: ByteOrder,
-        wtf8: *const u8,
-        len: usize,
-        to: *mut u8,
-        capacity: usize,
-    ) -> Progress;
-    pub(crate) fn dethrux_from_wtf8_partial(
-        order: ByteOrder,
-        wtf8: *const u8,
-        len: usize,
-        to: *mut u8,
-        capacity: usize,
-    ) -> Progress;
-
-    pub(crate) fn dethrux_decoder_feed(
-        decoder: *mut State,
-        order: ByteOrder,
-        chunk: *const u8,
-        len: usize,
-        to: *mut u8,
-        capacity: usize,
-    ) -> Progress;
     pub(crate) fn dethrux_decoder_finish(
         decoder: *mut State,
         to: *mut u8,
         capacity: usize,
     ) -> Progress;
-    pub(crate) fn dethrux_encoder_feed(
-        decoder: *mut State,
-        order: ByteOrder,
-        chunk: *const u8,
-        len: usize,
-        to: *mut u8,
-        capacity: usize,
-    ) -> Progress;
     pub(crate) fn dethrux_encoder_finish(
-        decoder: *mut State,
+        encoder: *mut State,
         order: ByteOrder,
         to: *mut u8,
         capacity: usize,
     ) -> Progress;
+}
+
+/// Declares calls that have the same parameters.
+macro_rules! calls {
+    ($($($name:ident)*: $parameters:tt -> $result:ty;)*) => {
+        extern "C" {$($(
+            pub(crate) fn $name $parameters -> $result;
+        )*)*}
+    };
+}
+
+calls! {
+    dethrux_count_chars dethrux_to_utf8_lossy_len dethrux_to_utf8_replacements dethrux_to_wtf8_len:
+        (order: ByteOrder, utf16: *const u8, len: usize) -> usize;
+    dethrux_from_utf8_len dethrux_from_utf8_lossy_len dethrux_from_utf8_replacements:
+        (utf8: *const u8, len: usize) -> usize;
+    dethrux_find dethrux_rfind:
+        (order: ByteOrder, utf16: *const u8, len: usize, pattern: *const u8, pattern_len: usize)
+        -> usize;
+    dethrux_to_utf8 dethrux_to_utf8_lossy dethrux_to_utf8_partial
+    dethrux_from_utf8 dethrux_from_utf8_lossy
+    dethrux_to_wtf8 dethrux_to_wtf8_partial dethrux_from_wtf8 dethrux_from_wtf8_partial:
+        (order: ByteOrder, from: *const u8, len: usize, to: *mut u8, capacity: usize) -> Progress;
+    dethrux_decoder_feed dethrux_encoder_feed:
+        (state: *mut State, order: ByteOrder, chunk: *const u8, len: usize, to: *mut u8,
+         capacity: usize) -> Progress;
 }
