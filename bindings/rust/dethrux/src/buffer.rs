@@ -1,4 +1,12 @@
 use core::mem::MaybeUninit;
+#[cfg(feature = "alloc")]
+use core::{mem::size_of, slice};
+
+#[cfg(feature = "alloc")]
+use alloc::vec::Vec;
+
+#[cfg(feature = "alloc")]
+use crate::Progress;
 
 mod sealed {
     pub trait Sealed {
@@ -51,14 +59,11 @@ impl<const N: usize> Sealed for [MaybeUninit<u8>; N] {
 ///
 /// The conversion returns as `written` how many bytes of its buffer it initialized.
 #[cfg(feature = "alloc")]
-pub(crate) unsafe fn append<F>(
-    to: &mut alloc::vec::Vec<u8>,
+pub(crate) unsafe fn append(
+    to: &mut Vec<u8>,
     additional: usize,
-    convert: F,
-) -> crate::Progress
-where
-    F: FnOnce(&mut [MaybeUninit<u8>]) -> crate::Progress,
-{
+    convert: impl FnOnce(&mut [MaybeUninit<u8>]) -> Progress,
+) -> Progress {
     to.reserve(additional);
     let progress = convert(to.spare_capacity_mut());
     // SAFETY: this many bytes were initialized after the length.
@@ -66,32 +71,23 @@ where
     progress
 }
 
-/// Returns what a conversion writes to a vector of code units with this capacity.
+/// Returns what a conversion writes to a vector of bytes or code units with this capacity.
 ///
 /// # Safety
 ///
-/// The conversion returns as `written` how many bytes of its buffer it initialized: whole units.
+/// The conversion returns as `written` how many bytes of its buffer it initialized: whole elements.
 #[cfg(feature = "alloc")]
-pub(crate) unsafe fn units_of<F>(
+pub(crate) unsafe fn filled<T>(
     capacity: usize,
-    convert: F,
-) -> (alloc::vec::Vec<u16>, crate::Progress)
-where
-    F: FnOnce(&mut [MaybeUninit<u8>]) -> crate::Progress,
-{
-    let mut units: alloc::vec::Vec<u16> = alloc::vec::Vec::with_capacity(capacity);
-    let spare = units.spare_capacity_mut();
-    // SAFETY: the bytes of units may be written, and a byte needs no alignment.
-    let bytes = unsafe {
-        core::slice::from_raw_parts_mut(
-            spare.as_mut_ptr().cast::<MaybeUninit<u8>>(),
-            core::mem::size_of_val(spare),
-        )
-    };
-    let progress = convert(bytes);
-    // SAFETY: this many units were initialized.
-    unsafe { units.set_len(progress.written / 2) };
-    (units, progress)
+    convert: impl FnOnce(&mut [MaybeUninit<u8>]) -> Progress,
+) -> (Vec<T>, Progress) {
+    let mut made: Vec<T> = Vec::with_capacity(capacity);
+    let (spare, bytes) = (made.as_mut_ptr().cast(), made.capacity() * size_of::<T>());
+    // SAFETY: the bytes of the elements may be written, and a byte needs no alignment.
+    let progress = convert(unsafe { slice::from_raw_parts_mut(spare, bytes) });
+    // SAFETY: this many elements were initialized.
+    unsafe { made.set_len(progress.written / size_of::<T>()) };
+    (trimmed(made), progress)
 }
 
 /// Unused elements that are not worth a call of the allocator.
@@ -105,7 +101,7 @@ const LARGE: usize = 65536;
 
 /// Returns memory to the allocator if most of the capacity is unused.
 #[cfg(feature = "alloc")]
-pub(crate) fn trimmed<T>(mut vector: alloc::vec::Vec<T>) -> alloc::vec::Vec<T> {
+pub(crate) fn trimmed<T>(mut vector: Vec<T>) -> Vec<T> {
     let unused = vector.capacity() - vector.len();
     if unused > vector.len().max(FEW) && vector.capacity() < LARGE {
         vector.shrink_to_fit();

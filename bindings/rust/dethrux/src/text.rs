@@ -5,7 +5,7 @@
 
 use alloc::{string::String, vec::Vec};
 
-use crate::buffer::{append, trimmed, units_of};
+use crate::buffer::{append, filled, trimmed};
 use crate::{from_utf8, from_utf8_lossy, from_utf8_max_len};
 use crate::{to_utf8, to_utf8_lossy, to_utf8_max_len};
 use crate::{units_as_bytes, ByteOrder, Status, UnitsError, Utf16Error};
@@ -66,14 +66,11 @@ pub fn decode_to(order: ByteOrder, utf16: &[u8], to: &mut String) -> Result<(), 
 /// ```
 #[must_use]
 pub fn decode_lossy(order: ByteOrder, utf16: &[u8]) -> String {
-    let mut utf8 = Vec::new();
     let max_len = to_utf8_max_len(utf16.len());
     // SAFETY: the library initializes what it wrote, and writes UTF-8.
     unsafe {
-        append(&mut utf8, max_len, |spare| {
-            to_utf8_lossy(order, utf16, spare)
-        });
-        String::from_utf8_unchecked(trimmed(utf8))
+        let (utf8, _) = filled(max_len, |spare| to_utf8_lossy(order, utf16, spare));
+        String::from_utf8_unchecked(utf8)
     }
 }
 
@@ -97,15 +94,9 @@ pub fn encode_to(order: ByteOrder, text: &str, to: &mut Vec<u8>) {
 /// sequence, like `String::from_utf8_lossy`.
 #[must_use]
 pub fn encode_lossy(order: ByteOrder, utf8: &[u8]) -> Vec<u8> {
-    let mut utf16 = Vec::new();
     let max_len = from_utf8_max_len(utf8.len());
     // SAFETY: the library initializes what it wrote.
-    unsafe {
-        append(&mut utf16, max_len, |spare| {
-            from_utf8_lossy(order, utf8, spare)
-        })
-    };
-    trimmed(utf16)
+    unsafe { filled(max_len, |spare| from_utf8_lossy(order, utf8, spare)).0 }
 }
 
 /// Returns the text of code units in the byte order of the machine.
@@ -131,12 +122,7 @@ pub fn decode_units(units: &[u16]) -> Result<String, UnitsError> {
 /// ```
 #[must_use]
 pub fn encode_units(text: &str) -> Vec<u16> {
-    let utf8 = text.as_bytes();
+    let (order, utf8) = (ByteOrder::NATIVE, text.as_bytes());
     // SAFETY: the library writes whole units, and initializes what it wrote.
-    let (units, _) = unsafe {
-        units_of(utf8.len(), |spare| {
-            from_utf8(ByteOrder::NATIVE, utf8, spare)
-        })
-    };
-    trimmed(units)
+    unsafe { filled(utf8.len(), |spare| from_utf8(order, utf8, spare)).0 }
 }

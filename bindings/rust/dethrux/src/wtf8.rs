@@ -8,10 +8,7 @@ use std::ffi::{OsStr, OsString};
 
 use crate::convert::convert;
 #[cfg(feature = "alloc")]
-use crate::{
-    buffer::{append, trimmed, units_of},
-    from_utf8_max_len, units_as_bytes, Status, Utf16Error,
-};
+use crate::{buffer::filled, from_utf8_max_len, units_as_bytes, Status, Utf16Error};
 use crate::{ffi, Buffer, ByteOrder, Progress};
 
 /// Converts all code units of UTF-16 to WTF-8, with each unpaired surrogate as itself. A capacity
@@ -120,11 +117,11 @@ impl From<Wtf8Error> for std::io::Error {
     }
 }
 
-/// Returns the error of a conversion from WTF-8 that has enough capacity.
+/// Returns what a conversion from WTF-8 made with enough capacity, or its error.
 #[cfg(feature = "alloc")]
-fn tested(progress: Progress) -> Result<(), Wtf8Error> {
+fn tested<T>((made, progress): (T, Progress)) -> Result<T, Wtf8Error> {
     let error_len = match progress.status {
-        Status::Done => return Ok(()),
+        Status::Done => return Ok(made),
         Status::IllFormed(len) => Some(len as u8),
         Status::Incomplete | Status::NoSpace => None,
     };
@@ -148,12 +145,11 @@ fn tested(progress: Progress) -> Result<(), Wtf8Error> {
 /// ```
 #[cfg(feature = "alloc")]
 pub fn decode_to_wtf8(order: ByteOrder, utf16: &[u8]) -> Result<Vec<u8>, Utf16Error> {
-    let mut wtf8 = Vec::new();
     let max_len = to_wtf8_max_len(utf16.len());
     // SAFETY: the library initializes what it wrote.
-    let progress = unsafe { append(&mut wtf8, max_len, |spare| to_wtf8(order, utf16, spare)) };
+    let (wtf8, progress) = unsafe { filled(max_len, |spare| to_wtf8(order, utf16, spare)) };
     match progress.status {
-        Status::Done => Ok(trimmed(wtf8)),
+        Status::Done => Ok(wtf8),
         _ => Err(Utf16Error {
             valid_up_to: progress.read,
             error_len: None,
@@ -176,11 +172,9 @@ pub fn decode_to_wtf8(order: ByteOrder, utf16: &[u8]) -> Result<Vec<u8>, Utf16Er
 /// ```
 #[cfg(feature = "alloc")]
 pub fn encode_from_wtf8(order: ByteOrder, wtf8: &[u8]) -> Result<Vec<u8>, Wtf8Error> {
-    let mut utf16 = Vec::new();
     let max_len = from_utf8_max_len(wtf8.len());
     // SAFETY: the library initializes what it wrote.
-    tested(unsafe { append(&mut utf16, max_len, |spare| from_wtf8(order, wtf8, spare)) })?;
-    Ok(trimmed(utf16))
+    tested(unsafe { filled(max_len, |spare| from_wtf8(order, wtf8, spare)) })
 }
 
 /// Returns code units, in the byte order of the machine, in WTF-8.
@@ -191,16 +185,10 @@ pub fn encode_from_wtf8(order: ByteOrder, wtf8: &[u8]) -> Result<Vec<u8>, Wtf8Er
 #[cfg(feature = "alloc")]
 #[must_use]
 pub fn units_to_wtf8(units: &[u16]) -> Vec<u8> {
-    let utf16 = units_as_bytes(units);
-    let mut wtf8 = Vec::new();
+    let (order, utf16) = (ByteOrder::NATIVE, units_as_bytes(units));
     let max_len = to_wtf8_max_len(utf16.len());
     // SAFETY: the library initializes what it wrote.
-    unsafe {
-        append(&mut wtf8, max_len, |spare| {
-            to_wtf8(ByteOrder::NATIVE, utf16, spare)
-        })
-    };
-    trimmed(wtf8)
+    unsafe { filled(max_len, |spare| to_wtf8(order, utf16, spare)).0 }
 }
 
 /// Returns WTF-8 in code units.
@@ -214,14 +202,9 @@ pub fn units_to_wtf8(units: &[u16]) -> Vec<u8> {
 /// ```
 #[cfg(feature = "alloc")]
 pub fn units_from_wtf8(wtf8: &[u8]) -> Result<Vec<u16>, Wtf8Error> {
+    let order = ByteOrder::NATIVE;
     // SAFETY: the library writes whole units, and initializes what it wrote.
-    let (units, progress) = unsafe {
-        units_of(wtf8.len(), |spare| {
-            from_wtf8(ByteOrder::NATIVE, wtf8, spare)
-        })
-    };
-    tested(progress)?;
-    Ok(trimmed(units))
+    tested(unsafe { filled(wtf8.len(), |spare| from_wtf8(order, wtf8, spare)) })
 }
 
 /// Returns code units, such as a file name of NTFS, as an `OsString`, without loss: on Unix its
