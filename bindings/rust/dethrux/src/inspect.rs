@@ -21,17 +21,15 @@ use crate::{ffi, ByteOrder, Utf16Error};
 pub fn validate(order: ByteOrder, utf16: &[u8]) -> Result<(), Utf16Error> {
     // SAFETY: the pointer and the length come from a slice.
     let found = unsafe { ffi::dethrux_validate(order, utf16.as_ptr(), utf16.len()) };
-    match found.status {
-        0 => Ok(()),
-        1 => Err(Utf16Error {
-            valid_up_to: found.valid_up_to,
-            error_len: Some(found.error_len as u8),
-        }),
-        _ => Err(Utf16Error {
-            valid_up_to: found.valid_up_to,
-            error_len: None,
-        }),
-    }
+    let error_len = match found.status {
+        0 => return Ok(()),
+        1 => Some(found.error_len as u8),
+        _ => None,
+    };
+    Err(Utf16Error {
+        valid_up_to: found.valid_up_to,
+        error_len,
+    })
 }
 
 /// Returns the number of characters (scalar values). For ill-formed input: the number of complete

@@ -96,34 +96,33 @@ fn calls_that_append_allocate_at_most_once() {
     }
 }
 
+/// Makes a call, and returns what it counted, and the length and the capacity of its result.
+macro_rules! measured {
+    ($call:expr) => {{
+        let (counts, found) = counted(|| $call);
+        (counts, found.len(), found.capacity())
+    }};
+}
+
 #[test]
 fn results_keep_little_memory_that_they_do_not_use() {
     for len in [0, 1, 20, 70, 1000, 10_000, 30_000] {
         for character in ["a", "é", "★"] {
             let text = character.repeat(len);
             let utf16 = encode(BigEndian, &text);
-            let mut results = Vec::new();
-            let (counts, found) = counted(|| decode(BigEndian, &utf16).unwrap());
-            results.push((counts, found.len(), found.capacity()));
-            let (counts, found) = counted(|| decode_lossy(BigEndian, &utf16));
-            results.push((counts, found.len(), found.capacity()));
-            let (counts, found) = counted(|| encode(BigEndian, &text));
-            results.push((counts, found.len(), found.capacity()));
-            let (counts, found) = counted(|| encode_lossy(BigEndian, text.as_bytes()));
-            results.push((counts, found.len(), found.capacity()));
-            let (counts, found) = counted(|| encode_units(&text));
-            results.push((counts, found.len(), found.capacity()));
-            let units = found;
-            let (counts, found) = counted(|| decode_units(&units).unwrap());
-            results.push((counts, found.len(), found.capacity()));
-            let (counts, found) = counted(|| decode_to_wtf8(BigEndian, &utf16).unwrap());
-            results.push((counts, found.len(), found.capacity()));
-            let (counts, found) = counted(|| encode_from_wtf8(BigEndian, text.as_bytes()).unwrap());
-            results.push((counts, found.len(), found.capacity()));
-            let (counts, found) = counted(|| units_to_wtf8(&units));
-            results.push((counts, found.len(), found.capacity()));
-            let (counts, found) = counted(|| units_from_wtf8(text.as_bytes()).unwrap());
-            results.push((counts, found.len(), found.capacity()));
+            let units = encode_units(&text);
+            let results = [
+                measured!(decode(BigEndian, &utf16).unwrap()),
+                measured!(decode_lossy(BigEndian, &utf16)),
+                measured!(encode(BigEndian, &text)),
+                measured!(encode_lossy(BigEndian, text.as_bytes())),
+                measured!(encode_units(&text)),
+                measured!(decode_units(&units).unwrap()),
+                measured!(decode_to_wtf8(BigEndian, &utf16).unwrap()),
+                measured!(encode_from_wtf8(BigEndian, text.as_bytes()).unwrap()),
+                measured!(units_to_wtf8(&units)),
+                measured!(units_from_wtf8(text.as_bytes()).unwrap()),
+            ];
             for (counts, used, capacity) in results {
                 assert_eq!(counts.0, usize::from(len > 0));
                 assert!(capacity <= (3 * used).max(8));
