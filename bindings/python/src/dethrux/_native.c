@@ -289,36 +289,23 @@ static int fill(PyObject *module) {
     return is_filled ? 0 : -1;
 }
 
+/* The fields of `native`, which are all the objects that a module keeps. */
+#define EACH_FIELD(X) \
+    X(validity) X(progress) X(bom) X(statuses) X(bom_statuses) X(little) X(big) X(strict) \
+    X(lookup_error) X(replace_errors) X(ignore_errors) X(backslashreplace_errors) \
+    X(surrogatepass_errors)
+
+#define VISIT(name) Py_VISIT(it->name);
 static int traverse(PyObject *module, visitproc visit, void *arg) {
     native *it = PyModule_GetState(module);
-    Py_VISIT(it->validity);
-    Py_VISIT(it->progress);
-    Py_VISIT(it->bom);
-    Py_VISIT(it->statuses);
-    Py_VISIT(it->bom_statuses);
-    Py_VISIT(it->lookup_error);
-    Py_VISIT(it->replace_errors);
-    Py_VISIT(it->ignore_errors);
-    Py_VISIT(it->backslashreplace_errors);
-    Py_VISIT(it->surrogatepass_errors);
+    EACH_FIELD(VISIT)
     return 0;
 }
 
+#define CLEAR(name) Py_CLEAR(it->name);
 static int clear(PyObject *module) {
     native *it = PyModule_GetState(module);
-    Py_CLEAR(it->validity);
-    Py_CLEAR(it->progress);
-    Py_CLEAR(it->bom);
-    Py_CLEAR(it->statuses);
-    Py_CLEAR(it->bom_statuses);
-    Py_CLEAR(it->little);
-    Py_CLEAR(it->big);
-    Py_CLEAR(it->strict);
-    Py_CLEAR(it->lookup_error);
-    Py_CLEAR(it->replace_errors);
-    Py_CLEAR(it->ignore_errors);
-    Py_CLEAR(it->backslashreplace_errors);
-    Py_CLEAR(it->surrogatepass_errors);
+    EACH_FIELD(CLEAR)
     return 0;
 }
 

@@ -264,21 +264,15 @@ static PyObject *number_of_utf16(const native *it, arguments given,
     return PyLong_FromSize_t(found);
 }
 
-static PyObject *count_chars(const native *it, arguments given) {
-    return number_of_utf16(it, given, dethrux_count_chars);
-}
-
-static PyObject *to_utf8_lossy_len(const native *it, arguments given) {
-    return number_of_utf16(it, given, dethrux_to_utf8_lossy_len);
-}
-
-static PyObject *to_utf8_replacements(const native *it, arguments given) {
-    return number_of_utf16(it, given, dethrux_to_utf8_replacements);
-}
-
-static PyObject *to_wtf8_len(const native *it, arguments given) {
-    return number_of_utf16(it, given, dethrux_to_wtf8_len);
-}
+/* Defines a function that returns such a number, by the name of its call. */
+#define NUMBER_OF_UTF16(name) \
+    static PyObject *name(const native *it, arguments given) { \
+        return number_of_utf16(it, given, dethrux_##name); \
+    }
+NUMBER_OF_UTF16(count_chars)
+NUMBER_OF_UTF16(to_utf8_lossy_len)
+NUMBER_OF_UTF16(to_utf8_replacements)
+NUMBER_OF_UTF16(to_wtf8_len)
 
 static PyObject *is_ascii(const native *it, arguments given) {
     int order = order_of(it, given[1]);
@@ -306,20 +300,14 @@ static PyObject *number_of_utf8(arguments given, size_t (*number)(const uint8_t 
     return PyLong_FromSize_t(found);
 }
 
-static PyObject *from_utf8_len(const native *it, arguments given) {
-    (void) it;
-    return number_of_utf8(given, dethrux_from_utf8_len);
-}
-
-static PyObject *from_utf8_lossy_len(const native *it, arguments given) {
-    (void) it;
-    return number_of_utf8(given, dethrux_from_utf8_lossy_len);
-}
-
-static PyObject *from_utf8_replacements(const native *it, arguments given) {
-    (void) it;
-    return number_of_utf8(given, dethrux_from_utf8_replacements);
-}
+#define NUMBER_OF_UTF8(name) \
+    static PyObject *name(const native *it, arguments given) { \
+        (void) it; \
+        return number_of_utf8(given, dethrux_##name); \
+    }
+NUMBER_OF_UTF8(from_utf8_len)
+NUMBER_OF_UTF8(from_utf8_lossy_len)
+NUMBER_OF_UTF8(from_utf8_replacements)
 
 /* Bytes to bytes. */
 
@@ -400,43 +388,33 @@ static PyObject *progress(const native *it, arguments given, conversion *convert
     return found;
 }
 
-static PyObject *to_utf8(const native *it, arguments given) {
-    return progress(it, given, dethrux_to_utf8, false);
-}
-
-static PyObject *to_utf8_lossy(const native *it, arguments given) {
-    return progress(it, given, dethrux_to_utf8_lossy, false);
-}
-
-static PyObject *to_utf8_partial(const native *it, arguments given) {
-    return progress(it, given, dethrux_to_utf8_partial, false);
-}
-
-static PyObject *from_utf8(const native *it, arguments given) {
-    return progress(it, given, dethrux_from_utf8, true);
-}
-
-static PyObject *from_utf8_lossy(const native *it, arguments given) {
-    return progress(it, given, dethrux_from_utf8_lossy, true);
-}
-
-static PyObject *to_wtf8(const native *it, arguments given) {
-    return progress(it, given, dethrux_to_wtf8, false);
-}
-
-static PyObject *to_wtf8_partial(const native *it, arguments given) {
-    return progress(it, given, dethrux_to_wtf8_partial, false);
-}
-
-static PyObject *from_wtf8(const native *it, arguments given) {
-    return progress(it, given, dethrux_from_wtf8, true);
-}
-
-static PyObject *from_wtf8_partial(const native *it, arguments given) {
-    return progress(it, given, dethrux_from_wtf8_partial, true);
-}
+/* Defines a function that returns the progress of the conversion of its name. */
+#define PROGRESS(name, is_utf8) \
+    static PyObject *name(const native *it, arguments given) { \
+        return progress(it, given, dethrux_##name, is_utf8); \
+    }
+PROGRESS(to_utf8, false)
+PROGRESS(to_utf8_lossy, false)
+PROGRESS(to_utf8_partial, false)
+PROGRESS(from_utf8, true)
+PROGRESS(from_utf8_lossy, true)
+PROGRESS(to_wtf8, false)
+PROGRESS(to_wtf8_partial, false)
+PROGRESS(from_wtf8, true)
+PROGRESS(from_wtf8_partial, true)
 
 /* Streams. */
+
+/* A copy of the state of a stream of either kind. */
+typedef union {
+    dethrux_decoder decoder;
+    dethrux_encoder encoder;
+} stream;
+
+/* Returns the byte order that a stream has as a number. */
+static dethrux_byte_order order_of_stream(PyObject *number) {
+    return PyObject_IsTrue(number) ? DETHRUX_BIG_ENDIAN : DETHRUX_LITTLE_ENDIAN;
+}
 
 /* Decodes a chunk with a copy of the state, which becomes the state if nothing fails. */
 static PyObject *feed_held(const native *it, arguments given, const input *chunk, bool is_utf8,
@@ -451,23 +429,20 @@ static PyObject *feed_held(const native *it, arguments given, const input *chunk
         return NULL;
     }
     uint8_t *to = (uint8_t *) PyBytes_AS_STRING(output);
-    dethrux_byte_order order =
-        PyObject_IsTrue(given[1]) ? DETHRUX_BIG_ENDIAN : DETHRUX_LITTLE_ENDIAN;
-    dethrux_decoder decoder;
-    dethrux_encoder encoder;
-    memcpy(&decoder, state->buf, sizeof decoder);
-    memcpy(&encoder, state->buf, sizeof encoder);
+    dethrux_byte_order order = order_of_stream(given[1]);
+    stream copy;
+    memcpy(&copy, state->buf, sizeof copy);
     PyThreadState *saved = without_gil(chunk->without_gil);
     dethrux_progress done = is_utf8
-        ? dethrux_encoder_feed(&encoder, order, chunk->bytes, chunk->len, to, capacity)
-        : dethrux_decoder_feed(&decoder, order, chunk->bytes, chunk->len, to, capacity);
+        ? dethrux_encoder_feed(&copy.encoder, order, chunk->bytes, chunk->len, to, capacity)
+        : dethrux_decoder_feed(&copy.decoder, order, chunk->bytes, chunk->len, to, capacity);
     with_gil(saved);
     if (done.written != capacity) {
         _PyBytes_Resize(&output, (Py_ssize_t) done.written);
     }
     PyObject *found = progress_of(it, output, &done);
     if (found) {
-        memcpy(state->buf, is_utf8 ? (void *) &encoder : (void *) &decoder, sizeof decoder);
+        memcpy(state->buf, &copy, sizeof copy);
     }
     return found;
 }
@@ -477,7 +452,7 @@ static bool hold_state(PyObject *object, Py_buffer *state) {
     if (PyObject_GetBuffer(object, state, PyBUF_WRITABLE) < 0) {
         return false;
     }
-    if (state->len == sizeof(dethrux_decoder)) {
+    if (state->len == sizeof(stream)) {
         return true;
     }
     PyBuffer_Release(state);
@@ -510,43 +485,33 @@ static PyObject *feed_encoder(const native *it, arguments given) {
 }
 
 /* Ends a stream: the state changes if nothing fails. */
-
-static PyObject *finish_decoder(const native *it, arguments given) {
-    (void) it;
+static PyObject *finish(arguments given, bool is_utf8) {
     uint8_t to[DETHRUX_DECODER_FINISH_MAX];
     Py_buffer state;
     if (!hold_state(given[0], &state)) {
         return NULL;
     }
-    dethrux_decoder decoder;
-    memcpy(&decoder, state.buf, sizeof decoder);
-    dethrux_progress done = dethrux_decoder_finish(&decoder, to, sizeof to);
+    stream copy;
+    memcpy(&copy, state.buf, sizeof copy);
+    dethrux_progress done = is_utf8
+        ? dethrux_encoder_finish(&copy.encoder, order_of_stream(given[1]), to, sizeof to)
+        : dethrux_decoder_finish(&copy.decoder, to, sizeof to);
     PyObject *output = PyBytes_FromStringAndSize((const char *) to, (Py_ssize_t) done.written);
     if (output) {
-        memcpy(state.buf, &decoder, sizeof decoder);
+        memcpy(state.buf, &copy, sizeof copy);
     }
     PyBuffer_Release(&state);
     return output;
 }
 
+static PyObject *finish_decoder(const native *it, arguments given) {
+    (void) it;
+    return finish(given, false);
+}
+
 static PyObject *finish_encoder(const native *it, arguments given) {
     (void) it;
-    uint8_t to[DETHRUX_ENCODER_FINISH_MAX];
-    Py_buffer state;
-    if (!hold_state(given[0], &state)) {
-        return NULL;
-    }
-    dethrux_encoder encoder;
-    memcpy(&encoder, state.buf, sizeof encoder);
-    dethrux_byte_order order =
-        PyObject_IsTrue(given[1]) ? DETHRUX_BIG_ENDIAN : DETHRUX_LITTLE_ENDIAN;
-    dethrux_progress done = dethrux_encoder_finish(&encoder, order, to, sizeof to);
-    PyObject *output = PyBytes_FromStringAndSize((const char *) to, (Py_ssize_t) done.written);
-    if (output) {
-        memcpy(state.buf, &encoder, sizeof encoder);
-    }
-    PyBuffer_Release(&state);
-    return output;
+    return finish(given, true);
 }
 
 #endif
