@@ -143,11 +143,11 @@ write_watched() {
     gcc -fsyntax-only -aux-info "$room/prototypes" -x c "$dist/include/dethrux.h" &&
         sed -nE "$calls" "$room/prototypes" | sed -E '
             s/\|dethrux_[a-z]+\|/, RESULT, /; s/\|.*\|/, /; s/, void\)/, 0)/
-            /const|coder/!s/uint8_t \*, size_t/AT(text), len/
-            s/const uint8_t \*, size_t/AT(text), len/
-            s/const uint8_t \*, size_t/AT(text + 2), len \/ 2/
+            /const|coder/!s/void \*, size_t/AT(text), len/
+            s/const void \*, size_t/AT(text), len/
+            s/const void \*, size_t/AT(text + 2), len \/ 2/
             s/const uint32_t \*, size_t/AT(points), len \/ 2/
-            s/uint8_t \*, size_t/AT(to), sizeof to/
+            s/void \*, size_t/AT(to), sizeof to/
             s/uint32_t \*, size_t/AT(points), sizeof points \/ 4/
             s/dethrux_(decoder|encoder) \*/AT(\&\1)/
             s/dethrux_byte_order/order/; s/dethrux_byte_order/order ^ 1/

@@ -96,7 +96,7 @@ static double seconds(void) {
 }
 
 typedef dethrux_progress convert(
-    dethrux_byte_order, const uint8_t *, size_t, uint8_t *, size_t);
+    dethrux_byte_order, const void *, size_t, void *, size_t);
 
 // Converts the whole input, a buffer at a time, and continues after each ill-formed sequence.
 // Returns the number of calls.

@@ -139,8 +139,8 @@ static void expect_text(const uint8_t *to, const uint8_t *want, size_t len) {
 
 /* The conversions between buffers. */
 
-typedef dethrux_progress conversion(dethrux_byte_order order, const uint8_t *from, size_t len,
-                                    uint8_t *to, size_t capacity);
+typedef dethrux_progress conversion(dethrux_byte_order order, const void *from, size_t len,
+                                    void *to, size_t capacity);
 
 static dethrux_progress convert(conversion *call, const decoded *text, conversion_mode mode,
                                 size_t capacity) {
@@ -214,10 +214,10 @@ static void check_from_utf8_lossy(void) {
 
 /* UTF-32 and Latin-1. */
 
-typedef dethrux_progress widening(dethrux_byte_order order, const uint8_t *utf16, size_t len,
+typedef dethrux_progress widening(dethrux_byte_order order, const void *utf16, size_t len,
                                   uint32_t *to, size_t capacity);
 typedef dethrux_progress narrowing(dethrux_byte_order order, const uint32_t *utf32, size_t len,
-                                   uint8_t *to, size_t capacity);
+                                   void *to, size_t capacity);
 
 /* A call to UTF-32; the capacity is in code units. */
 static dethrux_progress widen(widening *call, conversion_mode mode, size_t capacity) {
@@ -1016,8 +1016,8 @@ static void check_compare(void) {
 
 /* Search. */
 
-typedef size_t search(dethrux_byte_order order, const uint8_t *utf16, size_t len,
-                      const uint8_t *pattern, size_t pattern_len);
+typedef size_t search(dethrux_byte_order order, const void *utf16, size_t len,
+                      const void *pattern, size_t pattern_len);
 typedef size_t reference_search(const decoded *text, const uint8_t *bytes, const uint8_t *pattern,
                                 size_t len);
 

@@ -319,7 +319,7 @@ DETHRUX_NODISCARD uint32_t dethrux_version(void);
  * @ingroup dethrux_strict
  */
 DETHRUX_NODISCARD dethrux_validity dethrux_validate(
-    dethrux_byte_order byte_order, const uint8_t *utf16, size_t len);
+    dethrux_byte_order byte_order, const void *utf16, size_t len);
 
 /**
  * Returns the number of characters (scalar values).
@@ -329,7 +329,7 @@ DETHRUX_NODISCARD dethrux_validity dethrux_validate(
  * @ingroup dethrux_properties
  */
 DETHRUX_NODISCARD size_t dethrux_count_chars(
-    dethrux_byte_order byte_order, const uint8_t *utf16, size_t len);
+    dethrux_byte_order byte_order, const void *utf16, size_t len);
 
 /**
  * Returns whether the bytes are UTF-16 whose characters are all ASCII, below U+0080.
@@ -337,7 +337,7 @@ DETHRUX_NODISCARD size_t dethrux_count_chars(
  * @ingroup dethrux_properties
  */
 DETHRUX_NODISCARD bool dethrux_is_ascii(
-    dethrux_byte_order byte_order, const uint8_t *utf16, size_t len);
+    dethrux_byte_order byte_order, const void *utf16, size_t len);
 
 /**
  * Returns the length of what dethrux_to_utf8_lossy writes for the whole input.
@@ -346,7 +346,7 @@ DETHRUX_NODISCARD bool dethrux_is_ascii(
  * @ingroup dethrux_lossy
  */
 DETHRUX_NODISCARD size_t dethrux_to_utf8_lossy_len(
-    dethrux_byte_order byte_order, const uint8_t *utf16, size_t len);
+    dethrux_byte_order byte_order, const void *utf16, size_t len);
 
 /**
  * Returns the length of what dethrux_from_utf8 writes for the longest well-formed prefix.
@@ -356,7 +356,7 @@ DETHRUX_NODISCARD size_t dethrux_to_utf8_lossy_len(
  * @return at most DETHRUX_UTF16_MAX(len)
  * @ingroup dethrux_strict
  */
-DETHRUX_NODISCARD size_t dethrux_from_utf8_len(const uint8_t *utf8, size_t len);
+DETHRUX_NODISCARD size_t dethrux_from_utf8_len(const void *utf8, size_t len);
 
 /**
  * Returns the length of what dethrux_from_utf8_lossy writes for the whole input.
@@ -366,7 +366,7 @@ DETHRUX_NODISCARD size_t dethrux_from_utf8_len(const uint8_t *utf8, size_t len);
  * @return at most DETHRUX_UTF16_MAX(len)
  * @ingroup dethrux_lossy
  */
-DETHRUX_NODISCARD size_t dethrux_from_utf8_lossy_len(const uint8_t *utf8, size_t len);
+DETHRUX_NODISCARD size_t dethrux_from_utf8_lossy_len(const void *utf8, size_t len);
 
 /**
  * Returns how many U+FFFD dethrux_to_utf8_lossy writes for ill-formed sequences of the whole input.
@@ -377,7 +377,7 @@ DETHRUX_NODISCARD size_t dethrux_from_utf8_lossy_len(const uint8_t *utf8, size_t
  * @ingroup dethrux_lossy
  */
 DETHRUX_NODISCARD size_t dethrux_to_utf8_replacements(
-    dethrux_byte_order byte_order, const uint8_t *utf16, size_t len);
+    dethrux_byte_order byte_order, const void *utf16, size_t len);
 
 /**
  * Returns how many U+FFFD dethrux_from_utf8_lossy writes for ill-formed sequences of the whole
@@ -389,7 +389,7 @@ DETHRUX_NODISCARD size_t dethrux_to_utf8_replacements(
  * @return 0 if and only if the input is well formed
  * @ingroup dethrux_lossy
  */
-DETHRUX_NODISCARD size_t dethrux_from_utf8_replacements(const uint8_t *utf8, size_t len);
+DETHRUX_NODISCARD size_t dethrux_from_utf8_replacements(const void *utf8, size_t len);
 
 /**
  * Converts UTF-16 to UTF-8, up to the first ill-formed sequence, an unpaired surrogate of 2 bytes.
@@ -403,7 +403,7 @@ DETHRUX_NODISCARD size_t dethrux_from_utf8_replacements(const uint8_t *utf8, siz
  * @ingroup dethrux_strict
  */
 DETHRUX_NODISCARD dethrux_progress dethrux_to_utf8(
-    dethrux_byte_order byte_order, const uint8_t *utf16, size_t len, uint8_t *to, size_t capacity);
+    dethrux_byte_order byte_order, const void *utf16, size_t len, void *to, size_t capacity);
 
 /**
  * Converts UTF-16 to UTF-8 and replaces what is ill formed by U+FFFD.
@@ -418,7 +418,7 @@ DETHRUX_NODISCARD dethrux_progress dethrux_to_utf8(
  * @ingroup dethrux_lossy
  */
 DETHRUX_NODISCARD dethrux_progress dethrux_to_utf8_lossy(
-    dethrux_byte_order byte_order, const uint8_t *utf16, size_t len, uint8_t *to, size_t capacity);
+    dethrux_byte_order byte_order, const void *utf16, size_t len, void *to, size_t capacity);
 
 /**
  * Converts the next chunk of a stream to UTF-8, without a decoder.
@@ -437,7 +437,7 @@ DETHRUX_NODISCARD dethrux_progress dethrux_to_utf8_lossy(
  * @ingroup dethrux_streams
  */
 DETHRUX_NODISCARD dethrux_progress dethrux_to_utf8_partial(
-    dethrux_byte_order byte_order, const uint8_t *utf16, size_t len, uint8_t *to, size_t capacity);
+    dethrux_byte_order byte_order, const void *utf16, size_t len, void *to, size_t capacity);
 
 /**
  * Converts UTF-8 to UTF-16, up to the first ill-formed sequence, of 1 to 3 bytes.
@@ -451,7 +451,7 @@ DETHRUX_NODISCARD dethrux_progress dethrux_to_utf8_partial(
  * @ingroup dethrux_strict
  */
 DETHRUX_NODISCARD dethrux_progress dethrux_from_utf8(
-    dethrux_byte_order byte_order, const uint8_t *utf8, size_t len, uint8_t *to, size_t capacity);
+    dethrux_byte_order byte_order, const void *utf8, size_t len, void *to, size_t capacity);
 
 /**
  * Converts UTF-8 to UTF-16 and replaces what is ill formed by U+FFFD.
@@ -468,7 +468,7 @@ DETHRUX_NODISCARD dethrux_progress dethrux_from_utf8(
  * @ingroup dethrux_lossy
  */
 DETHRUX_NODISCARD dethrux_progress dethrux_from_utf8_lossy(
-    dethrux_byte_order byte_order, const uint8_t *utf8, size_t len, uint8_t *to, size_t capacity);
+    dethrux_byte_order byte_order, const void *utf8, size_t len, void *to, size_t capacity);
 
 /**
  * Returns the length of the longest well-formed prefix, the number of its characters, and the
@@ -484,7 +484,7 @@ DETHRUX_NODISCARD dethrux_progress dethrux_from_utf8_lossy(
  * @ingroup dethrux_fixed
  */
 DETHRUX_NODISCARD dethrux_inspection dethrux_inspect(
-    dethrux_byte_order byte_order, const uint8_t *utf16, size_t len);
+    dethrux_byte_order byte_order, const void *utf16, size_t len);
 
 /**
  * Converts UTF-16 to UTF-32, up to the first ill-formed sequence.
@@ -500,8 +500,7 @@ DETHRUX_NODISCARD dethrux_inspection dethrux_inspect(
  * @ingroup dethrux_fixed
  */
 DETHRUX_NODISCARD dethrux_progress dethrux_to_utf32(
-    dethrux_byte_order byte_order, const uint8_t *utf16, size_t len, uint32_t *to,
-    size_t capacity);
+    dethrux_byte_order byte_order, const void *utf16, size_t len, uint32_t *to, size_t capacity);
 
 /**
  * Converts UTF-16 to UTF-32 and replaces what is ill formed by U+FFFD, as dethrux_to_utf8_lossy
@@ -515,8 +514,7 @@ DETHRUX_NODISCARD dethrux_progress dethrux_to_utf32(
  * @ingroup dethrux_fixed
  */
 DETHRUX_NODISCARD dethrux_progress dethrux_to_utf32_lossy(
-    dethrux_byte_order byte_order, const uint8_t *utf16, size_t len, uint32_t *to,
-    size_t capacity);
+    dethrux_byte_order byte_order, const void *utf16, size_t len, uint32_t *to, size_t capacity);
 
 /**
  * Returns how many code units of UTF-32 dethrux_to_utf32_lossy writes for the whole input.
@@ -527,7 +525,7 @@ DETHRUX_NODISCARD dethrux_progress dethrux_to_utf32_lossy(
  * @ingroup dethrux_fixed
  */
 DETHRUX_NODISCARD size_t dethrux_to_utf32_lossy_len(
-    dethrux_byte_order byte_order, const uint8_t *utf16, size_t len);
+    dethrux_byte_order byte_order, const void *utf16, size_t len);
 
 /**
  * Returns how many code units at the start are UTF-32, and what follows them.
@@ -554,8 +552,7 @@ DETHRUX_NODISCARD dethrux_validity dethrux_validate_utf32(const uint32_t *utf32,
  * @ingroup dethrux_fixed
  */
 DETHRUX_NODISCARD dethrux_progress dethrux_from_utf32(
-    dethrux_byte_order byte_order, const uint32_t *utf32, size_t len, uint8_t *to,
-    size_t capacity);
+    dethrux_byte_order byte_order, const uint32_t *utf32, size_t len, void *to, size_t capacity);
 
 /**
  * Converts UTF-32 to UTF-16 and replaces each ill-formed code unit by U+FFFD.
@@ -568,8 +565,7 @@ DETHRUX_NODISCARD dethrux_progress dethrux_from_utf32(
  * @ingroup dethrux_fixed
  */
 DETHRUX_NODISCARD dethrux_progress dethrux_from_utf32_lossy(
-    dethrux_byte_order byte_order, const uint32_t *utf32, size_t len, uint8_t *to,
-    size_t capacity);
+    dethrux_byte_order byte_order, const uint32_t *utf32, size_t len, void *to, size_t capacity);
 
 /**
  * Returns the length in bytes of what dethrux_from_utf32_lossy writes for the whole input.
@@ -596,7 +592,7 @@ DETHRUX_NODISCARD size_t dethrux_from_utf32_lossy_len(const uint32_t *utf32, siz
  * @ingroup dethrux_fixed
  */
 DETHRUX_NODISCARD dethrux_progress dethrux_to_latin1(
-    dethrux_byte_order byte_order, const uint8_t *utf16, size_t len, uint8_t *to, size_t capacity);
+    dethrux_byte_order byte_order, const void *utf16, size_t len, void *to, size_t capacity);
 
 /**
  * Converts Latin-1 (ISO 8859-1) to UTF-16. Latin-1 is never ill formed.
@@ -610,8 +606,7 @@ DETHRUX_NODISCARD dethrux_progress dethrux_to_latin1(
  * @ingroup dethrux_fixed
  */
 DETHRUX_NODISCARD dethrux_progress dethrux_from_latin1(
-    dethrux_byte_order byte_order, const uint8_t *latin1, size_t len, uint8_t *to,
-    size_t capacity);
+    dethrux_byte_order byte_order, const void *latin1, size_t len, void *to, size_t capacity);
 
 /**
  * Converts all code units of UTF-16 to WTF-8, which keeps unpaired surrogates.
@@ -627,7 +622,7 @@ DETHRUX_NODISCARD dethrux_progress dethrux_from_latin1(
  * @ingroup dethrux_wtf8
  */
 DETHRUX_NODISCARD dethrux_progress dethrux_to_wtf8(
-    dethrux_byte_order byte_order, const uint8_t *utf16, size_t len, uint8_t *to, size_t capacity);
+    dethrux_byte_order byte_order, const void *utf16, size_t len, void *to, size_t capacity);
 
 /**
  * Returns the length of what dethrux_to_wtf8 writes for the whole input.
@@ -636,7 +631,7 @@ DETHRUX_NODISCARD dethrux_progress dethrux_to_wtf8(
  * @ingroup dethrux_wtf8
  */
 DETHRUX_NODISCARD size_t dethrux_to_wtf8_len(
-    dethrux_byte_order byte_order, const uint8_t *utf16, size_t len);
+    dethrux_byte_order byte_order, const void *utf16, size_t len);
 
 /**
  * Converts the next chunk of a stream to WTF-8, without a decoder.
@@ -655,7 +650,7 @@ DETHRUX_NODISCARD size_t dethrux_to_wtf8_len(
  * @ingroup dethrux_wtf8
  */
 DETHRUX_NODISCARD dethrux_progress dethrux_to_wtf8_partial(
-    dethrux_byte_order byte_order, const uint8_t *utf16, size_t len, uint8_t *to, size_t capacity);
+    dethrux_byte_order byte_order, const void *utf16, size_t len, void *to, size_t capacity);
 
 /**
  * Decodes the next chunk of a stream, cut anywhere, to WTF-8.
@@ -671,9 +666,8 @@ DETHRUX_NODISCARD dethrux_progress dethrux_to_wtf8_partial(
  *   than 4 bytes of `to` were left, so with a capacity of 4 or more something was written
  * @ingroup dethrux_wtf8
  */
-DETHRUX_NODISCARD dethrux_progress dethrux_decoder_feed_wtf8(
-    dethrux_decoder *decoder, dethrux_byte_order byte_order, const uint8_t *chunk, size_t len,
-    uint8_t *to, size_t capacity);
+DETHRUX_NODISCARD dethrux_progress dethrux_decoder_feed_wtf8(dethrux_decoder *decoder,
+    dethrux_byte_order byte_order, const void *chunk, size_t len, void *to, size_t capacity);
 
 /**
  * Ends a stream of dethrux_decoder_feed_wtf8 whose last chunk was read.
@@ -691,7 +685,7 @@ DETHRUX_NODISCARD dethrux_progress dethrux_decoder_feed_wtf8(
  * @ingroup dethrux_wtf8
  */
 DETHRUX_NODISCARD dethrux_progress dethrux_decoder_finish_wtf8(
-    dethrux_decoder *decoder, dethrux_byte_order byte_order, uint8_t *to, size_t capacity);
+    dethrux_decoder *decoder, dethrux_byte_order byte_order, void *to, size_t capacity);
 
 /**
  * Converts WTF-8 to UTF-16, up to the first ill-formed sequence, of 1 to 3 bytes.
@@ -709,7 +703,7 @@ DETHRUX_NODISCARD dethrux_progress dethrux_decoder_finish_wtf8(
  * @ingroup dethrux_wtf8
  */
 DETHRUX_NODISCARD dethrux_progress dethrux_from_wtf8(
-    dethrux_byte_order byte_order, const uint8_t *wtf8, size_t len, uint8_t *to, size_t capacity);
+    dethrux_byte_order byte_order, const void *wtf8, size_t len, void *to, size_t capacity);
 
 /**
  * Converts the next chunk of a stream of WTF-8, cut anywhere, to UTF-16.
@@ -729,7 +723,7 @@ DETHRUX_NODISCARD dethrux_progress dethrux_from_wtf8(
  * @ingroup dethrux_wtf8
  */
 DETHRUX_NODISCARD dethrux_progress dethrux_from_wtf8_partial(
-    dethrux_byte_order byte_order, const uint8_t *wtf8, size_t len, uint8_t *to, size_t capacity);
+    dethrux_byte_order byte_order, const void *wtf8, size_t len, void *to, size_t capacity);
 
 /**
  * Decodes the next chunk of a stream, cut anywhere, to UTF-8.
@@ -745,9 +739,8 @@ DETHRUX_NODISCARD dethrux_progress dethrux_from_wtf8_partial(
  *   of `to` were left, so with a capacity of 4 or more something was written
  * @ingroup dethrux_streams
  */
-DETHRUX_NODISCARD dethrux_progress dethrux_decoder_feed(
-    dethrux_decoder *decoder, dethrux_byte_order byte_order, const uint8_t *chunk, size_t len,
-    uint8_t *to, size_t capacity);
+DETHRUX_NODISCARD dethrux_progress dethrux_decoder_feed(dethrux_decoder *decoder,
+    dethrux_byte_order byte_order, const void *chunk, size_t len, void *to, size_t capacity);
 
 /**
  * Ends a stream whose last chunk was read.
@@ -763,7 +756,7 @@ DETHRUX_NODISCARD dethrux_progress dethrux_decoder_feed(
  * @ingroup dethrux_streams
  */
 DETHRUX_NODISCARD dethrux_progress dethrux_decoder_finish(
-    dethrux_decoder *decoder, uint8_t *to, size_t capacity);
+    dethrux_decoder *decoder, void *to, size_t capacity);
 
 /**
  * Encodes the next chunk of a stream of UTF-8, cut anywhere, in UTF-16.
@@ -781,9 +774,8 @@ DETHRUX_NODISCARD dethrux_progress dethrux_decoder_finish(
  *   of `to` were left, so with a capacity of 4 or more something was written
  * @ingroup dethrux_streams
  */
-DETHRUX_NODISCARD dethrux_progress dethrux_encoder_feed(
-    dethrux_encoder *encoder, dethrux_byte_order byte_order, const uint8_t *chunk, size_t len,
-    uint8_t *to, size_t capacity);
+DETHRUX_NODISCARD dethrux_progress dethrux_encoder_feed(dethrux_encoder *encoder,
+    dethrux_byte_order byte_order, const void *chunk, size_t len, void *to, size_t capacity);
 
 /**
  * Ends a stream of UTF-8 whose last chunk was read.
@@ -800,7 +792,7 @@ DETHRUX_NODISCARD dethrux_progress dethrux_encoder_feed(
  * @ingroup dethrux_streams
  */
 DETHRUX_NODISCARD dethrux_progress dethrux_encoder_finish(
-    dethrux_encoder *encoder, dethrux_byte_order byte_order, uint8_t *to, size_t capacity);
+    dethrux_encoder *encoder, dethrux_byte_order byte_order, void *to, size_t capacity);
 
 /**
  * Returns whether an offset is a boundary between characters.
@@ -816,7 +808,7 @@ DETHRUX_NODISCARD dethrux_progress dethrux_encoder_finish(
  * @ingroup dethrux_boundaries
  */
 DETHRUX_NODISCARD bool dethrux_is_char_boundary(
-    dethrux_byte_order byte_order, const uint8_t *utf16, size_t len, size_t at);
+    dethrux_byte_order byte_order, const void *utf16, size_t len, size_t at);
 
 /**
  * Returns the greatest boundary at or before an offset.
@@ -826,7 +818,7 @@ DETHRUX_NODISCARD bool dethrux_is_char_boundary(
  * @ingroup dethrux_boundaries
  */
 DETHRUX_NODISCARD size_t dethrux_floor_char_boundary(
-    dethrux_byte_order byte_order, const uint8_t *utf16, size_t len, size_t at);
+    dethrux_byte_order byte_order, const void *utf16, size_t len, size_t at);
 
 /**
  * Returns the greatest boundary at or before an offset of a file, from a few of its bytes.
@@ -838,7 +830,7 @@ DETHRUX_NODISCARD size_t dethrux_floor_char_boundary(
  * @ingroup dethrux_boundaries
  */
 DETHRUX_NODISCARD uint64_t dethrux_floor_char_boundary_around(
-    dethrux_byte_order byte_order, const uint8_t *around, size_t len, uint64_t at);
+    dethrux_byte_order byte_order, const void *around, size_t len, uint64_t at);
 
 /**
  * Returns the offset where part `index` of `count` parts begins in a file of `len` bytes.
@@ -867,9 +859,8 @@ DETHRUX_NODISCARD uint64_t dethrux_shard_offset(uint64_t len, uint64_t count, ui
  * @see dethrux_is_char_boundary
  * @ingroup dethrux_search
  */
-DETHRUX_NODISCARD size_t dethrux_find(
-    dethrux_byte_order byte_order, const uint8_t *utf16, size_t len, const uint8_t *pattern,
-    size_t pattern_len);
+DETHRUX_NODISCARD size_t dethrux_find(dethrux_byte_order byte_order, const void *utf16, size_t len,
+    const void *pattern, size_t pattern_len);
 
 /**
  * Returns the greatest offset at which a pattern occurs in a text.
@@ -882,9 +873,8 @@ DETHRUX_NODISCARD size_t dethrux_find(
  * @see dethrux_find
  * @ingroup dethrux_search
  */
-DETHRUX_NODISCARD size_t dethrux_rfind(
-    dethrux_byte_order byte_order, const uint8_t *utf16, size_t len, const uint8_t *pattern,
-    size_t pattern_len);
+DETHRUX_NODISCARD size_t dethrux_rfind(dethrux_byte_order byte_order, const void *utf16, size_t len,
+    const void *pattern, size_t pattern_len);
 
 /**
  * Swaps the two bytes of each code unit in place: UTF-16 in the other byte order.
@@ -893,7 +883,7 @@ DETHRUX_NODISCARD size_t dethrux_rfind(
  *
  * @ingroup dethrux_in_place
  */
-void dethrux_swap_byte_order(uint8_t *utf16, size_t len);
+void dethrux_swap_byte_order(void *utf16, size_t len);
 
 /**
  * Replaces each unpaired surrogate by U+FFFD in place.
@@ -904,7 +894,7 @@ void dethrux_swap_byte_order(uint8_t *utf16, size_t len);
  * @return how many there were
  * @ingroup dethrux_in_place
  */
-size_t dethrux_make_well_formed(dethrux_byte_order byte_order, uint8_t *utf16, size_t len);
+size_t dethrux_make_well_formed(dethrux_byte_order byte_order, void *utf16, size_t len);
 
 /**
  * Compares two texts by their scalar values, each in its byte order.
@@ -916,9 +906,8 @@ size_t dethrux_make_well_formed(dethrux_byte_order byte_order, uint8_t *utf16, s
  * @return -1, 0 or 1 if the first is less than, equal to or greater than the second
  * @ingroup dethrux_properties
  */
-DETHRUX_NODISCARD int32_t dethrux_compare(
-    dethrux_byte_order first_order, const uint8_t *first, size_t first_len,
-    dethrux_byte_order second_order, const uint8_t *second, size_t second_len);
+DETHRUX_NODISCARD int32_t dethrux_compare(dethrux_byte_order first_order, const void *first,
+    size_t first_len, dethrux_byte_order second_order, const void *second, size_t second_len);
 
 /**
  * Returns the byte order mark (BOM) at the start of a stream, and the byte order.
@@ -935,7 +924,7 @@ DETHRUX_NODISCARD int32_t dethrux_compare(
  * @ingroup dethrux_streams
  */
 DETHRUX_NODISCARD dethrux_bom dethrux_detect_bom(
-    dethrux_byte_order default_order, const uint8_t *bytes, size_t len);
+    dethrux_byte_order default_order, const void *bytes, size_t len);
 
 #ifdef __cplusplus
 }
@@ -964,23 +953,17 @@ DETHRUX_NODISCARD dethrux_bom dethrux_detect_bom(
 #ifdef __cplusplus
 #define DETHRUX_U16 template <typename dethrux_unit> inline
 #define DETHRUX_U16_RESULT template <typename dethrux_unit> DETHRUX_NODISCARD inline
-DETHRUX_U16 const uint8_t *dethrux_u16_bytes(const dethrux_unit *utf16) {
+DETHRUX_U16 dethrux_unit *dethrux_u16_bytes(dethrux_unit *utf16) {
     static_assert(sizeof(dethrux_unit) == 2, "a code unit of UTF-16 has two bytes");
-    return reinterpret_cast<const uint8_t *>(utf16);
-}
-DETHRUX_U16 uint8_t *dethrux_u16_bytes(dethrux_unit *utf16) {
-    static_assert(sizeof(dethrux_unit) == 2, "a code unit of UTF-16 has two bytes");
-    return reinterpret_cast<uint8_t *>(utf16);
+    return utf16;
 }
 #define DETHRUX_U16_BYTES(utf16) dethrux_u16_bytes(utf16)
-#define DETHRUX_U16_BYTES_MUT(utf16) dethrux_u16_bytes(utf16)
 #else
 #define DETHRUX_U16 static inline
 #define DETHRUX_U16_RESULT DETHRUX_NODISCARD static inline
 /** A code unit. In C++ it is any integral type of two bytes. */
 typedef uint16_t dethrux_unit;
-#define DETHRUX_U16_BYTES(utf16) ((const uint8_t *)(utf16))
-#define DETHRUX_U16_BYTES_MUT(utf16) ((uint8_t *)(utf16))
+#define DETHRUX_U16_BYTES(utf16) (utf16)
 #endif
 
 /** The capacity in bytes for the calls from `len` code units to UTF-8 and WTF-8. */
@@ -995,8 +978,7 @@ typedef uint16_t dethrux_unit;
 #define DETHRUX_U16_ENCODER_FEED_MAX(len) ((size_t)(len) + 1)
 
 /** Does what dethrux_validate does, on code units. */
-DETHRUX_U16_RESULT dethrux_validity dethrux_u16_validate(
-    const dethrux_unit *utf16, size_t len) {
+DETHRUX_U16_RESULT dethrux_validity dethrux_u16_validate(const dethrux_unit *utf16, size_t len) {
     dethrux_validity validity =
         dethrux_validate(DETHRUX_NATIVE_ENDIAN, DETHRUX_U16_BYTES(utf16), len * 2);
     validity.valid_up_to /= 2;
@@ -1005,8 +987,7 @@ DETHRUX_U16_RESULT dethrux_validity dethrux_u16_validate(
 }
 
 /** Does what dethrux_count_chars does, on code units. */
-DETHRUX_U16_RESULT size_t dethrux_u16_count_chars(
-    const dethrux_unit *utf16, size_t len) {
+DETHRUX_U16_RESULT size_t dethrux_u16_count_chars(const dethrux_unit *utf16, size_t len) {
     return dethrux_count_chars(DETHRUX_NATIVE_ENDIAN, DETHRUX_U16_BYTES(utf16), len * 2);
 }
 
@@ -1020,14 +1001,12 @@ DETHRUX_U16_RESULT bool dethrux_u16_is_ascii(const dethrux_unit *utf16, size_t l
  *
  * @return at most `len * 3`
  */
-DETHRUX_U16_RESULT size_t dethrux_u16_to_utf8_lossy_len(
-    const dethrux_unit *utf16, size_t len) {
+DETHRUX_U16_RESULT size_t dethrux_u16_to_utf8_lossy_len(const dethrux_unit *utf16, size_t len) {
     return dethrux_to_utf8_lossy_len(DETHRUX_NATIVE_ENDIAN, DETHRUX_U16_BYTES(utf16), len * 2);
 }
 
 /** Does what dethrux_to_utf8_replacements does, on code units. */
-DETHRUX_U16_RESULT size_t dethrux_u16_to_utf8_replacements(
-    const dethrux_unit *utf16, size_t len) {
+DETHRUX_U16_RESULT size_t dethrux_u16_to_utf8_replacements(const dethrux_unit *utf16, size_t len) {
     return dethrux_to_utf8_replacements(DETHRUX_NATIVE_ENDIAN, DETHRUX_U16_BYTES(utf16), len * 2);
 }
 
@@ -1037,7 +1016,7 @@ DETHRUX_U16_RESULT size_t dethrux_u16_to_utf8_replacements(
  * @param capacity `len * 3` suffices
  */
 DETHRUX_U16_RESULT dethrux_progress dethrux_u16_to_utf8(
-    const dethrux_unit *utf16, size_t len, uint8_t *to, size_t capacity) {
+    const dethrux_unit *utf16, size_t len, void *to, size_t capacity) {
     dethrux_progress progress =
         dethrux_to_utf8(DETHRUX_NATIVE_ENDIAN, DETHRUX_U16_BYTES(utf16), len * 2, to, capacity);
     progress.read /= 2;
@@ -1051,7 +1030,7 @@ DETHRUX_U16_RESULT dethrux_progress dethrux_u16_to_utf8(
  * @param capacity `len * 3` suffices
  */
 DETHRUX_U16_RESULT dethrux_progress dethrux_u16_to_utf8_lossy(
-    const dethrux_unit *utf16, size_t len, uint8_t *to, size_t capacity) {
+    const dethrux_unit *utf16, size_t len, void *to, size_t capacity) {
     dethrux_progress progress = dethrux_to_utf8_lossy(
         DETHRUX_NATIVE_ENDIAN, DETHRUX_U16_BYTES(utf16), len * 2, to, capacity);
     progress.read /= 2;
@@ -1066,7 +1045,7 @@ DETHRUX_U16_RESULT dethrux_progress dethrux_u16_to_utf8_lossy(
  * @param capacity `len * 3` suffices
  */
 DETHRUX_U16_RESULT dethrux_progress dethrux_u16_to_utf8_partial(
-    const dethrux_unit *utf16, size_t len, uint8_t *to, size_t capacity) {
+    const dethrux_unit *utf16, size_t len, void *to, size_t capacity) {
     dethrux_progress progress = dethrux_to_utf8_partial(
         DETHRUX_NATIVE_ENDIAN, DETHRUX_U16_BYTES(utf16), len * 2, to, capacity);
     progress.read /= 2;
@@ -1080,8 +1059,7 @@ DETHRUX_U16_RESULT dethrux_progress dethrux_u16_to_utf8_partial(
  * @param capacity `(len + 1) * 3` suffices
  */
 DETHRUX_U16_RESULT dethrux_progress dethrux_u16_decoder_feed(
-    dethrux_decoder *decoder, const dethrux_unit *chunk, size_t len, uint8_t *to,
-    size_t capacity) {
+    dethrux_decoder *decoder, const dethrux_unit *chunk, size_t len, void *to, size_t capacity) {
     dethrux_progress progress = dethrux_decoder_feed(
         decoder, DETHRUX_NATIVE_ENDIAN, DETHRUX_U16_BYTES(chunk), len * 2, to, capacity);
     progress.read /= 2;
@@ -1094,9 +1072,9 @@ DETHRUX_U16_RESULT dethrux_progress dethrux_u16_decoder_feed(
  * @param capacity `len` suffices
  */
 DETHRUX_U16_RESULT dethrux_progress dethrux_u16_from_utf8(
-    const uint8_t *utf8, size_t len, dethrux_unit *to, size_t capacity) {
-    dethrux_progress progress = dethrux_from_utf8(
-        DETHRUX_NATIVE_ENDIAN, utf8, len, DETHRUX_U16_BYTES_MUT(to), capacity * 2);
+    const void *utf8, size_t len, dethrux_unit *to, size_t capacity) {
+    dethrux_progress progress =
+        dethrux_from_utf8(DETHRUX_NATIVE_ENDIAN, utf8, len, DETHRUX_U16_BYTES(to), capacity * 2);
     progress.written /= 2;
     return progress;
 }
@@ -1107,9 +1085,9 @@ DETHRUX_U16_RESULT dethrux_progress dethrux_u16_from_utf8(
  * @param capacity `len` suffices
  */
 DETHRUX_U16_RESULT dethrux_progress dethrux_u16_from_utf8_lossy(
-    const uint8_t *utf8, size_t len, dethrux_unit *to, size_t capacity) {
+    const void *utf8, size_t len, dethrux_unit *to, size_t capacity) {
     dethrux_progress progress = dethrux_from_utf8_lossy(
-        DETHRUX_NATIVE_ENDIAN, utf8, len, DETHRUX_U16_BYTES_MUT(to), capacity * 2);
+        DETHRUX_NATIVE_ENDIAN, utf8, len, DETHRUX_U16_BYTES(to), capacity * 2);
     progress.written /= 2;
     return progress;
 }
@@ -1120,10 +1098,9 @@ DETHRUX_U16_RESULT dethrux_progress dethrux_u16_from_utf8_lossy(
  * @param capacity `len + 1` suffices
  */
 DETHRUX_U16_RESULT dethrux_progress dethrux_u16_encoder_feed(
-    dethrux_encoder *encoder, const uint8_t *chunk, size_t len, dethrux_unit *to,
-    size_t capacity) {
+    dethrux_encoder *encoder, const void *chunk, size_t len, dethrux_unit *to, size_t capacity) {
     dethrux_progress progress = dethrux_encoder_feed(
-        encoder, DETHRUX_NATIVE_ENDIAN, chunk, len, DETHRUX_U16_BYTES_MUT(to), capacity * 2);
+        encoder, DETHRUX_NATIVE_ENDIAN, chunk, len, DETHRUX_U16_BYTES(to), capacity * 2);
     progress.written /= 2;
     return progress;
 }
@@ -1135,15 +1112,14 @@ DETHRUX_U16_RESULT dethrux_progress dethrux_u16_encoder_feed(
  */
 DETHRUX_U16_RESULT dethrux_progress dethrux_u16_encoder_finish(
     dethrux_encoder *encoder, dethrux_unit *to, size_t capacity) {
-    dethrux_progress progress = dethrux_encoder_finish(
-        encoder, DETHRUX_NATIVE_ENDIAN, DETHRUX_U16_BYTES_MUT(to), capacity * 2);
+    dethrux_progress progress =
+        dethrux_encoder_finish(encoder, DETHRUX_NATIVE_ENDIAN, DETHRUX_U16_BYTES(to), capacity * 2);
     progress.written /= 2;
     return progress;
 }
 
 /** Does what dethrux_inspect does, on code units. */
-DETHRUX_U16_RESULT dethrux_inspection dethrux_u16_inspect(
-    const dethrux_unit *utf16, size_t len) {
+DETHRUX_U16_RESULT dethrux_inspection dethrux_u16_inspect(const dethrux_unit *utf16, size_t len) {
     dethrux_inspection inspection =
         dethrux_inspect(DETHRUX_NATIVE_ENDIAN, DETHRUX_U16_BYTES(utf16), len * 2);
     inspection.valid_up_to /= 2;
@@ -1183,8 +1159,7 @@ DETHRUX_U16_RESULT dethrux_progress dethrux_u16_to_utf32_lossy(
  *
  * @return at most `len`
  */
-DETHRUX_U16_RESULT size_t dethrux_u16_to_utf32_lossy_len(
-    const dethrux_unit *utf16, size_t len) {
+DETHRUX_U16_RESULT size_t dethrux_u16_to_utf32_lossy_len(const dethrux_unit *utf16, size_t len) {
     return dethrux_to_utf32_lossy_len(DETHRUX_NATIVE_ENDIAN, DETHRUX_U16_BYTES(utf16), len * 2);
 }
 
@@ -1195,8 +1170,8 @@ DETHRUX_U16_RESULT size_t dethrux_u16_to_utf32_lossy_len(
  */
 DETHRUX_U16_RESULT dethrux_progress dethrux_u16_from_utf32(
     const uint32_t *utf32, size_t len, dethrux_unit *to, size_t capacity) {
-    dethrux_progress progress = dethrux_from_utf32(
-        DETHRUX_NATIVE_ENDIAN, utf32, len, DETHRUX_U16_BYTES_MUT(to), capacity * 2);
+    dethrux_progress progress =
+        dethrux_from_utf32(DETHRUX_NATIVE_ENDIAN, utf32, len, DETHRUX_U16_BYTES(to), capacity * 2);
     progress.written /= 2;
     return progress;
 }
@@ -1209,7 +1184,7 @@ DETHRUX_U16_RESULT dethrux_progress dethrux_u16_from_utf32(
 DETHRUX_U16_RESULT dethrux_progress dethrux_u16_from_utf32_lossy(
     const uint32_t *utf32, size_t len, dethrux_unit *to, size_t capacity) {
     dethrux_progress progress = dethrux_from_utf32_lossy(
-        DETHRUX_NATIVE_ENDIAN, utf32, len, DETHRUX_U16_BYTES_MUT(to), capacity * 2);
+        DETHRUX_NATIVE_ENDIAN, utf32, len, DETHRUX_U16_BYTES(to), capacity * 2);
     progress.written /= 2;
     return progress;
 }
@@ -1220,7 +1195,7 @@ DETHRUX_U16_RESULT dethrux_progress dethrux_u16_from_utf32_lossy(
  * @param capacity `len` suffices
  */
 DETHRUX_U16_RESULT dethrux_progress dethrux_u16_to_latin1(
-    const dethrux_unit *utf16, size_t len, uint8_t *to, size_t capacity) {
+    const dethrux_unit *utf16, size_t len, void *to, size_t capacity) {
     dethrux_progress progress =
         dethrux_to_latin1(DETHRUX_NATIVE_ENDIAN, DETHRUX_U16_BYTES(utf16), len * 2, to, capacity);
     progress.read /= 2;
@@ -1234,9 +1209,9 @@ DETHRUX_U16_RESULT dethrux_progress dethrux_u16_to_latin1(
  * @param capacity `len` suffices
  */
 DETHRUX_U16_RESULT dethrux_progress dethrux_u16_from_latin1(
-    const uint8_t *latin1, size_t len, dethrux_unit *to, size_t capacity) {
+    const void *latin1, size_t len, dethrux_unit *to, size_t capacity) {
     dethrux_progress progress = dethrux_from_latin1(
-        DETHRUX_NATIVE_ENDIAN, latin1, len, DETHRUX_U16_BYTES_MUT(to), capacity * 2);
+        DETHRUX_NATIVE_ENDIAN, latin1, len, DETHRUX_U16_BYTES(to), capacity * 2);
     progress.written /= 2;
     return progress;
 }
@@ -1247,7 +1222,7 @@ DETHRUX_U16_RESULT dethrux_progress dethrux_u16_from_latin1(
  * @param capacity `len * 3` suffices
  */
 DETHRUX_U16_RESULT dethrux_progress dethrux_u16_to_wtf8(
-    const dethrux_unit *utf16, size_t len, uint8_t *to, size_t capacity) {
+    const dethrux_unit *utf16, size_t len, void *to, size_t capacity) {
     dethrux_progress progress =
         dethrux_to_wtf8(DETHRUX_NATIVE_ENDIAN, DETHRUX_U16_BYTES(utf16), len * 2, to, capacity);
     progress.read /= 2;
@@ -1259,8 +1234,7 @@ DETHRUX_U16_RESULT dethrux_progress dethrux_u16_to_wtf8(
  *
  * @return at most `len * 3`
  */
-DETHRUX_U16_RESULT size_t dethrux_u16_to_wtf8_len(
-    const dethrux_unit *utf16, size_t len) {
+DETHRUX_U16_RESULT size_t dethrux_u16_to_wtf8_len(const dethrux_unit *utf16, size_t len) {
     return dethrux_to_wtf8_len(DETHRUX_NATIVE_ENDIAN, DETHRUX_U16_BYTES(utf16), len * 2);
 }
 
@@ -1272,7 +1246,7 @@ DETHRUX_U16_RESULT size_t dethrux_u16_to_wtf8_len(
  * @param capacity `len * 3` suffices
  */
 DETHRUX_U16_RESULT dethrux_progress dethrux_u16_to_wtf8_partial(
-    const dethrux_unit *utf16, size_t len, uint8_t *to, size_t capacity) {
+    const dethrux_unit *utf16, size_t len, void *to, size_t capacity) {
     dethrux_progress progress = dethrux_to_wtf8_partial(
         DETHRUX_NATIVE_ENDIAN, DETHRUX_U16_BYTES(utf16), len * 2, to, capacity);
     progress.read /= 2;
@@ -1287,8 +1261,7 @@ DETHRUX_U16_RESULT dethrux_progress dethrux_u16_to_wtf8_partial(
  * @param capacity `(len + 1) * 3` suffices
  */
 DETHRUX_U16_RESULT dethrux_progress dethrux_u16_decoder_feed_wtf8(
-    dethrux_decoder *decoder, const dethrux_unit *chunk, size_t len, uint8_t *to,
-    size_t capacity) {
+    dethrux_decoder *decoder, const dethrux_unit *chunk, size_t len, void *to, size_t capacity) {
     dethrux_progress progress = dethrux_decoder_feed_wtf8(
         decoder, DETHRUX_NATIVE_ENDIAN, DETHRUX_U16_BYTES(chunk), len * 2, to, capacity);
     progress.read /= 2;
@@ -1301,9 +1274,9 @@ DETHRUX_U16_RESULT dethrux_progress dethrux_u16_decoder_feed_wtf8(
  * @param capacity `len` suffices
  */
 DETHRUX_U16_RESULT dethrux_progress dethrux_u16_from_wtf8(
-    const uint8_t *wtf8, size_t len, dethrux_unit *to, size_t capacity) {
-    dethrux_progress progress = dethrux_from_wtf8(
-        DETHRUX_NATIVE_ENDIAN, wtf8, len, DETHRUX_U16_BYTES_MUT(to), capacity * 2);
+    const void *wtf8, size_t len, dethrux_unit *to, size_t capacity) {
+    dethrux_progress progress =
+        dethrux_from_wtf8(DETHRUX_NATIVE_ENDIAN, wtf8, len, DETHRUX_U16_BYTES(to), capacity * 2);
     progress.written /= 2;
     return progress;
 }
@@ -1314,9 +1287,9 @@ DETHRUX_U16_RESULT dethrux_progress dethrux_u16_from_wtf8(
  * @param capacity `len` suffices
  */
 DETHRUX_U16_RESULT dethrux_progress dethrux_u16_from_wtf8_partial(
-    const uint8_t *wtf8, size_t len, dethrux_unit *to, size_t capacity) {
+    const void *wtf8, size_t len, dethrux_unit *to, size_t capacity) {
     dethrux_progress progress = dethrux_from_wtf8_partial(
-        DETHRUX_NATIVE_ENDIAN, wtf8, len, DETHRUX_U16_BYTES_MUT(to), capacity * 2);
+        DETHRUX_NATIVE_ENDIAN, wtf8, len, DETHRUX_U16_BYTES(to), capacity * 2);
     progress.written /= 2;
     return progress;
 }
@@ -1325,8 +1298,8 @@ DETHRUX_U16_RESULT dethrux_progress dethrux_u16_from_wtf8_partial(
 DETHRUX_U16_RESULT bool dethrux_u16_is_char_boundary(
     const dethrux_unit *utf16, size_t len, size_t at) {
     return at <= len
-        && dethrux_is_char_boundary(
-            DETHRUX_NATIVE_ENDIAN, DETHRUX_U16_BYTES(utf16), len * 2, at * 2);
+           && dethrux_is_char_boundary(
+               DETHRUX_NATIVE_ENDIAN, DETHRUX_U16_BYTES(utf16), len * 2, at * 2);
 }
 
 /**
@@ -1338,7 +1311,7 @@ DETHRUX_U16_RESULT size_t dethrux_u16_floor_char_boundary(
     const dethrux_unit *utf16, size_t len, size_t at) {
     return dethrux_floor_char_boundary(DETHRUX_NATIVE_ENDIAN, DETHRUX_U16_BYTES(utf16), len * 2,
                at < len ? at * 2 : len * 2)
-        / 2;
+           / 2;
 }
 
 /**
@@ -1346,8 +1319,8 @@ DETHRUX_U16_RESULT size_t dethrux_u16_floor_char_boundary(
  *
  * @return an offset in code units, or DETHRUX_NOT_FOUND
  */
-DETHRUX_U16_RESULT size_t dethrux_u16_find(const dethrux_unit *utf16, size_t len,
-    const dethrux_unit *pattern, size_t pattern_len) {
+DETHRUX_U16_RESULT size_t dethrux_u16_find(
+    const dethrux_unit *utf16, size_t len, const dethrux_unit *pattern, size_t pattern_len) {
     size_t found = dethrux_find(DETHRUX_NATIVE_ENDIAN, DETHRUX_U16_BYTES(utf16), len * 2,
         DETHRUX_U16_BYTES(pattern), pattern_len * 2);
     return found == DETHRUX_NOT_FOUND ? found : found / 2;
@@ -1358,8 +1331,8 @@ DETHRUX_U16_RESULT size_t dethrux_u16_find(const dethrux_unit *utf16, size_t len
  *
  * @return an offset in code units, or DETHRUX_NOT_FOUND
  */
-DETHRUX_U16_RESULT size_t dethrux_u16_rfind(const dethrux_unit *utf16, size_t len,
-    const dethrux_unit *pattern, size_t pattern_len) {
+DETHRUX_U16_RESULT size_t dethrux_u16_rfind(
+    const dethrux_unit *utf16, size_t len, const dethrux_unit *pattern, size_t pattern_len) {
     size_t found = dethrux_rfind(DETHRUX_NATIVE_ENDIAN, DETHRUX_U16_BYTES(utf16), len * 2,
         DETHRUX_U16_BYTES(pattern), pattern_len * 2);
     return found == DETHRUX_NOT_FOUND ? found : found / 2;
@@ -1367,17 +1340,17 @@ DETHRUX_U16_RESULT size_t dethrux_u16_rfind(const dethrux_unit *utf16, size_t le
 
 /** Does what dethrux_swap_byte_order does, on code units. */
 DETHRUX_U16 void dethrux_u16_swap_byte_order(dethrux_unit *utf16, size_t len) {
-    dethrux_swap_byte_order(DETHRUX_U16_BYTES_MUT(utf16), len * 2);
+    dethrux_swap_byte_order(DETHRUX_U16_BYTES(utf16), len * 2);
 }
 
 /** Does what dethrux_make_well_formed does, on code units. */
 DETHRUX_U16 size_t dethrux_u16_make_well_formed(dethrux_unit *utf16, size_t len) {
-    return dethrux_make_well_formed(DETHRUX_NATIVE_ENDIAN, DETHRUX_U16_BYTES_MUT(utf16), len * 2);
+    return dethrux_make_well_formed(DETHRUX_NATIVE_ENDIAN, DETHRUX_U16_BYTES(utf16), len * 2);
 }
 
 /** Does what dethrux_compare does, on code units. */
-DETHRUX_U16_RESULT int32_t dethrux_u16_compare(const dethrux_unit *first,
-    size_t first_len, const dethrux_unit *second, size_t second_len) {
+DETHRUX_U16_RESULT int32_t dethrux_u16_compare(
+    const dethrux_unit *first, size_t first_len, const dethrux_unit *second, size_t second_len) {
     return dethrux_compare(DETHRUX_NATIVE_ENDIAN, DETHRUX_U16_BYTES(first), first_len * 2,
         DETHRUX_NATIVE_ENDIAN, DETHRUX_U16_BYTES(second), second_len * 2);
 }
@@ -1387,6 +1360,5 @@ DETHRUX_U16_RESULT int32_t dethrux_u16_compare(const dethrux_unit *first,
 #undef DETHRUX_U16
 #undef DETHRUX_U16_RESULT
 #undef DETHRUX_U16_BYTES
-#undef DETHRUX_U16_BYTES_MUT
 
 #endif

@@ -380,11 +380,11 @@ dethrux_progress append(String &to, std::size_t most, Write write) {
 }
 
 using conversion = dethrux_progress (*)(
-    dethrux_byte_order, const std::uint8_t *, std::size_t, std::uint8_t *, std::size_t);
+    dethrux_byte_order, const void *, std::size_t, void *, std::size_t);
 using widening = dethrux_progress (*)(
-    dethrux_byte_order, const std::uint8_t *, std::size_t, std::uint32_t *, std::size_t);
+    dethrux_byte_order, const void *, std::size_t, std::uint32_t *, std::size_t);
 using narrowing = dethrux_progress (*)(
-    dethrux_byte_order, const std::uint32_t *, std::size_t, std::uint8_t *, std::size_t);
+    dethrux_byte_order, const std::uint32_t *, std::size_t, void *, std::size_t);
 
 inline const std::uint32_t *points_of(points utf32) noexcept {
     return reinterpret_cast<const std::uint32_t *>(utf32.data());
@@ -395,8 +395,7 @@ template <class T>
 dethrux_progress from_utf16_by(
     conversion call, const utf16 &from, std::size_t read, T *to, std::size_t capacity) {
     static_assert(sizeof(T) == 1);
-    return call(from.order(), from.data() + read, from.len() - read,
-        reinterpret_cast<std::uint8_t *>(to), capacity);
+    return call(from.order(), from.data() + read, from.len() - read, to, capacity);
 }
 
 // Makes a call that writes UTF-16 in code units, if the elements have two bytes, or in bytes.
@@ -404,8 +403,7 @@ template <class Call, class From, class T>
 dethrux_progress to_utf16_by(
     Call call, byte_order order, const From *from, std::size_t len, T *to, std::size_t capacity) {
     static_assert(sizeof(T) == 1 || sizeof(T) == 2);
-    dethrux_progress made = call(detail::order(order), from, len,
-        reinterpret_cast<std::uint8_t *>(to), capacity * sizeof(T));
+    dethrux_progress made = call(detail::order(order), from, len, to, capacity * sizeof(T));
     made.written /= sizeof(T);
     return made;
 }
@@ -1170,8 +1168,7 @@ template <class C>
 void swap_byte_order(C &&text) noexcept {
     constexpr std::size_t size = sizeof(detail::element_of<C>);
     static_assert(size <= 2, "code units, or bytes");
-    dethrux_swap_byte_order(reinterpret_cast<std::uint8_t *>(detail::elements<size>(text)),
-        detail::to_size(text.size()) * size);
+    dethrux_swap_byte_order(detail::elements<size>(text), detail::to_size(text.size()) * size);
 }
 
 /**
@@ -1186,8 +1183,8 @@ std::size_t make_well_formed(C &&text) noexcept {
 /** Does the same for bytes in a byte order. */
 template <class C>
 std::size_t make_well_formed(byte_order order, C &&text) noexcept {
-    return dethrux_make_well_formed(detail::order(order),
-        reinterpret_cast<std::uint8_t *>(detail::elements<1>(text)), detail::to_size(text.size()));
+    return dethrux_make_well_formed(
+        detail::order(order), detail::elements<1>(text), detail::to_size(text.size()));
 }
 
 /** @} */
@@ -1207,16 +1204,15 @@ public:
     std::size_t pending() const noexcept { return state_.pending_len; }
 
 protected:
-    using feeding = dethrux_progress (*)(dethrux_decoder *, dethrux_byte_order,
-        const std::uint8_t *, std::size_t, std::uint8_t *, std::size_t);
+    using feeding = dethrux_progress (*)(
+        dethrux_decoder *, dethrux_byte_order, const void *, std::size_t, void *, std::size_t);
 
     explicit decoding(byte_order order) noexcept : order_(order) {}
 
     template <class String>
     void feed_by(feeding call, const utf16 &chunk, String &to) {
         append(to, (chunk.len() + 3) / 2 * 3, [&](auto *data, std::size_t most) {
-            return call(&state_, chunk.order(), chunk.data(), chunk.len(),
-                reinterpret_cast<std::uint8_t *>(data), most);
+            return call(&state_, chunk.order(), chunk.data(), chunk.len(), data, most);
         });
     }
 
@@ -1254,7 +1250,7 @@ public:
     template <class String>
     void finish(String &to) {
         detail::append(to, DETHRUX_DECODER_FINISH_MAX, [&](auto *data, std::size_t most) {
-            return dethrux_decoder_finish(&state_, reinterpret_cast<std::uint8_t *>(data), most);
+            return dethrux_decoder_finish(&state_, data, most);
         });
     }
 };
@@ -1394,9 +1390,8 @@ public:
     void finish(String &to) {
         constexpr std::size_t size = sizeof(typename String::value_type);
         detail::append(to, DETHRUX_ENCODER_FINISH_MAX / size, [&](auto *data, std::size_t most) {
-            dethrux_progress made = dethrux_encoder_finish(&state_,
-                detail::order(size == 2 ? byte_order::native : order_),
-                reinterpret_cast<std::uint8_t *>(data), most * size);
+            dethrux_progress made = dethrux_encoder_finish(
+                &state_, detail::order(size == 2 ? byte_order::native : order_), data, most * size);
             made.written /= size;
             return made;
         });

@@ -325,7 +325,7 @@ static item item_of_utf8(const uint8_t *at, size_t left, bool wtf8) {
     return (item){found, found == 4 ? 4 : 2, found < whole && found == left};
 }
 
-typedef dethrux_progress convert(dethrux_byte_order order, const uint8_t *from, size_t len, uint8_t *to, size_t room);
+typedef dethrux_progress convert(dethrux_byte_order order, const void *from, size_t len, void *to, size_t room);
 
 typedef enum { TO_UTF8, FROM_UTF8, TO_WTF8, FROM_WTF8 } way;
 
@@ -700,7 +700,7 @@ static bool call_every_room(dethrux_byte_order order, char **values, size_t coun
 
 /* Calls that read bytes, and functions of the library that return a number for UTF-16. */
 typedef void question(dethrux_byte_order order, const text *raw, text *answer);
-typedef size_t measure(dethrux_byte_order order, const uint8_t *utf16, size_t len);
+typedef size_t measure(dethrux_byte_order order, const void *utf16, size_t len);
 
 static void ask_is_ascii(dethrux_byte_order order, const text *raw, text *answer) {
     add_word(answer, dethrux_is_ascii(order, raw->bytes, raw->len) ? "true" : "false");
@@ -984,7 +984,7 @@ static bool call_shard(dethrux_byte_order order, char **values, size_t count, te
         return by(call, order, values, count, answer); \
     }
 
-typedef size_t search(dethrux_byte_order order, const uint8_t *utf16, size_t len, const uint8_t *pattern, size_t pattern_len);
+typedef size_t search(dethrux_byte_order order, const void *utf16, size_t len, const void *pattern, size_t pattern_len);
 
 static bool search_by(search *make, dethrux_byte_order order, char **values, size_t count, text *answer) {
     text raw = {0}, pattern = {0};
@@ -1017,7 +1017,7 @@ static uint32_t *code_points(const text *spelled, size_t *count) {
     return found;
 }
 
-typedef dethrux_progress widen(dethrux_byte_order order, const uint8_t *from, size_t len, uint32_t *to, size_t room);
+typedef dethrux_progress widen(dethrux_byte_order order, const void *from, size_t len, uint32_t *to, size_t room);
 
 static bool to_utf32_by(widen *make, dethrux_byte_order order, char **values, size_t count, text *answer) {
     text from = {0}, big = {0};
@@ -1049,7 +1049,7 @@ static bool to_utf32_by(widen *make, dethrux_byte_order order, char **values, si
 CALLED(call_to_utf32, to_utf32_by, dethrux_to_utf32)
 CALLED(call_to_utf32_lossy, to_utf32_by, dethrux_to_utf32_lossy)
 
-typedef dethrux_progress narrow(dethrux_byte_order order, const uint32_t *from, size_t len, uint8_t *to, size_t room);
+typedef dethrux_progress narrow(dethrux_byte_order order, const uint32_t *from, size_t len, void *to, size_t room);
 
 static bool from_utf32_by(narrow *make, dethrux_byte_order order, char **values, size_t count, text *answer) {
     text from = {0};

@@ -151,7 +151,7 @@ write_ignored() {
         "$parameters" "$parameters" > "$room/ignored.c"
     sed -nE 's/.*dethrux\.h:.*[ *](dethrux_[a-z0-9_]+) (\([^()]*\);).*/    \1\2/p' "$room/prototypes" |
         sed -E 's/const //g; s/\(void\)/()/; s/dethrux_(decoder|encoder) \*\w*/\1/g
-            s/uint8_t \*\w*/bytes/g; s/dethrux_unit \*\w*/units/g; s/uint32_t \*\w*/points/g
+            s/void \*\w*/bytes/g; s/dethrux_unit \*\w*/units/g; s/uint32_t \*\w*/points/g
             s/dethrux_byte_order( \w+)?/by/g; s/(size_t|uint64_t)( \w+)?/len/g' |
         grep -vE "$no_result" >> "$room/ignored.c"
     echo '}' >> "$room/ignored.c"

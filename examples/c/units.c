@@ -190,14 +190,14 @@ static dethrux_progress reached(const text *from, mode by, size_t capacity) {
     return stopped(by, found, from->len, from->validity);
 }
 
-static dethrux_progress feed_new(const uint16_t *utf16, size_t len, uint8_t *to, size_t capacity) {
+static dethrux_progress feed_new(const uint16_t *utf16, size_t len, void *to, size_t capacity) {
     dethrux_decoder decoder = DETHRUX_DECODER_INIT;
     return dethrux_u16_decoder_feed(&decoder, utf16, len, to, capacity);
 }
 
 static const struct {
     const char *name;
-    dethrux_progress (*call)(const uint16_t *utf16, size_t len, uint8_t *to, size_t capacity);
+    dethrux_progress (*call)(const uint16_t *utf16, size_t len, void *to, size_t capacity);
     mode by;
 } calls_to_utf8[] = {
     {"to_utf8", dethrux_u16_to_utf8, STRICT},
@@ -272,10 +272,6 @@ static const text8 texts8[] = {
     {"three bytes of four", "\xF0\x9F\x98", "|..|", {0, DETHRUX_INCOMPLETE, 0}, 3, 1, {0xFFFD}},
 };
 
-static const uint8_t *bytes_of(const text8 *from) {
-    return *from->utf8 == 0 ? NULL : (const uint8_t *)from->utf8;
-}
-
 static dethrux_progress reached8(const text8 *from, mode by, size_t capacity) {
     size_t len = strlen(from->utf8), kept = by == LOSSY ? 0 : from->pending;
     size_t end = by == STRICT ? from->validity.valid_up_to : len - kept;
@@ -292,14 +288,14 @@ static dethrux_progress reached8(const text8 *from, mode by, size_t capacity) {
     return stopped(by, found, len, from->validity);
 }
 
-static dethrux_progress feed_new8(const uint8_t *utf8, size_t len, uint16_t *to, size_t capacity) {
+static dethrux_progress feed_new8(const void *utf8, size_t len, uint16_t *to, size_t capacity) {
     dethrux_encoder decoder = DETHRUX_ENCODER_INIT;
     return dethrux_u16_encoder_feed(&decoder, utf8, len, to, capacity);
 }
 
 static const struct {
     const char *name;
-    dethrux_progress (*call)(const uint8_t *utf8, size_t len, uint16_t *to, size_t capacity);
+    dethrux_progress (*call)(const void *utf8, size_t len, uint16_t *to, size_t capacity);
     mode by;
 } calls_from_utf8[] = {
     {"from_utf8", dethrux_u16_from_utf8, STRICT},
@@ -315,8 +311,8 @@ static void from_utf8(const text8 *from) {
         for (size_t capacity = 0; capacity <= len; capacity++) {
             uint16_t to[BUFFER / 2];
             memset(to, BLANK, sizeof to);
-            dethrux_progress found =
-                calls_from_utf8[i].call(bytes_of(from), len, capacity == 0 ? NULL : to, capacity);
+            dethrux_progress found = calls_from_utf8[i].call(
+                len == 0 ? NULL : from->utf8, len, capacity == 0 ? NULL : to, capacity);
             is = is && is_same(found, reached8(from, calls_from_utf8[i].by, capacity))
                  && (capacity < len || found.status != DETHRUX_NO_SPACE)
                  && memcmp(to, from->units, found.written * 2) == 0 && is_blank(to, capacity * 2);
@@ -334,12 +330,11 @@ static void decode8(const text8 *from) {
     const dethrux_progress marked = {0, 1, DETHRUX_DONE, 0};
     for (size_t at = 0; at <= len; at++) {
         dethrux_encoder decoder = DETHRUX_ENCODER_INIT;
-        const uint8_t *bytes = (const uint8_t *)from->utf8;
         uint16_t to[BUFFER / 2];
         memset(to, BLANK, sizeof to);
-        dethrux_progress one = dethrux_u16_encoder_feed(&decoder, bytes, at, to, at + 1);
+        dethrux_progress one = dethrux_u16_encoder_feed(&decoder, from->utf8, at, to, at + 1);
         dethrux_progress two = dethrux_u16_encoder_feed(
-            &decoder, bytes + at, len - at, to + one.written, len - at + 1);
+            &decoder, from->utf8 + at, len - at, to + one.written, len - at + 1);
         size_t written = one.written + two.written;
         is = is && one.status == DETHRUX_DONE && two.status == DETHRUX_DONE && one.read == at
              && two.read == len - at && decoder.pending_len == from->pending
@@ -407,7 +402,7 @@ static reach reached_wtf8(const any_units *row, bool leaves, size_t units, size_
     return at;
 }
 
-static dethrux_progress feed_wtf8(const uint16_t *utf16, size_t len, uint8_t *to, size_t capacity) {
+static dethrux_progress feed_wtf8(const uint16_t *utf16, size_t len, void *to, size_t capacity) {
     dethrux_decoder decoder = DETHRUX_DECODER_INIT;
     dethrux_progress found = dethrux_u16_decoder_feed_wtf8(&decoder, utf16, len, to, capacity);
     if (decoder.pending_len == 2 && found.status == DETHRUX_DONE && found.read == len) {
@@ -419,7 +414,7 @@ static dethrux_progress feed_wtf8(const uint16_t *utf16, size_t len, uint8_t *to
 
 static const struct {
     const char *name;
-    dethrux_progress (*call)(const uint16_t *utf16, size_t len, uint8_t *to, size_t capacity);
+    dethrux_progress (*call)(const uint16_t *utf16, size_t len, void *to, size_t capacity);
     bool leaves;
 } calls_to_wtf8[] = {
     {"to_wtf8", dethrux_u16_to_wtf8, false},
@@ -429,7 +424,7 @@ static const struct {
 
 static const struct {
     const char *name;
-    dethrux_progress (*call)(const uint8_t *wtf8, size_t len, uint16_t *to, size_t capacity);
+    dethrux_progress (*call)(const void *wtf8, size_t len, uint16_t *to, size_t capacity);
     bool leaves;
 } calls_from_wtf8[] = {
     {"from_wtf8", dethrux_u16_from_wtf8, false},
@@ -459,7 +454,7 @@ static void to_wtf8(const any_units *row) {
 
 static void from_wtf8(const any_units *row) {
     size_t len = strlen(row->wtf8);
-    const uint8_t *bytes = len == 0 ? NULL : (const uint8_t *)row->wtf8;
+    const char *bytes = len == 0 ? NULL : row->wtf8;
     for (size_t i = 0; i < sizeof calls_from_wtf8 / sizeof *calls_from_wtf8; i++) {
         bool is = true;
         for (size_t capacity = 0; capacity <= len; capacity++) {
@@ -571,7 +566,7 @@ static void search(void) {
 static void other_type(void) {
     static const char16_t text[] = u"a\U0001F600";
     char16_t to[2];
-    dethrux_progress found = dethrux_u16_from_utf8((const uint8_t *)"ab", 2, to, 2);
+    dethrux_progress found = dethrux_u16_from_utf8("ab", 2, to, 2);
     check("count_chars", "char16_t", dethrux_u16_count_chars(text, 3) == 2);
     check("find", "char16_t", dethrux_u16_find(text, 3, text + 1, 2) == 1);
     check("from_utf8", "char16_t", found.written == 2 && to[0] == u'a' && to[1] == u'b');

@@ -12,7 +12,7 @@ static char *to_utf8(LPCWSTR text) {
     size_t len = wcslen(text);
     char *utf8 = malloc(len * 3 + 1);
     if (utf8 != NULL) {
-        utf8[dethrux_u16_to_utf8_lossy(text, len, (uint8_t *)utf8, len * 3).written] = '\0';
+        utf8[dethrux_u16_to_utf8_lossy(text, len, utf8, len * 3).written] = '\0';
     }
     return utf8;
 }
@@ -20,8 +20,7 @@ static char *to_utf8(LPCWSTR text) {
 /* Writes UTF-8 and a NUL to a buffer of at least one code unit. Fails if the text is ill formed or
  * does not fit. */
 static bool to_wide(const char *utf8, LPWSTR to, size_t capacity) {
-    dethrux_progress progress =
-        dethrux_u16_from_utf8((const uint8_t *)utf8, strlen(utf8), to, capacity - 1);
+    dethrux_progress progress = dethrux_u16_from_utf8(utf8, strlen(utf8), to, capacity - 1);
     to[progress.written] = L'\0';
     return progress.status == DETHRUX_DONE;
 }

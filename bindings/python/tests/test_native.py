@@ -539,8 +539,8 @@ int PyGILState_Check(void);
 /* One more than whether each call had the GIL, joined by "or"; and what `inspect` finds. */
 int held, repertoire;
 #define HELD (held |= 1 + PyGILState_Check())
-#define P dethrux_byte_order order, const uint8_t *bytes, size_t len
-#define TO uint8_t *to, size_t capacity
+#define P dethrux_byte_order order, const void *bytes, size_t len
+#define TO void *to, size_t capacity
 static dethrux_progress p(size_t len, size_t capacity) {
     HELD;
     dethrux_progress done = {len, capacity, DETHRUX_DONE, 0};
@@ -550,9 +550,9 @@ dethrux_validity dethrux_validate(P) { HELD; dethrux_validity v = {len, 0, 0}; r
 #define SIZE(name) size_t dethrux_##name(P) { HELD; return len; }
 SIZE(count_chars) SIZE(to_utf8_lossy_len) SIZE(to_utf8_replacements) SIZE(to_wtf8_len)
 bool dethrux_is_ascii(P) { HELD; return len; }
-size_t dethrux_from_utf8_len(const uint8_t *b, size_t len) { HELD; return len; }
-size_t dethrux_from_utf8_lossy_len(const uint8_t *b, size_t len) { HELD; return len; }
-size_t dethrux_from_utf8_replacements(const uint8_t *b, size_t len) { HELD; return len; }
+size_t dethrux_from_utf8_len(const void *b, size_t len) { HELD; return len; }
+size_t dethrux_from_utf8_lossy_len(const void *b, size_t len) { HELD; return len; }
+size_t dethrux_from_utf8_replacements(const void *b, size_t len) { HELD; return len; }
 #define PROGRESS(name) dethrux_progress dethrux_##name(P, TO) { return p(len, capacity); }
 PROGRESS(to_utf8) PROGRESS(to_utf8_lossy) PROGRESS(to_utf8_partial)
 PROGRESS(from_utf8) PROGRESS(from_utf8_lossy) PROGRESS(to_latin1) PROGRESS(from_latin1)
@@ -573,16 +573,16 @@ dethrux_progress dethrux_to_utf32_lossy(P, uint32_t *to, size_t capacity) { retu
 dethrux_progress dethrux_from_utf32(dethrux_byte_order order, const uint32_t *utf32, size_t len,
                                     TO) { return p(len, capacity); }
 size_t dethrux_from_utf32_lossy_len(const uint32_t *u, size_t len) { HELD; return 4 * len; }
-void dethrux_swap_byte_order(uint8_t *utf16, size_t len) { HELD; }
-size_t dethrux_make_well_formed(dethrux_byte_order o, uint8_t *b, size_t len) { HELD; return len; }
+void dethrux_swap_byte_order(void *utf16, size_t len) { HELD; }
+size_t dethrux_make_well_formed(dethrux_byte_order o, void *b, size_t len) { HELD; return len; }
 dethrux_bom dethrux_detect_bom(P) { dethrux_bom bom = {0, order, DETHRUX_BOM_ABSENT}; return bom; }
 bool dethrux_is_char_boundary(P, size_t at) { HELD; return at; }
 size_t dethrux_floor_char_boundary(P, size_t at) { HELD; return at; }
 uint64_t dethrux_floor_char_boundary_around(P, uint64_t at) { HELD; return at; }
 uint64_t dethrux_shard_offset(uint64_t len, uint64_t count, uint64_t index) { HELD; return len; }
-int32_t dethrux_compare(P, dethrux_byte_order o, const uint8_t *b, size_t n) { HELD; return 0; }
-size_t dethrux_find(P, const uint8_t *pattern, size_t n) { HELD; return 0; }
-size_t dethrux_rfind(P, const uint8_t *pattern, size_t n) { HELD; return 0; }
+int32_t dethrux_compare(P, dethrux_byte_order o, const void *b, size_t n) { HELD; return 0; }
+size_t dethrux_find(P, const void *pattern, size_t n) { HELD; return 0; }
+size_t dethrux_rfind(P, const void *pattern, size_t n) { HELD; return 0; }
 """
 # Prints each call that does not give up the GIL if it should, or gives it up if it should not.
 ASKS_GIL = r"""

@@ -52,7 +52,7 @@ typedef PyObject *action(const native *it, arguments given);
 
 /* A conversion of bytes to bytes. */
 typedef dethrux_progress conversion(
-    dethrux_byte_order order, const uint8_t *bytes, size_t len, uint8_t *to, size_t capacity);
+    dethrux_byte_order order, const void *bytes, size_t len, void *to, size_t capacity);
 
 /* Bytes that a call reads in place. */
 typedef struct {
@@ -251,7 +251,7 @@ static PyObject *validate(const native *it, arguments given) {
 
 /* Returns a number that a call has for UTF-16. */
 static PyObject *number_of_utf16(const native *it, arguments given,
-                                 size_t (*number)(dethrux_byte_order, const uint8_t *, size_t)) {
+                                 size_t (*number)(dethrux_byte_order, const void *, size_t)) {
     int order = order_of(it, given[1]);
     input utf16;
     if (order < 0 || !hold(given[0], &utf16)) {
@@ -288,7 +288,7 @@ static PyObject *is_ascii(const native *it, arguments given) {
 }
 
 /* Returns a number that a call has for UTF-8. */
-static PyObject *number_of_utf8(arguments given, size_t (*number)(const uint8_t *, size_t)) {
+static PyObject *number_of_utf8(arguments given, size_t (*number)(const void *, size_t)) {
     input utf8;
     if (!hold(given[0], &utf8)) {
         return NULL;
@@ -337,7 +337,7 @@ static PyObject *converted(conversion *convert, dethrux_byte_order order, const 
         return NULL;
     }
     PyThreadState *saved = without_gil(from->without_gil);
-    *done = convert(order, from->bytes, from->len, (uint8_t *) PyBytes_AS_STRING(output), capacity);
+    *done = convert(order, from->bytes, from->len, PyBytes_AS_STRING(output), capacity);
     with_gil(saved);
     if (done->written != capacity) {
         _PyBytes_Resize(&output, (Py_ssize_t) done->written);
@@ -428,7 +428,7 @@ static PyObject *feed_held(const native *it, arguments given, const input *chunk
     if (!output) {
         return NULL;
     }
-    uint8_t *to = (uint8_t *) PyBytes_AS_STRING(output);
+    char *to = PyBytes_AS_STRING(output);
     dethrux_byte_order order = order_of_stream(given[1]);
     stream copy;
     memcpy(&copy, state->buf, sizeof copy);

@@ -106,8 +106,8 @@ static PyObject *compare(const native *it, arguments given) {
 
 /* Returns the offset that a search finds, or -1. */
 static PyObject *searched(const native *it, arguments given,
-                          size_t (*search)(dethrux_byte_order, const uint8_t *, size_t,
-                                           const uint8_t *, size_t)) {
+                          size_t (*search)(dethrux_byte_order, const void *, size_t,
+                                           const void *, size_t)) {
     int order = order_of(it, given[2]);
     inputs texts;
     if (order < 0 || !hold_both(given[0], given[1], &texts)) {
