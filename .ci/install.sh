@@ -33,11 +33,16 @@ says() {
     [ $found = "$status" ] && [ "$(wc -l < "$room/line")" = 1 ] && grep -qF -- "$words" "$room/line"
 }
 
-# Tests that the library and each function of the header have a page, also those for code units.
+# Tests that the library and each function of the header have a page, and that one page declares all
+# functions on code units.
 has_pages() {
-    { echo dethrux && declared "$prefix/include" 'extern|static'; } > "$room/declared" || return
-    (cd "$prefix/share/man/man3" && printf '%s\n' *.3) | sed 's/\.3$//' | sort |
-        diff <(sort "$room/declared") -
+    local pages=$prefix/share/man/man3
+    declared "$prefix/include" 'extern|static' > "$room/declared" || return
+    (cd "$pages" && printf '%s\n' *.3) | sed 's/\.3$//' | sort |
+        diff <(printf '%s\n' dethrux{,_u16} | sort - "$room/declared") - &&
+        grep '^dethrux_u16_' "$room/declared" > "$room/units" &&
+        sed -n 's/^\.Fo //p' "$pages/dethrux_u16.3" | sort | diff "$room/units" - &&
+        cmp "$pages"/dethrux_u16{,_find}.3
 }
 
 config() {

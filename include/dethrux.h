@@ -39,8 +39,9 @@
  * @par Capacities
  * A conversion that has the capacity of its macro never returns DETHRUX_NO_SPACE, if only these
  * calls have set the fields of its encoder. With a smaller capacity, call again with the rest as
- * long as a call returns it. With any buffers of at least 4 bytes, these calls together write the
- * bytes that one call with enough capacity writes.
+ * long as a call returns it. Each call states which capacity such a loop needs: with that one or
+ * more, a call that returns DETHRUX_NO_SPACE has written something, and the loop ends. These calls
+ * together write the bytes that one call with enough capacity writes.
  *
  * @par Byte order marks
  * Only dethrux_detect_bom looks for a byte order mark (BOM); to every other call it is the
@@ -394,7 +395,7 @@ DETHRUX_NODISCARD size_t dethrux_from_utf8_replacements(const void *utf8, size_t
 /**
  * Converts UTF-16 to UTF-8, up to the first ill-formed sequence, an unpaired surrogate of 2 bytes.
  *
- * @param capacity `len / 2 * 3` suffices, and so does DETHRUX_UTF8_MAX(len)
+ * @param capacity `len / 2 * 3` suffices, and so does DETHRUX_UTF8_MAX(len); a loop needs 4
  * @return how far the call came, with one of these statuses:
  * - DETHRUX_DONE: all of the input was read
  * - DETHRUX_ILL_FORMED: an unpaired surrogate follows `read`
@@ -411,7 +412,7 @@ DETHRUX_NODISCARD dethrux_progress dethrux_to_utf8(
  * The replacement character U+FFFD replaces each unpaired surrogate, and an incomplete character at
  * the end.
  *
- * @param capacity DETHRUX_UTF8_MAX(len) suffices
+ * @param capacity DETHRUX_UTF8_MAX(len) suffices; a loop needs 4
  * @return how far the call came, with one of these statuses:
  * - DETHRUX_DONE: all of the input was read
  * - DETHRUX_NO_SPACE: the next character does not fit: call again with the rest
@@ -427,13 +428,12 @@ DETHRUX_NODISCARD dethrux_progress dethrux_to_utf8_lossy(
  * stream may be cut anywhere; no state is kept. However the stream is cut, the same bytes are
  * written in all.
  *
- * @param capacity `len / 2 * 3` suffices
+ * @param capacity `len / 2 * 3` suffices; a loop needs 4
  * @return how far the call came, with one of these statuses:
  * - DETHRUX_DONE: all of the chunk was read
  * - DETHRUX_INCOMPLETE: at most DETHRUX_PENDING_MAX bytes follow `read`: put them before the next
  *   chunk, and at the end of the stream pass them to dethrux_to_utf8_lossy
- * - DETHRUX_NO_SPACE: the next character does not fit: call again with the rest; with a capacity of
- *   4 or more, something was written
+ * - DETHRUX_NO_SPACE: the next character does not fit: call again with the rest
  * @ingroup dethrux_streams
  */
 DETHRUX_NODISCARD dethrux_progress dethrux_to_utf8_partial(
@@ -442,7 +442,7 @@ DETHRUX_NODISCARD dethrux_progress dethrux_to_utf8_partial(
 /**
  * Converts UTF-8 to UTF-16, up to the first ill-formed sequence, of 1 to 3 bytes.
  *
- * @param capacity DETHRUX_UTF16_MAX(len) suffices
+ * @param capacity DETHRUX_UTF16_MAX(len) suffices; a loop needs 4
  * @return how far the call came, with one of these statuses:
  * - DETHRUX_DONE: all of the input was read
  * - DETHRUX_ILL_FORMED: an ill-formed sequence follows `read`
@@ -461,7 +461,7 @@ DETHRUX_NODISCARD dethrux_progress dethrux_from_utf8(
  * ends inside a character or an ill-formed sequence, so with DETHRUX_NO_SPACE a call with the rest
  * continues correctly.
  *
- * @param capacity DETHRUX_UTF16_MAX(len) suffices
+ * @param capacity DETHRUX_UTF16_MAX(len) suffices; a loop needs 4
  * @return how far the call came, with one of these statuses:
  * - DETHRUX_DONE: all of the input was read
  * - DETHRUX_NO_SPACE: the next character does not fit: call again with the rest
@@ -491,7 +491,7 @@ DETHRUX_NODISCARD dethrux_inspection dethrux_inspect(
  *
  * @param to code points in the machine's byte order
  * @param capacity counts code units of UTF-32: `len / 2` suffices, and so does
- *   DETHRUX_UTF32_MAX(len)
+ *   DETHRUX_UTF32_MAX(len); a loop needs 1
  * @return how far the call came (`written` counts units of UTF-32), with one of these statuses:
  * - DETHRUX_DONE: all of the input was read
  * - DETHRUX_ILL_FORMED: an unpaired surrogate follows `read`
@@ -507,7 +507,7 @@ DETHRUX_NODISCARD dethrux_progress dethrux_to_utf32(
  * does.
  *
  * @param to code points in the machine's byte order
- * @param capacity counts code units of UTF-32: DETHRUX_UTF32_MAX(len) suffices
+ * @param capacity counts code units of UTF-32: DETHRUX_UTF32_MAX(len) suffices; a loop needs 1
  * @return how far the call came (`written` counts units of UTF-32), with one of these statuses:
  * - DETHRUX_DONE: all of the input was read
  * - DETHRUX_NO_SPACE: the next character does not fit: call again with the rest
@@ -544,7 +544,7 @@ DETHRUX_NODISCARD dethrux_validity dethrux_validate_utf32(const uint32_t *utf32,
  * Converts UTF-32 to UTF-16, up to the first ill-formed code unit.
  *
  * @param len counts code units
- * @param capacity DETHRUX_FROM_UTF32_MAX(len) suffices
+ * @param capacity DETHRUX_FROM_UTF32_MAX(len) suffices; a loop needs 4
  * @return how far the call came (`read` counts code units of UTF-32), with one of these statuses:
  * - DETHRUX_DONE: all of the input was read
  * - DETHRUX_ILL_FORMED: an ill-formed code unit follows `read` (`error_len` is 1)
@@ -558,7 +558,7 @@ DETHRUX_NODISCARD dethrux_progress dethrux_from_utf32(
  * Converts UTF-32 to UTF-16 and replaces each ill-formed code unit by U+FFFD.
  *
  * @param len counts code units
- * @param capacity DETHRUX_FROM_UTF32_MAX(len) suffices
+ * @param capacity DETHRUX_FROM_UTF32_MAX(len) suffices; a loop needs 4
  * @return how far the call came (`read` counts code units of UTF-32), with one of these statuses:
  * - DETHRUX_DONE: all of the input was read
  * - DETHRUX_NO_SPACE: the next character does not fit: call again with the rest
@@ -582,7 +582,7 @@ DETHRUX_NODISCARD size_t dethrux_from_utf32_lossy_len(const uint32_t *utf32, siz
  *
  * Each character is one byte. Here the bytes of `to` after `written` stay as they were.
  *
- * @param capacity `len / 2` suffices
+ * @param capacity `len / 2` suffices; a loop needs 1
  * @return how far the call came, with one of these statuses:
  * - DETHRUX_DONE: all of the input was read
  * - DETHRUX_ILL_FORMED: an unpaired surrogate follows `read`
@@ -599,7 +599,7 @@ DETHRUX_NODISCARD dethrux_progress dethrux_to_latin1(
  *
  * Here the bytes of `to` after `written` stay as they were.
  *
- * @param capacity DETHRUX_UTF16_MAX(len) suffices
+ * @param capacity DETHRUX_UTF16_MAX(len) suffices; a loop needs 2
  * @return how far the call came, with one of these statuses:
  * - DETHRUX_DONE: all of the input was read
  * - DETHRUX_NO_SPACE: fewer than 2 bytes of `to` are left: call again with the rest
@@ -614,7 +614,7 @@ DETHRUX_NODISCARD dethrux_progress dethrux_from_latin1(
  * WTF-8 is UTF-8 that may also have unpaired surrogates, of 3 bytes each. dethrux_from_wtf8 returns
  * the same code units. Well-formed UTF-16 becomes UTF-8.
  *
- * @param capacity DETHRUX_WTF8_MAX(len) suffices
+ * @param capacity DETHRUX_WTF8_MAX(len) suffices; a loop needs 4
  * @return how far the call came, with one of these statuses:
  * - DETHRUX_DONE: all of the input was read
  * - DETHRUX_INCOMPLETE: an odd byte at the end, which is not a code unit, follows `read`
@@ -640,13 +640,12 @@ DETHRUX_NODISCARD size_t dethrux_to_wtf8_len(
  * one may follow. The stream may be cut anywhere; no state is kept. However the stream is cut, the
  * same bytes are written in all.
  *
- * @param capacity DETHRUX_WTF8_MAX(len) suffices
+ * @param capacity DETHRUX_WTF8_MAX(len) suffices; a loop needs 4
  * @return how far the call came, with one of these statuses:
  * - DETHRUX_DONE: all of the chunk was read
  * - DETHRUX_INCOMPLETE: at most DETHRUX_PENDING_MAX bytes follow `read`: put them before the next
  *   chunk, and at the end of the stream pass them to dethrux_to_wtf8
- * - DETHRUX_NO_SPACE: the next character or surrogate does not fit: call again with the rest; with
- *   a capacity of 4 or more, something was written
+ * - DETHRUX_NO_SPACE: the next character or surrogate does not fit: call again with the rest
  * @ingroup dethrux_wtf8
  */
 DETHRUX_NODISCARD dethrux_progress dethrux_to_wtf8_partial(
@@ -659,11 +658,11 @@ DETHRUX_NODISCARD dethrux_progress dethrux_to_wtf8_partial(
  * dethrux_decoder_finish_wtf8.
  *
  * @param byte_order the same for a whole stream
- * @param capacity DETHRUX_DECODER_FEED_MAX(len) suffices
+ * @param capacity DETHRUX_DECODER_FEED_MAX(len) suffices; a loop needs 4
  * @return how far the call came (`read` counts bytes of the chunk), with one of these statuses:
  * - DETHRUX_DONE: all of the chunk was read
- * - DETHRUX_NO_SPACE: the next character or surrogate does not fit: call again with the rest; fewer
- *   than 4 bytes of `to` were left, so with a capacity of 4 or more something was written
+ * - DETHRUX_NO_SPACE: the next character or surrogate does not fit, since fewer than 4 bytes of
+ *   `to` were left: call again with the rest
  * @ingroup dethrux_wtf8
  */
 DETHRUX_NODISCARD dethrux_progress dethrux_decoder_feed_wtf8(dethrux_decoder *decoder,
@@ -694,7 +693,7 @@ DETHRUX_NODISCARD dethrux_progress dethrux_decoder_finish_wtf8(
  * formed: in WTF-8 a pair has the 4 bytes of its character. So do not append one text of WTF-8 to
  * another: convert both to UTF-16 first.
  *
- * @param capacity DETHRUX_UTF16_MAX(len) suffices
+ * @param capacity DETHRUX_UTF16_MAX(len) suffices; a loop needs 4
  * @return how far the call came, with one of these statuses:
  * - DETHRUX_DONE: all of the input was read
  * - DETHRUX_ILL_FORMED: an ill-formed sequence follows `read`
@@ -711,15 +710,14 @@ DETHRUX_NODISCARD dethrux_progress dethrux_from_wtf8(
  * This is like dethrux_from_wtf8, but does not read what more bytes could change at the end: a
  * leading surrogate, the beginning of a character or surrogate, or both.
  *
- * @param capacity DETHRUX_UTF16_MAX(len) suffices
+ * @param capacity DETHRUX_UTF16_MAX(len) suffices; a loop needs 4
  * @return how far the call came, with one of these statuses:
  * - DETHRUX_DONE: all of the chunk was read
  * - DETHRUX_ILL_FORMED: an ill-formed sequence follows `read`
  * - DETHRUX_INCOMPLETE: at most DETHRUX_WTF8_PENDING_MAX bytes follow `read`: put them before the
  *   next chunk, and at the end of the stream pass them to dethrux_from_wtf8
  * - DETHRUX_NO_SPACE: the next character or surrogate does not fit, even if it is a leading
- *   surrogate at the end: call again with the rest; with a capacity of 4 or more, something was
- *   written
+ *   surrogate at the end: call again with the rest
  * @ingroup dethrux_wtf8
  */
 DETHRUX_NODISCARD dethrux_progress dethrux_from_wtf8_partial(
@@ -732,11 +730,11 @@ DETHRUX_NODISCARD dethrux_progress dethrux_from_wtf8_partial(
  * decoder. However the stream is cut, the same bytes are written in all.
  *
  * @param byte_order the same for a whole stream
- * @param capacity DETHRUX_DECODER_FEED_MAX(len) suffices
+ * @param capacity DETHRUX_DECODER_FEED_MAX(len) suffices; a loop needs 4
  * @return how far the call came (`read` counts bytes of the chunk), with one of these statuses:
  * - DETHRUX_DONE: all of the chunk was read
- * - DETHRUX_NO_SPACE: the next character does not fit: call again with the rest; fewer than 4 bytes
- *   of `to` were left, so with a capacity of 4 or more something was written
+ * - DETHRUX_NO_SPACE: the next character does not fit, since fewer than 4 bytes of `to` were left:
+ *   call again with the rest
  * @ingroup dethrux_streams
  */
 DETHRUX_NODISCARD dethrux_progress dethrux_decoder_feed(dethrux_decoder *decoder,
@@ -751,7 +749,7 @@ DETHRUX_NODISCARD dethrux_progress dethrux_decoder_feed(dethrux_decoder *decoder
  * @param capacity DETHRUX_DECODER_FINISH_MAX suffices
  * @return how much was written; `read` is 0, and the status is one of these:
  * - DETHRUX_DONE: the stream has ended
- * - DETHRUX_NO_SPACE: U+FFFD does not fit, and nothing changed
+ * - DETHRUX_NO_SPACE: U+FFFD does not fit, since the capacity is below 3, and nothing changed
  * @see dethrux_decoder_feed
  * @ingroup dethrux_streams
  */
@@ -767,11 +765,12 @@ DETHRUX_NODISCARD dethrux_progress dethrux_decoder_finish(
  *
  * @param byte_order the same for a whole stream
  * @param capacity DETHRUX_ENCODER_FEED_MAX(len) suffices for an encoder whose fields only these
- *   calls have set, and `2 * (pending_len + len)`, a `pending_len` above 3 read as 3, for any
+ *   calls have set, and `2 * (pending_len + len)`, a `pending_len` above 3 read as 3, for any; a
+ *   loop needs 4
  * @return how far the call came (`read` counts bytes of the chunk), with one of these statuses:
  * - DETHRUX_DONE: all of the chunk was read
- * - DETHRUX_NO_SPACE: the next character does not fit: call again with the rest; fewer than 4 bytes
- *   of `to` were left, so with a capacity of 4 or more something was written
+ * - DETHRUX_NO_SPACE: the next character does not fit, since fewer than 4 bytes of `to` were left:
+ *   call again with the rest
  * @ingroup dethrux_streams
  */
 DETHRUX_NODISCARD dethrux_progress dethrux_encoder_feed(dethrux_encoder *encoder,
@@ -787,7 +786,7 @@ DETHRUX_NODISCARD dethrux_progress dethrux_encoder_feed(dethrux_encoder *encoder
  * @param capacity DETHRUX_ENCODER_FINISH_MAX suffices
  * @return how much was written; `read` is 0, and the status is one of these:
  * - DETHRUX_DONE: the stream has ended
- * - DETHRUX_NO_SPACE: U+FFFD does not fit, and nothing changed
+ * - DETHRUX_NO_SPACE: U+FFFD does not fit, since the capacity is below 2, and nothing changed
  * @see dethrux_encoder_feed
  * @ingroup dethrux_streams
  */
@@ -936,7 +935,8 @@ DETHRUX_NODISCARD dethrux_bom dethrux_detect_bom(
  * In C, code units are of type uint16_t or char16_t, which are one type, and wchar_t is the same on
  * Windows. In C++ they are of any integral type of two bytes. Each length, offset and capacity of
  * UTF-16 counts code units, and so do `read`, `written`, `valid_up_to` and `error_len` if they are
- * about UTF-16; for UTF-8 and WTF-8 they count bytes. Nothing is copied.
+ * about UTF-16. For UTF-8, WTF-8 and Latin-1 they count bytes, and for UTF-32 its code units.
+ * Nothing is copied.
  * @{
  */
 
@@ -1013,7 +1013,7 @@ DETHRUX_U16_RESULT size_t dethrux_u16_to_utf8_replacements(const dethrux_unit *u
 /**
  * Does what dethrux_to_utf8 does, on code units.
  *
- * @param capacity `len * 3` suffices
+ * @param capacity `len * 3` suffices; a loop needs 4
  */
 DETHRUX_U16_RESULT dethrux_progress dethrux_u16_to_utf8(
     const dethrux_unit *utf16, size_t len, void *to, size_t capacity) {
@@ -1027,7 +1027,7 @@ DETHRUX_U16_RESULT dethrux_progress dethrux_u16_to_utf8(
 /**
  * Does what dethrux_to_utf8_lossy does, on code units.
  *
- * @param capacity `len * 3` suffices
+ * @param capacity `len * 3` suffices; a loop needs 4
  */
 DETHRUX_U16_RESULT dethrux_progress dethrux_u16_to_utf8_lossy(
     const dethrux_unit *utf16, size_t len, void *to, size_t capacity) {
@@ -1042,7 +1042,7 @@ DETHRUX_U16_RESULT dethrux_progress dethrux_u16_to_utf8_lossy(
  *
  * With DETHRUX_INCOMPLETE one code unit follows `read`, a leading surrogate.
  *
- * @param capacity `len * 3` suffices
+ * @param capacity `len * 3` suffices; a loop needs 4
  */
 DETHRUX_U16_RESULT dethrux_progress dethrux_u16_to_utf8_partial(
     const dethrux_unit *utf16, size_t len, void *to, size_t capacity) {
@@ -1056,7 +1056,7 @@ DETHRUX_U16_RESULT dethrux_progress dethrux_u16_to_utf8_partial(
  * Does what dethrux_decoder_feed does, on code units.
  *
  * @param decoder one that only this call and dethrux_decoder_finish have changed
- * @param capacity `(len + 1) * 3` suffices
+ * @param capacity `(len + 1) * 3` suffices; a loop needs 4
  */
 DETHRUX_U16_RESULT dethrux_progress dethrux_u16_decoder_feed(
     dethrux_decoder *decoder, const dethrux_unit *chunk, size_t len, void *to, size_t capacity) {
@@ -1069,7 +1069,7 @@ DETHRUX_U16_RESULT dethrux_progress dethrux_u16_decoder_feed(
 /**
  * Does what dethrux_from_utf8 does, on code units.
  *
- * @param capacity `len` suffices
+ * @param capacity `len` suffices; a loop needs 2
  */
 DETHRUX_U16_RESULT dethrux_progress dethrux_u16_from_utf8(
     const void *utf8, size_t len, dethrux_unit *to, size_t capacity) {
@@ -1082,7 +1082,7 @@ DETHRUX_U16_RESULT dethrux_progress dethrux_u16_from_utf8(
 /**
  * Does what dethrux_from_utf8_lossy does, on code units.
  *
- * @param capacity `len` suffices
+ * @param capacity `len` suffices; a loop needs 2
  */
 DETHRUX_U16_RESULT dethrux_progress dethrux_u16_from_utf8_lossy(
     const void *utf8, size_t len, dethrux_unit *to, size_t capacity) {
@@ -1095,7 +1095,7 @@ DETHRUX_U16_RESULT dethrux_progress dethrux_u16_from_utf8_lossy(
 /**
  * Does what dethrux_encoder_feed does, on code units.
  *
- * @param capacity `len + 1` suffices
+ * @param capacity `len + 1` suffices; a loop needs 2
  */
 DETHRUX_U16_RESULT dethrux_progress dethrux_u16_encoder_feed(
     dethrux_encoder *encoder, const void *chunk, size_t len, dethrux_unit *to, size_t capacity) {
@@ -1130,7 +1130,7 @@ DETHRUX_U16_RESULT dethrux_inspection dethrux_u16_inspect(const dethrux_unit *ut
 /**
  * Does what dethrux_to_utf32 does, on code units.
  *
- * @param capacity `len` suffices
+ * @param capacity `len` suffices; a loop needs 1
  */
 DETHRUX_U16_RESULT dethrux_progress dethrux_u16_to_utf32(
     const dethrux_unit *utf16, size_t len, uint32_t *to, size_t capacity) {
@@ -1144,7 +1144,7 @@ DETHRUX_U16_RESULT dethrux_progress dethrux_u16_to_utf32(
 /**
  * Does what dethrux_to_utf32_lossy does, on code units.
  *
- * @param capacity `len` suffices
+ * @param capacity `len` suffices; a loop needs 1
  */
 DETHRUX_U16_RESULT dethrux_progress dethrux_u16_to_utf32_lossy(
     const dethrux_unit *utf16, size_t len, uint32_t *to, size_t capacity) {
@@ -1166,7 +1166,7 @@ DETHRUX_U16_RESULT size_t dethrux_u16_to_utf32_lossy_len(const dethrux_unit *utf
 /**
  * Does what dethrux_from_utf32 does, on code units.
  *
- * @param capacity `len * 2` suffices
+ * @param capacity `len * 2` suffices; a loop needs 2
  */
 DETHRUX_U16_RESULT dethrux_progress dethrux_u16_from_utf32(
     const uint32_t *utf32, size_t len, dethrux_unit *to, size_t capacity) {
@@ -1179,7 +1179,7 @@ DETHRUX_U16_RESULT dethrux_progress dethrux_u16_from_utf32(
 /**
  * Does what dethrux_from_utf32_lossy does, on code units.
  *
- * @param capacity `len * 2` suffices
+ * @param capacity `len * 2` suffices; a loop needs 2
  */
 DETHRUX_U16_RESULT dethrux_progress dethrux_u16_from_utf32_lossy(
     const uint32_t *utf32, size_t len, dethrux_unit *to, size_t capacity) {
@@ -1192,7 +1192,7 @@ DETHRUX_U16_RESULT dethrux_progress dethrux_u16_from_utf32_lossy(
 /**
  * Does what dethrux_to_latin1 does, on code units.
  *
- * @param capacity `len` suffices
+ * @param capacity `len` suffices; a loop needs 1
  */
 DETHRUX_U16_RESULT dethrux_progress dethrux_u16_to_latin1(
     const dethrux_unit *utf16, size_t len, void *to, size_t capacity) {
@@ -1206,7 +1206,7 @@ DETHRUX_U16_RESULT dethrux_progress dethrux_u16_to_latin1(
 /**
  * Does what dethrux_from_latin1 does, on code units.
  *
- * @param capacity `len` suffices
+ * @param capacity `len` suffices; a loop needs 1
  */
 DETHRUX_U16_RESULT dethrux_progress dethrux_u16_from_latin1(
     const void *latin1, size_t len, dethrux_unit *to, size_t capacity) {
@@ -1219,7 +1219,7 @@ DETHRUX_U16_RESULT dethrux_progress dethrux_u16_from_latin1(
 /**
  * Does what dethrux_to_wtf8 does, on code units. The status is never DETHRUX_INCOMPLETE.
  *
- * @param capacity `len * 3` suffices
+ * @param capacity `len * 3` suffices; a loop needs 4
  */
 DETHRUX_U16_RESULT dethrux_progress dethrux_u16_to_wtf8(
     const dethrux_unit *utf16, size_t len, void *to, size_t capacity) {
@@ -1243,7 +1243,7 @@ DETHRUX_U16_RESULT size_t dethrux_u16_to_wtf8_len(const dethrux_unit *utf16, siz
  *
  * With DETHRUX_INCOMPLETE one code unit follows `read`, a leading surrogate.
  *
- * @param capacity `len * 3` suffices
+ * @param capacity `len * 3` suffices; a loop needs 4
  */
 DETHRUX_U16_RESULT dethrux_progress dethrux_u16_to_wtf8_partial(
     const dethrux_unit *utf16, size_t len, void *to, size_t capacity) {
@@ -1258,7 +1258,7 @@ DETHRUX_U16_RESULT dethrux_progress dethrux_u16_to_wtf8_partial(
  * dethrux_decoder_finish_wtf8 and DETHRUX_NATIVE_ENDIAN.
  *
  * @param decoder one that only this call and dethrux_decoder_finish_wtf8 have changed
- * @param capacity `(len + 1) * 3` suffices
+ * @param capacity `(len + 1) * 3` suffices; a loop needs 4
  */
 DETHRUX_U16_RESULT dethrux_progress dethrux_u16_decoder_feed_wtf8(
     dethrux_decoder *decoder, const dethrux_unit *chunk, size_t len, void *to, size_t capacity) {
@@ -1271,7 +1271,7 @@ DETHRUX_U16_RESULT dethrux_progress dethrux_u16_decoder_feed_wtf8(
 /**
  * Does what dethrux_from_wtf8 does, on code units.
  *
- * @param capacity `len` suffices
+ * @param capacity `len` suffices; a loop needs 2
  */
 DETHRUX_U16_RESULT dethrux_progress dethrux_u16_from_wtf8(
     const void *wtf8, size_t len, dethrux_unit *to, size_t capacity) {
@@ -1284,7 +1284,7 @@ DETHRUX_U16_RESULT dethrux_progress dethrux_u16_from_wtf8(
 /**
  * Does what dethrux_from_wtf8_partial does, on code units.
  *
- * @param capacity `len` suffices
+ * @param capacity `len` suffices; a loop needs 2
  */
 DETHRUX_U16_RESULT dethrux_progress dethrux_u16_from_wtf8_partial(
     const void *wtf8, size_t len, dethrux_unit *to, size_t capacity) {

@@ -72,7 +72,7 @@ def build_man(tree):
     with tempfile.TemporaryDirectory() as room:
         run([TOP / "packaging/man3", room])
         sources = [TOP / f"crates/{it}/{it}.1" for it in PROGRAMS]
-        sources += sorted(pathlib.Path(room).glob("*.3"))
+        sources += sorted(it for it in pathlib.Path(room).glob("*.3") if not it.is_symlink())
         names = [it.name for it in sources]
         rows = [write_manual(path, names) for path in sources]
     items = "".join(
