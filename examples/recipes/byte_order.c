@@ -28,5 +28,5 @@ int main(void) {
     } else {
         puts(le > be ? "le" : be > le ? "be" : "unknown");
     }
-    return 0;
+    return ferror(stdin) || fflush(stdout) != 0;
 }

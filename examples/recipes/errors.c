@@ -18,7 +18,7 @@ int main(void) {
         at += part.read;
         if (part.status != DETHRUX_ILL_FORMED) {
             printf("%s at byte %zu\n", part.status == DETHRUX_DONE ? "end" : "incomplete", at);
-            return 0;
+            return ferror(stdin) || fflush(stdout) != 0 || ferror(stdout);
         }
         printf("ill formed at byte %zu, %u bytes\n", at, (unsigned)part.error_len);
         at += part.error_len;

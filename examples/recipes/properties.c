@@ -34,5 +34,5 @@ int main(void) {
         dethrux_progress text = dethrux_u16_to_utf8_lossy(units, len, utf8, sizeof utf8);
         printf("%.*s\n", (int)text.written, (const char *)utf8);
     }
-    return 0;
+    return ferror(stdin) || fflush(stdout) != 0 || ferror(stdout);
 }

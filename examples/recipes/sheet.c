@@ -26,5 +26,5 @@ int main(void) {
     }
     dethrux_progress end = dethrux_decoder_finish(&decoder, utf8, sizeof utf8);
     write_fields(utf8, end.written);
-    return fflush(stdout) != 0 || ferror(stdin);
+    return ferror(stdin) || fflush(stdout) != 0 || ferror(stdout);
 }
