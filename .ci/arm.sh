@@ -164,6 +164,7 @@ check 'the symbols of the static library' \
 check 'what the static library calls' \
     calls_memory_alone $triplet-nm --undefined-only "$folder/libdethrux.a"
 check 'what the shared library needs' needs_libc "$folder/libdethrux.so"
+check 'the marks' has_marks $triplet-readelf 'AArch64 feature: BTI' "$folder"/{*.o,libdethrux.so}
 check_programs
 if check 'the Debian packages, twice' makes_same_packages; then
     check 'lintian' lintian --allow-root --fail-on error,warning "$room"/debs/*.deb

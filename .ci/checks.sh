@@ -124,6 +124,16 @@ exports_header() {
     [ -s "$room/declared" ] && diff "$room/declared" "$room/exported"
 }
 
+# Tests, with this program, that files have a mark of CET or BTI, and for each function unwind data.
+has_marks() {
+    local readelf=$1 mark=$2 file
+    for file in "${@:3}"; do
+        "$readelf" -n "$file" | grep -F "$mark" && [ "$("$readelf" -sW "$file" |
+            grep -c ' FUNC ')" -le "$("$readelf" --debug-dump=frames "$file" | grep -c ' FDE ')" ] ||
+            return
+    done
+}
+
 # Tests that a library calls only functions that copy, move, fill and compare memory, according to
 # this command, which lists what it calls.
 calls_memory_alone() {

@@ -13,7 +13,7 @@ room=$(mktemp -d)
 trap 'rm -rf "$room"' EXIT
 . "$top/.ci/checks.sh"
 tools=(aarch64-linux-gnu-gcc:gcc-aarch64-linux-gnu cmake:cmake clang:clang)
-tools+=(x86_64-w64-mingw32-gcc:gcc-mingw-w64-x86-64 qemu-x86_64:qemu-user)
+tools+=(x86_64-w64-mingw32-gcc:gcc-mingw-w64-x86-64 qemu-x86_64:qemu-user gdb:gdb)
 
 # Builds and tests dist/ with make, without rt.
 with_make() {
@@ -32,6 +32,29 @@ crossing = [at for at, end in jumps if at // 32 != end // 32]
 print(f"{len(crossing)} of {len(jumps)} jumps cross or end a block")
 sys.exit(len(crossing) * 1000 > len(jumps) or len(jumps) < 1000)
 '
+}
+
+# Tests that a shared library with the static library in it exports only what is its own, and that
+# the linker drops from it what is not called.
+hides_calls() {
+    local own=(cc -shared -fPIC "-I$clone/dist/include" "$room/own.c" "$room/make-$1/libdethrux.a")
+    echo '#include <dethrux.h>
+        int own(void);
+        int own(void) { return (int)dethrux_validate(0, 0, 0).valid_up_to; }' > "$room/own.c"
+    "${own[@]}" -o "$room/own" && [ "$(nm -D --defined-only "$room/own" | cut -c18-)" = 'T own' ] &&
+        "${own[@]}" -Wl,--gc-sections -o "$room/less" &&
+        [ "$(stat -c %s "$room/less")" -lt $(($(stat -c %s "$room/own") / 2)) ]
+}
+
+# Tests that a debugger finds the callers from within calls.
+shows_callers() {
+    gcc -I"$clone/dist/include" "$top/packaging/test/user.c" -L"$room/make-$1" -ldethrux \
+        -o "$room/user" || return
+    printf '%s\n' 'set breakpoint pending on' 'break dethrux_to_utf8' run \
+        'stepi '{10,20,30}$'\nbacktrace' > "$room/steps"
+    LD_LIBRARY_PATH=$room/make-$1 gdb -q -batch -x "$room/steps" "$room/user" > "$room/callers" 2>&1
+    cat "$room/callers"
+    [ "$(grep -c '^#[1-9].* in main ()$' "$room/callers")" = 3 ]
 }
 
 # Builds, tests and installs dist/ with CMake, and compiles a program with what it installed.
@@ -65,6 +88,10 @@ count 'make' with_make gcc
 count 'make with clang' with_make clang CC=clang
 for compiler in gcc clang; do
     count "jumps by $compiler" keeps_blocks $compiler
+    count "marks by $compiler" has_marks readelf 'x86 feature: IBT, SHSTK' \
+        "$room/make-$compiler"/{*.o,libdethrux.so,glibc-hwcaps/*/*.so.*}
+    count "a shared library by $compiler" hides_calls $compiler
+    count "a debugger by $compiler" shows_callers $compiler
 done
 count 'make for x86-64-v3' with_make v3 LEVEL=x86-64-v3 RUN='qemu-x86_64 -cpu max'
 count 'CMake' with_cmake
