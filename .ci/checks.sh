@@ -124,13 +124,13 @@ exports_header() {
     [ -s "$room/declared" ] && diff "$room/declared" "$room/exported"
 }
 
-# Tests, with this program, that files have a mark of CET or BTI, and for each function unwind data.
+# Tests, with this readelf, that files have a mark of CET or BTI, and for each function unwind data.
 has_marks() {
-    local readelf=$1 mark=$2 file
+    local file functions
     for file in "${@:3}"; do
-        "$readelf" -n "$file" | grep -F "$mark" && [ "$("$readelf" -sW "$file" |
-            grep -c ' FUNC ')" -le "$("$readelf" --debug-dump=frames "$file" | grep -c ' FDE ')" ] ||
-            return
+        functions=$("$1" -sW "$file" | grep -c ' FUNC ')
+        "$1" -n "$file" | grep -F "$2" &&
+            [ "$("$1" --debug-dump=frames "$file" | grep -c ' FDE ')" -ge "$functions" ] || return
     done
 }
 

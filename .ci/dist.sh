@@ -57,6 +57,15 @@ shows_callers() {
     [ "$(grep -c '^#[1-9].* in main ()$' "$room/callers")" = 3 ]
 }
 
+# Tests that CMake installs the same libraries as make, with the same options of the linker.
+installs_as_make() {
+    local libraries=("$room/prefix/lib"/{.,glibc-hwcaps/x86-64-v3}/libdethrux.so.?.?)
+    make -s -C "$clone/dist" BUILD="$room/make-gcc" stage STAGE="$room/stage" &&
+        diff <(cd "$room/prefix" && find lib | sort) <(cd "$room/stage" && find lib | sort) &&
+        has_marks readelf 'x86 feature: IBT, SHSTK' "${libraries[@]}" &&
+        [ "$(readelf -d "${libraries[@]}" | grep -c BIND_NOW)" = 2 ]
+}
+
 # Builds, tests and installs dist/ with CMake, and compiles a program with what it installed.
 with_cmake() {
     local built=$room/cmake
@@ -95,6 +104,7 @@ for compiler in gcc clang; do
 done
 count 'make for x86-64-v3' with_make v3 LEVEL=x86-64-v3 RUN='qemu-x86_64 -cpu max'
 count 'CMake' with_cmake
+count 'what CMake installs' installs_as_make
 for target in i686-linux-gnu x86_64-linux-gnux32 riscv64-linux-gnu x86_64-unknown-freebsd; do
     count "a compiler for $target" refuses_target "$target"
 done

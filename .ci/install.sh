@@ -61,6 +61,20 @@ all_static() {
         ! ldd "$room/program"
 }
 
+# Tests that a program without a loader can test the processor.
+tests_processor() {
+    CC=$1 compile "$(config "$prefix" --static --cflags --libs)" -static &&
+        on_processor Nehalem "$room/program" || return
+    on_processor qemu64 "$room/program"
+    [ $? = 4 ]
+}
+
+# Tests that a program finds the library below a private prefix by itself.
+by_rpath() {
+    compile "$(config "$1" --cflags --libs)" "-Wl,-rpath,$1/lib" &&
+        env -u LD_LIBRARY_PATH "$room/program"
+}
+
 # Compiles a program with each library, using CMake, and runs it.
 by_cmake() {
     rm -rf "$room/cmake"
@@ -222,9 +236,9 @@ packages_run_installed() {
         apt_get purge "${packages[@]}" && purge=false
 }
 
-need "${for_arm64[@]}" x86_64-w64-mingw32-gcc:gcc-mingw-w64-x86-64 gcc:gcc nm:binutils make:make \
-    cmake:cmake pkg-config:pkg-config dh:debhelper dpkg-buildpackage:dpkg-dev lintian:lintian \
-    qemu-x86_64:qemu-user npm:npm cargo:cargo || finish
+need "${for_arm64[@]}" x86_64-w64-mingw32-gcc:gcc-mingw-w64-x86-64 gcc:gcc clang:clang \
+    nm:binutils make:make cmake:cmake pkg-config:pkg-config dh:debhelper \
+    dpkg-buildpackage:dpkg-dev lintian:lintian qemu-x86_64:qemu-user npm:npm cargo:cargo || finish
 # Another program with this name, such as Request Tracker's.
 mkdir "$room/path"
 printf '#!/bin/sh\ntouch "%s/rt was called"\nexit 9\n' "$room" > "$room/path/rt"
@@ -250,6 +264,10 @@ check 'the manual pages' has_pages
 check 'the version of the header, which pkg-config has' \
     diff <(config "$prefix" --modversion) "$top/VERSION"
 check 'no shared library' all_static
+check 'a path in the program' by_rpath "$prefix"
+for compiler in gcc clang; do
+    check "a test of the processor by $compiler" tests_processor $compiler
+done
 check 'both libraries by CMake' by_cmake "$prefix"
 check 'a later version by CMake' cmake_refuses "${version%.*}.999"
 check 'another major version by CMake' cmake_refuses $((${version%%.*} + 1)).0

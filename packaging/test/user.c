@@ -1,5 +1,6 @@
 /* Converts two characters in both directions with the installed library. Exits with 0 if the bytes
- * are right according to the Unicode Standard and the library has the version of its header. */
+ * are right according to the Unicode Standard and the library has the version of its header, and
+ * with 4 if the processor is too old, which no loader tests for a program without one. */
 #include <dethrux.h>
 #include <string.h>
 
@@ -15,6 +16,11 @@ static int is(dethrux_progress progress, size_t read, const uint8_t *found, cons
 
 int main(void) {
     uint8_t to[DETHRUX_UTF16_MAX(sizeof utf8)];
+#if defined(__x86_64__) && defined(__linux__)
+    if (!(__builtin_cpu_supports("sse4.2") && __builtin_cpu_supports("popcnt"))) {
+        return 4;
+    }
+#endif
     if (dethrux_version() != DETHRUX_VERSION) {
         return 1;
     }
