@@ -37,19 +37,15 @@ sys.exit(len(crossing) * 1000 > len(jumps) or len(jumps) < 1000)
 # Tests that a shared library with the static library in it exports only what is its own, and that
 # the linker drops from it what is not called.
 hides_calls() {
-    local own=(cc -shared -fPIC "-I$clone/dist/include" "$room/own.c" "$room/make-$1/libdethrux.a")
-    echo '#include <dethrux.h>
-        int own(void);
-        int own(void) { return (int)dethrux_validate(0, 0, 0).valid_up_to; }' > "$room/own.c"
-    "${own[@]}" -o "$room/own" && [ "$(nm -D --defined-only "$room/own" | cut -c18-)" = 'T own' ] &&
-        "${own[@]}" -Wl,--gc-sections -o "$room/less" &&
-        [ "$(stat -c %s "$room/less")" -lt $(($(stat -c %s "$room/own") / 2)) ]
+    local words=(-shared -fPIC "${user[@]}" "$room/make-$1/libdethrux.a")
+    cc "${words[@]}" -o "$room/all" && cc "${words[@]}" -Wl,--gc-sections -o "$room/less" &&
+        [ "$(nm -D --defined-only "$room/less" | cut -c18-)" = 'T main' ] &&
+        [ "$(stat -c %s "$room/less")" -lt $(($(stat -c %s "$room/all") * 2 / 3)) ]
 }
 
 # Tests that a debugger finds the callers from within calls.
 shows_callers() {
-    gcc -I"$clone/dist/include" "$top/packaging/test/user.c" -L"$room/make-$1" -ldethrux \
-        -o "$room/user" || return
+    cc "${user[@]}" -L"$room/make-$1" -ldethrux -o "$room/user" || return
     printf '%s\n' 'set breakpoint pending on' 'break dethrux_to_utf8' run \
         'stepi '{10,20,30}$'\nbacktrace' > "$room/steps"
     LD_LIBRARY_PATH=$room/make-$1 gdb -q -batch -x "$room/steps" "$room/user" > "$room/callers" 2>&1
@@ -57,23 +53,19 @@ shows_callers() {
     [ "$(grep -c '^#[1-9].* in main ()$' "$room/callers")" = 3 ]
 }
 
-# Tests that CMake installs the same libraries as make, with the same options of the linker.
-installs_as_make() {
-    local libraries=("$room/prefix/lib"/{.,glibc-hwcaps/x86-64-v3}/libdethrux.so.?.?)
-    make -s -C "$clone/dist" BUILD="$room/make-gcc" stage STAGE="$room/stage" &&
-        diff <(cd "$room/prefix" && find lib | sort) <(cd "$room/stage" && find lib | sort) &&
-        has_marks readelf 'x86 feature: IBT, SHSTK' "${libraries[@]}" &&
-        [ "$(readelf -d "${libraries[@]}" | grep -c BIND_NOW)" = 2 ]
-}
-
-# Builds, tests and installs dist/ with CMake, and compiles a program with what it installed.
+# Builds, tests and installs dist/ with CMake, and compiles a program with what it installed, which
+# is what make installs.
 with_cmake() {
     local built=$room/cmake
     cmake -S "$clone/dist" -B "$built" -DCMAKE_INSTALL_PREFIX="$room/prefix" &&
         cmake --build "$built" && (cd "$built" && ctest --output-on-failure --no-tests=error) &&
         cmake --install "$built" && cmake -S "$top/packaging/test" -B "$room/user" \
         -DCMAKE_PREFIX_PATH="$room/prefix" && cmake --build "$room/user" &&
-        "$room/user/user_shared" && "$room/user/user_static"
+        "$room/user/user_shared" && "$room/user/user_static" &&
+        make -s -C "$clone/dist" BUILD="$room/make-gcc" stage STAGE="$room/stage" &&
+        diff <(cd "$room/prefix" && find lib | sort) <(cd "$room/stage" && find lib | sort) &&
+        has_marks readelf "$marks" "$room/prefix/lib"/{.,glibc-hwcaps/*}/*.so.?.? &&
+        [ "$(readelf -d "$room/prefix/lib"/{.,glibc-hwcaps/*}/*.so.?.? | grep -c BIND_NOW)" = 2 ]
 }
 
 # Tests that make refuses words with this line.
@@ -92,19 +84,20 @@ refuses_target() {
 need "${tools[@]}" || finish
 count 'dist/ is what packaging/assembly writes' "$top/packaging/assembly" --check "$@"
 clone="$room/a clone"
+user=("-I$clone/dist/include" "$top/packaging/test/user.c")
+marks='x86 feature: IBT, SHSTK'
 count 'a clone' git clone -q "$top" "$clone"
 count 'make' with_make gcc
 count 'make with clang' with_make clang CC=clang
 for compiler in gcc clang; do
     count "jumps by $compiler" keeps_blocks $compiler
-    count "marks by $compiler" has_marks readelf 'x86 feature: IBT, SHSTK' \
+    count "marks by $compiler" has_marks readelf "$marks" \
         "$room/make-$compiler"/{*.o,libdethrux.so,glibc-hwcaps/*/*.so.*}
     count "a shared library by $compiler" hides_calls $compiler
     count "a debugger by $compiler" shows_callers $compiler
 done
 count 'make for x86-64-v3' with_make v3 LEVEL=x86-64-v3 RUN='qemu-x86_64 -cpu max'
 count 'CMake' with_cmake
-count 'what CMake installs' installs_as_make
 for target in i686-linux-gnu x86_64-linux-gnux32 riscv64-linux-gnu x86_64-unknown-freebsd; do
     count "a compiler for $target" refuses_target "$target"
 done
