@@ -137,36 +137,63 @@ static void expect_text(const uint8_t *to, const uint8_t *want, size_t len) {
     expect_that("nothing is written outside of `to`", guarded_intact(len, false));
 }
 
+static const uint32_t *utf32_at(place at) {
+    situation.at = at;
+    situation.capacity = NO_OUTPUT;
+    return (const uint32_t *)guarded_input(0, (const uint8_t *)utf32, 4 * utf32_len, at);
+}
+
+/* A number that a call returns for the text. */
+
+typedef size_t number_of_utf16(dethrux_byte_order order, const void *utf16, size_t len);
+typedef size_t number_of_utf8(const void *utf8, size_t len);
+
+static void check_number_of_utf16(const char *what, number_of_utf16 *call, size_t want) {
+    for (place at = AT_START; at < place_count(in.len); at++) {
+        expect(what, call(in.order, input_at(at), in.len), want);
+    }
+}
+
+static void check_number_of_utf8(const char *what, number_of_utf8 *call, size_t want) {
+    for (place at = AT_START; at < place_count(in.len); at++) {
+        expect(what, call(input_at(at), in.len), want);
+    }
+}
+
 /* The conversions between buffers. */
 
-typedef dethrux_progress conversion(dethrux_byte_order order, const void *from, size_t len,
-                                    void *to, size_t capacity);
-
-static dethrux_progress convert(conversion *call, const decoded *text, conversion_mode mode,
-                                size_t capacity) {
-    dethrux_progress want = expected_progress(text, mode, capacity);
-    for (place at = AT_START; at < place_count_of_both(in.len, capacity); at++) {
-        const uint8_t *from = input_at(at);
-        uint8_t *to = output_at(capacity, at);
-        dethrux_progress got = call(in.order, from, in.len, to, capacity);
-        expect_progress(got, want);
-        expect_text(to, text->out, got.written);
+/* Defines a kind of calls, which read `from_len` units at a `From *` and write units of `size` bytes
+ * to a `To *`: how one is called with a capacity in units, and its check, with a capacity of
+ * `enough`, which suffices, and with other ones. */
+#define CONVERSIONS(kind, check, From, from_at, from_len, To, size) \
+    typedef dethrux_progress kind##_call(dethrux_byte_order order, const From *from, size_t len, \
+                                         To *to, size_t capacity); \
+    static dethrux_progress kind(kind##_call *call, const decoded *text, conversion_mode mode, \
+                                 size_t capacity) { \
+        dethrux_progress want = expected_progress(text, mode, capacity); \
+        for (place at = AT_START; at < place_count_of_both(from_len, capacity); at++) { \
+            const From *from = from_at(at); \
+            uint8_t *to = output_at(size * capacity, at); \
+            dethrux_progress got = call(in.order, from, from_len, (To *)to, capacity); \
+            expect_progress(got, want); \
+            expect_text(to, text->out, size * got.written); \
+        } \
+        return want; \
+    } \
+    static void check(kind##_call *call, const decoded *text, conversion_mode mode, \
+                      size_t enough) { \
+        expect_that("the capacity suffices", \
+                    kind(call, text, mode, enough).status != DETHRUX_NO_SPACE); \
+        kind(call, text, mode, 0); \
+        kind(call, text, mode, text->out_len); \
+        kind(call, text, mode, in.capacity % (text->out_len + 8)); \
+        if (text->out_len > 0) { \
+            kind(call, text, mode, text->out_len - 1); \
+        } \
     }
-    return want;
-}
-
-/* A capacity of `enough` suffices; and the calls with the chosen capacity. */
-static void check_conversion(conversion *call, const decoded *text, conversion_mode mode,
-                             size_t enough) {
-    expect_that("the capacity suffices",
-                convert(call, text, mode, enough).status != DETHRUX_NO_SPACE);
-    convert(call, text, mode, 0);
-    convert(call, text, mode, text->out_len);
-    convert(call, text, mode, in.capacity % (text->out_len + 8));
-    if (text->out_len > 0) {
-        convert(call, text, mode, text->out_len - 1);
-    }
-}
+CONVERSIONS(convert, check_conversion, void, input_at, in.len, void, 1)
+CONVERSIONS(widen, check_widening, void, input_at, in.len, uint32_t, 4)
+CONVERSIONS(narrow, check_narrowing, uint32_t, utf32_at, utf32_len, void, 1)
 
 /* With DETHRUX_NO_SPACE fewer than 4 bytes are left. */
 static void expect_full(const dethrux_progress *got, size_t capacity) {
@@ -176,7 +203,7 @@ static void expect_full(const dethrux_progress *got, size_t capacity) {
 }
 
 /* With DETHRUX_NO_SPACE a call with the rest continues: all together write the whole text. */
-static void check_resumed(conversion *call, const decoded *text) {
+static void check_resumed(convert_call *call, const decoded *text) {
     size_t capacity = 4 + in.capacity % 64, read = 0, written = 0;
     dethrux_progress got = {0, 0, DETHRUX_NO_SPACE, 0};
     while (got.status == DETHRUX_NO_SPACE) {
@@ -214,84 +241,25 @@ static void check_from_utf8_lossy(void) {
 
 /* UTF-32 and Latin-1. */
 
-typedef dethrux_progress widening(dethrux_byte_order order, const void *utf16, size_t len,
-                                  uint32_t *to, size_t capacity);
-typedef dethrux_progress narrowing(dethrux_byte_order order, const uint32_t *utf32, size_t len,
-                                   void *to, size_t capacity);
-
-/* A call to UTF-32; the capacity is in code units. */
-static dethrux_progress widen(widening *call, conversion_mode mode, size_t capacity) {
-    dethrux_progress want = expected_progress(&to_utf32, mode, capacity);
-    for (place at = AT_START; at < place_count_of_both(in.len, capacity); at++) {
-        const uint8_t *from = input_at(at);
-        uint8_t *to = output_at(4 * capacity, at);
-        dethrux_progress got = call(in.order, from, in.len, (uint32_t *)to, capacity);
-        expect_progress(got, want);
-        expect_text(to, to_utf32.out, 4 * got.written);
-    }
-    return want;
-}
-
-static void check_widening(widening *call, conversion_mode mode, size_t enough) {
-    expect_that("the capacity suffices", widen(call, mode, enough).status != DETHRUX_NO_SPACE);
-    widen(call, mode, 0);
-    widen(call, mode, to_utf32.out_len);
-    widen(call, mode, in.capacity % (to_utf32.out_len + 8));
-    if (to_utf32.out_len > 0) {
-        widen(call, mode, to_utf32.out_len - 1);
-    }
-}
-
 static void check_to_utf32(void) {
-    check_widening(dethrux_to_utf32, STRICT, in.len / 2);
+    check_widening(dethrux_to_utf32, &to_utf32, STRICT, in.len / 2);
 }
 
 static void check_to_utf32_lossy(void) {
-    check_widening(dethrux_to_utf32_lossy, LOSSY, DETHRUX_UTF32_MAX(in.len));
+    check_widening(dethrux_to_utf32_lossy, &to_utf32, LOSSY, DETHRUX_UTF32_MAX(in.len));
 }
 
 static void check_to_utf32_lossy_len(void) {
-    for (place at = AT_START; at < place_count(in.len); at++) {
-        expect("length", dethrux_to_utf32_lossy_len(in.order, input_at(at), in.len),
-               to_utf32.out_len);
-    }
-}
-
-static const uint32_t *utf32_at(place at) {
-    situation.at = at;
-    situation.capacity = NO_OUTPUT;
-    return (const uint32_t *)guarded_input(0, (const uint8_t *)utf32, 4 * utf32_len, at);
-}
-
-static dethrux_progress narrow(narrowing *call, conversion_mode mode, size_t capacity) {
-    dethrux_progress want = expected_progress(&from_utf32, mode, capacity);
-    for (place at = AT_START; at < place_count_of_both(utf32_len, capacity); at++) {
-        const uint32_t *from = utf32_at(at);
-        uint8_t *to = output_at(capacity, at);
-        dethrux_progress got = call(in.order, from, utf32_len, to, capacity);
-        expect_progress(got, want);
-        expect_text(to, from_utf32.out, got.written);
-    }
-    return want;
-}
-
-static void check_narrowing(narrowing *call, conversion_mode mode) {
-    expect_that("the capacity suffices",
-                narrow(call, mode, DETHRUX_FROM_UTF32_MAX(utf32_len)).status != DETHRUX_NO_SPACE);
-    narrow(call, mode, 0);
-    narrow(call, mode, from_utf32.out_len);
-    narrow(call, mode, in.capacity % (from_utf32.out_len + 8));
-    if (from_utf32.out_len > 0) {
-        narrow(call, mode, from_utf32.out_len - 1);
-    }
+    check_number_of_utf16("length", dethrux_to_utf32_lossy_len, to_utf32.out_len);
 }
 
 static void check_from_utf32(void) {
-    check_narrowing(dethrux_from_utf32, STRICT);
+    check_narrowing(dethrux_from_utf32, &from_utf32, STRICT, DETHRUX_FROM_UTF32_MAX(utf32_len));
 }
 
 static void check_from_utf32_lossy(void) {
-    check_narrowing(dethrux_from_utf32_lossy, LOSSY);
+    check_narrowing(dethrux_from_utf32_lossy, &from_utf32, LOSSY,
+                    DETHRUX_FROM_UTF32_MAX(utf32_len));
 }
 
 static void check_from_utf32_lossy_len(void) {
@@ -632,9 +600,7 @@ static void check_to_wtf8(void) {
 }
 
 static void check_to_wtf8_len(void) {
-    for (place at = AT_START; at < place_count(in.len); at++) {
-        expect("length", dethrux_to_wtf8_len(in.order, input_at(at), in.len), to_wtf8.out_len);
-    }
+    check_number_of_utf16("length", dethrux_to_wtf8_len, to_wtf8.out_len);
 }
 
 static void check_to_wtf8_partial(void) {
@@ -740,9 +706,7 @@ static void check_count_chars(void) {
     for (size_t at = 0; at + 2 <= in.len; at += 2) {
         count += !is_trailing(unit_at(in.order, in.text, at));
     }
-    for (place at = AT_START; at < place_count(in.len); at++) {
-        expect("count", dethrux_count_chars(in.order, input_at(at), in.len), count);
-    }
+    check_number_of_utf16("count", dethrux_count_chars, count);
 }
 
 static void check_is_ascii(void) {
@@ -756,23 +720,16 @@ static void check_is_ascii(void) {
 }
 
 static void check_to_utf8_lossy_len(void) {
-    for (place at = AT_START; at < place_count(in.len); at++) {
-        expect("length", dethrux_to_utf8_lossy_len(in.order, input_at(at), in.len),
-               from_utf16.out_len);
-    }
+    check_number_of_utf16("length", dethrux_to_utf8_lossy_len, from_utf16.out_len);
 }
 
 static void check_from_utf8_len(void) {
     size_t len = expected_progress(&from_utf8, STRICT, from_utf8.out_len).written;
-    for (place at = AT_START; at < place_count(in.len); at++) {
-        expect("length", dethrux_from_utf8_len(input_at(at), in.len), len);
-    }
+    check_number_of_utf8("length", dethrux_from_utf8_len, len);
 }
 
 static void check_from_utf8_lossy_len(void) {
-    for (place at = AT_START; at < place_count(in.len); at++) {
-        expect("length", dethrux_from_utf8_lossy_len(input_at(at), in.len), from_utf8.out_len);
-    }
+    check_number_of_utf8("length", dethrux_from_utf8_lossy_len, from_utf8.out_len);
 }
 
 /* The items that U+FFFD replaces, which are not the characters U+FFFD. */
@@ -785,17 +742,11 @@ static size_t replaced_items(const decoded *text) {
 }
 
 static void check_to_utf8_replacements(void) {
-    size_t count = replaced_items(&from_utf16);
-    for (place at = AT_START; at < place_count(in.len); at++) {
-        expect("count", dethrux_to_utf8_replacements(in.order, input_at(at), in.len), count);
-    }
+    check_number_of_utf16("count", dethrux_to_utf8_replacements, replaced_items(&from_utf16));
 }
 
 static void check_from_utf8_replacements(void) {
-    size_t count = replaced_items(&from_utf8);
-    for (place at = AT_START; at < place_count(in.len); at++) {
-        expect("count", dethrux_from_utf8_replacements(input_at(at), in.len), count);
-    }
+    check_number_of_utf8("count", dethrux_from_utf8_replacements, replaced_items(&from_utf8));
 }
 
 static void check_detect_bom(void) {
