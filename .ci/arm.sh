@@ -58,21 +58,6 @@ prints_page() {
     [ -s "$room/page" ] && "${@:2}" > "$room/found" && cmp "$room/page" "$room/found"
 }
 
-check_programs() {
-    local library
-    for library in static shared; do
-        check "the first program in C, $library" \
-            prints_page C runs "$triplet-gcc -std=c99" examples/c/first.c $library
-        check "the first program in C++, $library" \
-            prints_page CPP runs "$triplet-g++ -std=c++17" examples/cpp/first.cpp $library
-        check "17 MiB, $library" runs "$triplet-gcc -std=gnu11" packaging/test/big.c $library
-    done
-    check 'the check in C++' runs "$triplet-g++ -std=c++17" examples/cpp/check.cpp static
-    # A kernel for ARM64 may have such pages.
-    QEMU_PAGESIZE=65536 check '17 MiB with pages of 64 KiB' \
-        runs "$triplet-gcc -std=gnu11" packaging/test/big.c static
-}
-
 # == fuzzing
 
 # Runs the harness for ten seconds, and the planted versions, and then the harness with pages of
@@ -125,7 +110,17 @@ check 'what the static library calls' \
     calls_memory_alone $triplet-nm --undefined-only "$folder/libdethrux.a"
 check 'what the shared library needs' needs_libc "$folder/libdethrux.so"
 check 'the marks' has_marks $triplet-readelf 'AArch64 feature: BTI' "$folder"/{*.o,libdethrux.so}
-check_programs
+for library in static shared; do
+    check "the first program in C, $library" \
+        prints_page C runs "$triplet-gcc -std=c99" examples/c/first.c $library
+    check "the first program in C++, $library" \
+        prints_page CPP runs "$triplet-g++ -std=c++17" examples/cpp/first.cpp $library
+    check "17 MiB, $library" runs "$triplet-gcc -std=gnu11" packaging/test/big.c $library
+done
+check 'the check in C++' runs "$triplet-g++ -std=c++17" examples/cpp/check.cpp static
+# A kernel for ARM64 may have such pages.
+QEMU_PAGESIZE=65536 check '17 MiB with pages of 64 KiB' \
+    runs "$triplet-gcc -std=gnu11" packaging/test/big.c static
 if check 'the Debian packages' "$top/packaging/release.sh" "$room/debs" deb-arm64; then
     check 'lintian' lintian --allow-root --fail-on error,warning "$room"/debs/*.deb
     check 'the packages unpacked' runs_unpacked
