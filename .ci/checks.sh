@@ -128,7 +128,7 @@ exports_header() {
 has_marks() {
     local file functions
     for file in "${@:3}"; do
-        functions=$("$1" -sW "$file" | grep -c ' FUNC ')
+        functions=$("$1" -sW "$file" | sed -n '/ UND /d; s/.*: \(.* FUNC \)/\1/p' | sort -u | wc -l)
         "$1" -n "$file" | grep -F "$2" &&
             [ "$("$1" --debug-dump=frames "$file" | grep -c ' FDE ')" -ge "$functions" ] || return
     done

@@ -194,7 +194,7 @@ for part in "${parts[@]}"; do
     mkdir "$room"
     # Not in a condition, where a command that fails would not end it.
     set +e
-    (set -e; "make_$part") >> "$rooms/made"
+    (set -e; cd "$top"; "make_$part") >> "$rooms/made"
     [ $? = 0 ] || status=3
     set -e
 done
