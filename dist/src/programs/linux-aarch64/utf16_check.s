@@ -1,10 +1,23 @@
 /* SPDX-License-Identifier: MIT OR Apache-2.0
  * utf16_check 0.2.0, as assembly for Linux on ARM64. packaging/assembly
  * wrote it from the code that rt proved in logic dac8208d650f15bf: do not edit it. */
+	.section	.note.gnu.property,"a",@note
+	.p2align	3, 0x0
+	.word	4
+	.word	16
+	.word	5
+	.asciz	"GNU"
+	.word	3221225472
+	.word	4
+	.word	1
+	.word	0
+.Lsec_end0:
+	.text
 	.section	".text.unlikely.std_alloc::vec::Vec::grow_amortized::<#582fc6be45daf619>","ax",@progbits
 	.p2align	2
 	.type	"std_alloc::vec::Vec::grow_amortized::<#582fc6be45daf619>",@function
 "std_alloc::vec::Vec::grow_amortized::<#582fc6be45daf619>":
+	.cfi_startproc
 	ldr	x8, [x0, #8]
 	cmn	x8, x1
 	b.lo	.LBB0_2
@@ -12,12 +25,19 @@
 	ret
 .LBB0_2:
 	stp	x29, x30, [sp, #-32]!
+	.cfi_def_cfa_offset 32
+	stp	x20, x19, [sp, #16]
+	mov	x29, sp
+	.cfi_def_cfa w29, 32
+	.cfi_offset w19, -8
+	.cfi_offset w20, -16
+	.cfi_offset w30, -24
+	.cfi_offset w29, -32
+	.cfi_remember_state
 	ldr	x10, [x0, #16]
 	add	x9, x8, x1
 	mov	w11, #8
 	cmp	x9, #8
-	stp	x20, x19, [sp, #16]
-	mov	x29, sp
 	lsl	x12, x10, #1
 	csel	x11, x9, x11, hi
 	lsr	x13, x10, #62
@@ -38,10 +58,17 @@
 	mov	w0, #1
 	str	x1, [x20]
 	str	x19, [x20, #16]
+	.cfi_def_cfa wsp, 32
 	ldp	x20, x19, [sp, #16]
 	ldp	x29, x30, [sp], #32
+	.cfi_def_cfa_offset 0
+	.cfi_restore w19
+	.cfi_restore w20
+	.cfi_restore w30
+	.cfi_restore w29
 	ret
 .LBB0_6:
+	.cfi_restore_state
 	mov	x20, x0
 	mov	x0, x9
 	mov	w1, #1
@@ -49,24 +76,41 @@
 	tbnz	w0, #0, .LBB0_5
 .LBB0_7:
 	mov	w0, wzr
+	.cfi_def_cfa wsp, 32
 	ldp	x20, x19, [sp, #16]
 	ldp	x29, x30, [sp], #32
+	.cfi_def_cfa_offset 0
+	.cfi_restore w19
+	.cfi_restore w20
+	.cfi_restore w30
+	.cfi_restore w29
 	ret
 .Lfunc_end0:
 	.size	"std_alloc::vec::Vec::grow_amortized::<#582fc6be45daf619>", .Lfunc_end0-"std_alloc::vec::Vec::grow_amortized::<#582fc6be45daf619>"
+	.cfi_endproc
 
 	.section	".text.core::str::utf8::from_utf8","ax",@progbits
 	.p2align	2
 	.type	"core::str::utf8::from_utf8",@function
 "core::str::utf8::from_utf8":
+	.cfi_startproc
 	sub	sp, sp, #64
-	stp	x22, x21, [sp, #32]
-	mov	x21, x1
-	stp	x20, x19, [sp, #48]
-	mov	x20, x2
-	mov	x19, x0
+	.cfi_def_cfa_offset 64
 	stp	x29, x30, [sp, #16]
+	stp	x22, x21, [sp, #32]
+	stp	x20, x19, [sp, #48]
 	add	x29, sp, #16
+	.cfi_def_cfa w29, 48
+	.cfi_offset w19, -8
+	.cfi_offset w20, -16
+	.cfi_offset w21, -24
+	.cfi_offset w22, -32
+	.cfi_offset w30, -40
+	.cfi_offset w29, -48
+	.cfi_remember_state
+	mov	x20, x2
+	mov	x21, x1
+	mov	x19, x0
 	cbz	x2, .LBB1_51
 	mov	x9, xzr
 	sub	x22, x20, #8
@@ -255,12 +299,22 @@
 .LBB1_51:
 	stp	xzr, x21, [x19]
 	str	x20, [x19, #16]
+	.cfi_def_cfa wsp, 64
 	ldp	x20, x19, [sp, #48]
 	ldp	x22, x21, [sp, #32]
 	ldp	x29, x30, [sp, #16]
 	add	sp, sp, #64
+	.cfi_def_cfa_offset 0
+	.cfi_restore w19
+	.cfi_restore w20
+	.cfi_restore w21
+	.cfi_restore w22
+	.cfi_restore w30
+	.cfi_restore w29
 	ret
 .LBB1_52:
+	.cfi_restore_state
+	.cfi_remember_state
 	cmp	w11, #244
 	b.hi	.LBB1_59
 .LBB1_53:
@@ -300,12 +354,21 @@
 	mov	w8, #1
 	str	x11, [x19, #16]
 	stp	x8, x9, [x19]
+	.cfi_def_cfa wsp, 64
 	ldp	x20, x19, [sp, #48]
 	ldp	x22, x21, [sp, #32]
 	ldp	x29, x30, [sp, #16]
 	add	sp, sp, #64
+	.cfi_def_cfa_offset 0
+	.cfi_restore w19
+	.cfi_restore w20
+	.cfi_restore w21
+	.cfi_restore w22
+	.cfi_restore w30
+	.cfi_restore w29
 	ret
 .LBB1_61:
+	.cfi_restore_state
 	ldrsb	w8, [x8, #2]
 	cmn	w8, #65
 	b.gt	.LBB1_63
@@ -318,11 +381,13 @@
 	b	.LBB1_60
 .Lfunc_end1:
 	.size	"core::str::utf8::from_utf8", .Lfunc_end1-"core::str::utf8::from_utf8"
+	.cfi_endproc
 
 	.section	".text.core::slice::words::skip_far::<#52f9edcae2f82f51>","ax",@progbits
 	.p2align	2
 	.type	"core::slice::words::skip_far::<#52f9edcae2f82f51>",@function
 "core::slice::words::skip_far::<#52f9edcae2f82f51>":
+	.cfi_startproc
 	sub	x8, x2, x1
 	cmp	x8, #64
 	b.lo	.LBB2_4
@@ -348,21 +413,30 @@
 	ret
 .Lfunc_end2:
 	.size	"core::slice::words::skip_far::<#52f9edcae2f82f51>", .Lfunc_end2-"core::slice::words::skip_far::<#52f9edcae2f82f51>"
+	.cfi_endproc
 
 	.section	".text.unlikely.std_alloc::vec::Vec::grow_amortized::<#c6aca457386e9665>","ax",@progbits
 	.p2align	2
 	.type	"std_alloc::vec::Vec::grow_amortized::<#c6aca457386e9665>",@function
 "std_alloc::vec::Vec::grow_amortized::<#c6aca457386e9665>":
+	.cfi_startproc
 	ldr	x8, [x0, #8]
 	cmn	x8, #1
 	b.eq	.LBB3_5
 	stp	x29, x30, [sp, #-32]!
+	.cfi_def_cfa_offset 32
+	stp	x20, x19, [sp, #16]
+	mov	x29, sp
+	.cfi_def_cfa w29, 32
+	.cfi_offset w19, -8
+	.cfi_offset w20, -16
+	.cfi_offset w30, -24
+	.cfi_offset w29, -32
+	.cfi_remember_state
 	ldr	x9, [x0, #16]
 	cmp	x8, #3
 	mov	w10, #3
 	csel	x11, x8, x10, hi
-	stp	x20, x19, [sp, #16]
-	mov	x29, sp
 	lsl	x10, x9, #1
 	add	x12, x11, #1
 	lsr	x13, x9, #62
@@ -388,13 +462,20 @@
 	mov	w0, #1
 	str	x1, [x20]
 	str	x19, [x20, #16]
+	.cfi_def_cfa wsp, 32
 	ldp	x20, x19, [sp, #16]
 	ldp	x29, x30, [sp], #32
+	.cfi_def_cfa_offset 0
+	.cfi_restore w19
+	.cfi_restore w20
+	.cfi_restore w30
+	.cfi_restore w29
 	ret
 .LBB3_5:
 	mov	w0, wzr
 	ret
 .LBB3_6:
+	.cfi_restore_state
 	add	x8, x10, x10, lsl #1
 	mov	x20, x0
 	mov	w1, #8
@@ -403,19 +484,33 @@
 	tbnz	w0, #0, .LBB3_4
 .LBB3_7:
 	mov	w0, wzr
+	.cfi_def_cfa wsp, 32
 	ldp	x20, x19, [sp, #16]
 	ldp	x29, x30, [sp], #32
+	.cfi_def_cfa_offset 0
+	.cfi_restore w19
+	.cfi_restore w20
+	.cfi_restore w30
+	.cfi_restore w29
 	ret
 .Lfunc_end3:
 	.size	"std_alloc::vec::Vec::grow_amortized::<#c6aca457386e9665>", .Lfunc_end3-"std_alloc::vec::Vec::grow_amortized::<#c6aca457386e9665>"
+	.cfi_endproc
 
 	.section	".text.std_io::io::error::last_error","ax",@progbits
 	.p2align	2
 	.type	"std_io::io::error::last_error",@function
 "std_io::io::error::last_error":
+	.cfi_startproc
 	stp	x29, x30, [sp, #-32]!
+	.cfi_def_cfa_offset 32
 	str	x19, [sp, #16]
 	mov	x29, sp
+	.cfi_def_cfa w29, 32
+	.cfi_offset w19, -16
+	.cfi_offset w30, -24
+	.cfi_offset w29, -32
+	.cfi_remember_state
 	mov	x19, x0
 	bl	rattle_errno
 	tbnz	w0, #31, .LBB4_4
@@ -430,11 +525,14 @@
 	mov	w8, #1
 	br	x10
 .LBB4_3:
+	hint	#36
 	mov	w8, #36
 	b	.LBB4_5
 .LBB4_4:
+	hint	#36
 	mov	w8, #41
 .LBB4_5:
+	hint	#36
 	movi	v0.2d, #0000000000000000
 	strb	wzr, [x19]
 	strb	w8, [x19, #1]
@@ -445,116 +543,158 @@
 	stur	q0, [x19, #40]
 	stur	q0, [x19, #56]
 	stur	q0, [x19, #72]
+	.cfi_def_cfa wsp, 32
 	ldr	x19, [sp, #16]
 	ldp	x29, x30, [sp], #32
+	.cfi_def_cfa_offset 0
+	.cfi_restore w19
+	.cfi_restore w30
+	.cfi_restore w29
 	ret
 .LBB4_6:
+	.cfi_restore_state
+	hint	#36
 	mov	w8, #4
 	b	.LBB4_5
 .LBB4_7:
+	hint	#36
 	mov	w8, #7
 	b	.LBB4_5
 .LBB4_8:
+	hint	#36
 	mov	w8, #26
 	b	.LBB4_5
 .LBB4_9:
+	hint	#36
 	mov	w8, #39
 	b	.LBB4_5
 .LBB4_10:
+	hint	#36
 	mov	w8, #9
 	b	.LBB4_5
 .LBB4_11:
+	hint	#36
 	mov	w8, #8
 	b	.LBB4_5
 .LBB4_12:
+	hint	#36
 	mov	w8, #30
 	b	.LBB4_5
 .LBB4_13:
+	hint	#36
 	mov	w8, #25
 	b	.LBB4_5
 .LBB4_14:
+	hint	#36
 	mov	w8, #32
 	b	.LBB4_5
 .LBB4_15:
+	hint	#36
 	mov	w8, #33
 	b	.LBB4_5
 .LBB4_16:
+	hint	#36
 	mov	w8, #22
 	b	.LBB4_5
 .LBB4_17:
+	hint	#36
 	mov	w8, #31
 	b	.LBB4_5
 .LBB4_18:
+	hint	#36
 	mov	w8, #29
 	b	.LBB4_5
 .LBB4_19:
+	hint	#36
 	mov	w8, #18
 	b	.LBB4_5
 .LBB4_20:
+	hint	#36
 	mov	w8, #10
 	b	.LBB4_5
 .LBB4_21:
+	hint	#36
 	mov	w8, #28
 	b	.LBB4_5
 .LBB4_22:
+	hint	#36
 	mov	w8, #14
 	b	.LBB4_5
 .LBB4_23:
+	hint	#36
 	mov	w8, #12
 	b	.LBB4_5
 .LBB4_24:
+	hint	#36
 	mov	w8, #5
 	b	.LBB4_5
 .LBB4_25:
+	hint	#36
 	mov	w8, #3
 	b	.LBB4_5
 .LBB4_26:
+	hint	#36
 	mov	w8, wzr
 	b	.LBB4_5
 .LBB4_27:
+	hint	#36
 	mov	w8, #13
 	b	.LBB4_5
 .LBB4_28:
+	hint	#36
 	mov	w8, #38
 	b	.LBB4_5
 .LBB4_29:
+	hint	#36
 	mov	w8, #11
 	b	.LBB4_5
 .LBB4_30:
+	hint	#36
 	mov	w8, #35
 	b	.LBB4_5
 .LBB4_31:
+	hint	#36
 	mov	w8, #34
 	b	.LBB4_5
 .LBB4_32:
+	hint	#36
 	mov	w8, #20
 	b	.LBB4_5
 .LBB4_33:
+	hint	#36
 	mov	w8, #15
 	b	.LBB4_5
 .LBB4_34:
+	hint	#36
 	mov	w8, #19
 	b	.LBB4_5
 .LBB4_35:
+	hint	#36
 	mov	w8, #16
 	b	.LBB4_5
 .LBB4_36:
+	hint	#36
 	mov	w8, #6
 	b	.LBB4_5
 .LBB4_37:
+	hint	#36
 	mov	w8, #27
 	b	.LBB4_5
 .LBB4_38:
+	hint	#36
 	mov	w8, #24
 	b	.LBB4_5
 .LBB4_39:
+	hint	#36
 	mov	w8, #2
 	b	.LBB4_5
 .LBB4_40:
+	hint	#36
 	mov	w8, #17
 	b	.LBB4_5
 .Lfunc_end4:
 	.size	"std_io::io::error::last_error", .Lfunc_end4-"std_io::io::error::last_error"
+	.cfi_endproc
 	.section	".rodata.std_io::io::error::last_error","a",@progbits
 .LJTI4_0:
 	.byte	(.LBB4_5-.LBB4_3)>>2
@@ -703,6 +843,7 @@
 	.p2align	2
 	.type	"utf16_units::validate::valid_len::<#8b18edd9dd9aa8df>",@function
 "utf16_units::validate::valid_len::<#8b18edd9dd9aa8df>":
+	.cfi_startproc
 	cmp	x1, #32
 	b.hs	.LBB5_9
 	mov	x8, xzr
@@ -1060,11 +1201,13 @@
 	b	.LBB5_31
 .Lfunc_end5:
 	.size	"utf16_units::validate::valid_len::<#8b18edd9dd9aa8df>", .Lfunc_end5-"utf16_units::validate::valid_len::<#8b18edd9dd9aa8df>"
+	.cfi_endproc
 
 	.section	".text.utf16_units::validate::error_len::<#8b18edd9dd9aa8df>","ax",@progbits
 	.p2align	2
 	.type	"utf16_units::validate::error_len::<#8b18edd9dd9aa8df>",@function
 "utf16_units::validate::error_len::<#8b18edd9dd9aa8df>":
+	.cfi_startproc
 	cmp	x1, #2
 	b.lo	.LBB6_5
 	ldrb	w8, [x0]
@@ -1090,6 +1233,7 @@
 	ret
 .Lfunc_end6:
 	.size	"utf16_units::validate::error_len::<#8b18edd9dd9aa8df>", .Lfunc_end6-"utf16_units::validate::error_len::<#8b18edd9dd9aa8df>"
+	.cfi_endproc
 
 	.section	.rodata.cst16,"aM",@progbits,16
 	.p2align	4, 0x0
@@ -1114,6 +1258,7 @@
 	.p2align	2
 	.type	"utf16_units::validate::valid_len::<#418c2b53cf60437c>",@function
 "utf16_units::validate::valid_len::<#418c2b53cf60437c>":
+	.cfi_startproc
 	cmp	x1, #32
 	b.hs	.LBB7_9
 	mov	x8, xzr
@@ -1471,11 +1616,13 @@
 	b	.LBB7_31
 .Lfunc_end7:
 	.size	"utf16_units::validate::valid_len::<#418c2b53cf60437c>", .Lfunc_end7-"utf16_units::validate::valid_len::<#418c2b53cf60437c>"
+	.cfi_endproc
 
 	.section	".text.utf16_units::validate::error_len::<#418c2b53cf60437c>","ax",@progbits
 	.p2align	2
 	.type	"utf16_units::validate::error_len::<#418c2b53cf60437c>",@function
 "utf16_units::validate::error_len::<#418c2b53cf60437c>":
+	.cfi_startproc
 	cmp	x1, #2
 	b.lo	.LBB8_5
 	ldrb	w8, [x0, #1]
@@ -1501,31 +1648,48 @@
 	ret
 .Lfunc_end8:
 	.size	"utf16_units::validate::error_len::<#418c2b53cf60437c>", .Lfunc_end8-"utf16_units::validate::error_len::<#418c2b53cf60437c>"
+	.cfi_endproc
 
 	.section	".text.utf16_program::lines::append_counts::<#689013dfc86db972>","ax",@progbits
 	.p2align	2
 	.type	"utf16_program::lines::append_counts::<#689013dfc86db972>",@function
 "utf16_program::lines::append_counts::<#689013dfc86db972>":
+	.cfi_startproc
 	sub	sp, sp, #240
+	.cfi_def_cfa_offset 240
+	stp	x29, x30, [sp, #144]
+	stp	x28, x27, [sp, #160]
+	stp	x26, x25, [sp, #176]
+	stp	x24, x23, [sp, #192]
+	stp	x22, x21, [sp, #208]
+	stp	x20, x19, [sp, #224]
+	add	x29, sp, #144
+	.cfi_def_cfa w29, 96
+	.cfi_offset w19, -8
+	.cfi_offset w20, -16
+	.cfi_offset w21, -24
+	.cfi_offset w22, -32
+	.cfi_offset w23, -40
+	.cfi_offset w24, -48
+	.cfi_offset w25, -56
+	.cfi_offset w26, -64
+	.cfi_offset w27, -72
+	.cfi_offset w28, -80
+	.cfi_offset w30, -88
+	.cfi_offset w29, -96
+	.cfi_remember_state
 	movi	v0.2d, #0000000000000000
 	mov	x10, #22859
 	lsr	x8, x0, #4
 	movk	x10, #14470, lsl #16
 	mov	w9, #57599
-	stp	x29, x30, [sp, #144]
-	movk	x10, #50646, lsl #32
-	stp	x20, x19, [sp, #224]
-	add	x29, sp, #144
 	mov	x19, x3
+	movk	x10, #50646, lsl #32
 	movk	w9, #1525, lsl #16
 	cmp	x8, #625
 	movk	x10, #13421, lsl #48
 	adrp	x8, .Lstatic.19
 	add	x8, x8, :lo12:.Lstatic.19
-	stp	x28, x27, [sp, #160]
-	stp	x26, x25, [sp, #176]
-	stp	x24, x23, [sp, #192]
-	stp	x22, x21, [sp, #208]
 	str	xzr, [sp, #80]
 	stp	q0, q0, [sp]
 	stp	q0, q0, [sp, #48]
@@ -2028,6 +2192,7 @@
 	str	x24, [x19, #16]
 	stp	x25, x8, [x19]
 .LBB9_76:
+	.cfi_def_cfa wsp, 240
 	ldp	x20, x19, [sp, #224]
 	ldp	x22, x21, [sp, #208]
 	ldp	x24, x23, [sp, #192]
@@ -2035,8 +2200,22 @@
 	ldp	x28, x27, [sp, #160]
 	ldp	x29, x30, [sp, #144]
 	add	sp, sp, #240
+	.cfi_def_cfa_offset 0
+	.cfi_restore w19
+	.cfi_restore w20
+	.cfi_restore w21
+	.cfi_restore w22
+	.cfi_restore w23
+	.cfi_restore w24
+	.cfi_restore w25
+	.cfi_restore w26
+	.cfi_restore w27
+	.cfi_restore w28
+	.cfi_restore w30
+	.cfi_restore w29
 	ret
 .LBB9_77:
+	.cfi_restore_state
 	cmp	x21, #32
 	b.hs	.LBB9_87
 	mov	x9, xzr
@@ -2187,11 +2366,13 @@
 	b	.LBB9_75
 .Lfunc_end9:
 	.size	"utf16_program::lines::append_counts::<#689013dfc86db972>", .Lfunc_end9-"utf16_program::lines::append_counts::<#689013dfc86db972>"
+	.cfi_endproc
 
 	.section	".text.utf16_units::text::count_few::<#8b18edd9dd9aa8df>","ax",@progbits
 	.p2align	2
 	.type	"utf16_units::text::count_few::<#8b18edd9dd9aa8df>",@function
 "utf16_units::text::count_few::<#8b18edd9dd9aa8df>":
+	.cfi_startproc
 	mov	x8, xzr
 	cbz	x1, .LBB10_2
 .LBB10_1:
@@ -2210,6 +2391,7 @@
 	ret
 .Lfunc_end10:
 	.size	"utf16_units::text::count_few::<#8b18edd9dd9aa8df>", .Lfunc_end10-"utf16_units::text::count_few::<#8b18edd9dd9aa8df>"
+	.cfi_endproc
 
 	.section	.rodata.cst8,"aM",@progbits,8
 	.p2align	3, 0x0
@@ -2253,22 +2435,38 @@
 	.p2align	2
 	.type	"utf16_program::lines::append_unpaired::<#689013dfc86db972>",@function
 "utf16_program::lines::append_unpaired::<#689013dfc86db972>":
+	.cfi_startproc
 	sub	sp, sp, #256
+	.cfi_def_cfa_offset 256
 	stp	x29, x30, [sp, #160]
-	add	x29, sp, #160
-	mov	x3, x2
-	sub	x10, x29, #16
+	stp	x28, x27, [sp, #176]
+	stp	x26, x25, [sp, #192]
 	stp	x24, x23, [sp, #208]
+	stp	x22, x21, [sp, #224]
+	stp	x20, x19, [sp, #240]
+	add	x29, sp, #160
+	.cfi_def_cfa w29, 96
+	.cfi_offset w19, -8
+	.cfi_offset w20, -16
+	.cfi_offset w21, -24
+	.cfi_offset w22, -32
+	.cfi_offset w23, -40
+	.cfi_offset w24, -48
+	.cfi_offset w25, -56
+	.cfi_offset w26, -64
+	.cfi_offset w27, -72
+	.cfi_offset w28, -80
+	.cfi_offset w30, -88
+	.cfi_offset w29, -96
+	.cfi_remember_state
+	sub	x10, x29, #16
+	mov	x3, x2
 	mov	x12, xzr
 	and	w8, w1, #0xffff
 	add	x11, x10, #31
 	mov	x14, #-1
 	mov	w23, #16
 	mov	x13, x0
-	stp	x28, x27, [sp, #176]
-	stp	x26, x25, [sp, #192]
-	stp	x22, x21, [sp, #224]
-	stp	x20, x19, [sp, #240]
 	stp	xzr, xzr, [sp, #80]
 	stp	xzr, xzr, [x29, #-16]
 .LBB11_1:
@@ -2739,6 +2937,7 @@
 	str	x14, [x3, #16]
 	stp	x20, x8, [x3]
 .LBB11_65:
+	.cfi_def_cfa wsp, 256
 	ldp	x20, x19, [sp, #240]
 	ldp	x22, x21, [sp, #224]
 	ldp	x24, x23, [sp, #208]
@@ -2746,8 +2945,22 @@
 	ldp	x28, x27, [sp, #176]
 	ldp	x29, x30, [sp, #160]
 	add	sp, sp, #256
+	.cfi_def_cfa_offset 0
+	.cfi_restore w19
+	.cfi_restore w20
+	.cfi_restore w21
+	.cfi_restore w22
+	.cfi_restore w23
+	.cfi_restore w24
+	.cfi_restore w25
+	.cfi_restore w26
+	.cfi_restore w27
+	.cfi_restore w28
+	.cfi_restore w30
+	.cfi_restore w29
 	ret
 .LBB11_66:
+	.cfi_restore_state
 	cmp	x16, #32
 	b.hs	.LBB11_70
 	mov	x9, xzr
@@ -2905,11 +3118,13 @@
 	b	.LBB11_65
 .Lfunc_end11:
 	.size	"utf16_program::lines::append_unpaired::<#689013dfc86db972>", .Lfunc_end11-"utf16_program::lines::append_unpaired::<#689013dfc86db972>"
+	.cfi_endproc
 
 	.section	".text.utf16_units::text::count_few::<#418c2b53cf60437c>","ax",@progbits
 	.p2align	2
 	.type	"utf16_units::text::count_few::<#418c2b53cf60437c>",@function
 "utf16_units::text::count_few::<#418c2b53cf60437c>":
+	.cfi_startproc
 	mov	x8, xzr
 	cbz	x1, .LBB12_2
 .LBB12_1:
@@ -2928,6 +3143,7 @@
 	ret
 .Lfunc_end12:
 	.size	"utf16_units::text::count_few::<#418c2b53cf60437c>", .Lfunc_end12-"utf16_units::text::count_few::<#418c2b53cf60437c>"
+	.cfi_endproc
 
 	.section	.rodata.cst16,"aM",@progbits,16
 	.p2align	4, 0x0
@@ -2981,17 +3197,42 @@
 	.p2align	2
 	.type	proved_main,@function
 proved_main:
+	.cfi_startproc
+	hint	#34
 	stp	d15, d14, [sp, #-160]!
+	.cfi_def_cfa_offset 160
 	stp	d13, d12, [sp, #16]
 	stp	d11, d10, [sp, #32]
 	stp	d9, d8, [sp, #48]
 	stp	x29, x30, [sp, #64]
-	add	x29, sp, #64
 	stp	x28, x27, [sp, #80]
 	stp	x26, x25, [sp, #96]
 	stp	x24, x23, [sp, #112]
 	stp	x22, x21, [sp, #128]
 	stp	x20, x19, [sp, #144]
+	add	x29, sp, #64
+	.cfi_def_cfa w29, 96
+	.cfi_offset w19, -8
+	.cfi_offset w20, -16
+	.cfi_offset w21, -24
+	.cfi_offset w22, -32
+	.cfi_offset w23, -40
+	.cfi_offset w24, -48
+	.cfi_offset w25, -56
+	.cfi_offset w26, -64
+	.cfi_offset w27, -72
+	.cfi_offset w28, -80
+	.cfi_offset w30, -88
+	.cfi_offset w29, -96
+	.cfi_offset b8, -104
+	.cfi_offset b9, -112
+	.cfi_offset b10, -120
+	.cfi_offset b11, -128
+	.cfi_offset b12, -136
+	.cfi_offset b13, -144
+	.cfi_offset b14, -152
+	.cfi_offset b15, -160
+	.cfi_remember_state
 	sub	sp, sp, #3072
 	str	xzr, [sp]
 	sub	sp, sp, #1312
@@ -4993,6 +5234,7 @@ proved_main:
 .LBB13_259:
 	add	sp, sp, #1, lsl #12
 	add	sp, sp, #288
+	.cfi_def_cfa wsp, 160
 	ldp	x20, x19, [sp, #144]
 	ldp	x22, x21, [sp, #128]
 	ldp	x24, x23, [sp, #112]
@@ -5003,8 +5245,30 @@ proved_main:
 	ldp	d11, d10, [sp, #32]
 	ldp	d13, d12, [sp, #16]
 	ldp	d15, d14, [sp], #160
+	.cfi_def_cfa_offset 0
+	.cfi_restore w19
+	.cfi_restore w20
+	.cfi_restore w21
+	.cfi_restore w22
+	.cfi_restore w23
+	.cfi_restore w24
+	.cfi_restore w25
+	.cfi_restore w26
+	.cfi_restore w27
+	.cfi_restore w28
+	.cfi_restore w30
+	.cfi_restore w29
+	.cfi_restore b8
+	.cfi_restore b9
+	.cfi_restore b10
+	.cfi_restore b11
+	.cfi_restore b12
+	.cfi_restore b13
+	.cfi_restore b14
+	.cfi_restore b15
 	ret
 .LBB13_260:
+	.cfi_restore_state
 	mov	w23, wzr
 	mov	w20, #1
 	cbnz	x24, .LBB13_45
@@ -5506,6 +5770,7 @@ proved_main:
 	b	.LBB13_322
 .Lfunc_end13:
 	.size	proved_main, .Lfunc_end13-proved_main
+	.cfi_endproc
 
 	.type	.Lstatic.16,@object
 	.section	.rodata..Lstatic.16,"a",@progbits
