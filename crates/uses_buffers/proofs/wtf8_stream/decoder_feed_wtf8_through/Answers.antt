@@ -36,3 +36,15 @@ returns-clause-points g c =
     let grown : vec_items c.extend_from_slice.new.self ≡ all ++ take call.result.written call.new.to = search rules in
     end_text (wtf8_parts big) generalized_utf8 (wtf8_chunks big) (flat_map vec_items c.args.chunks.now) pending all _ fed.ensures.text fed.ensures.pending
     (grown ∙ ap (λ t. all ++ t) (call.ensures.text not_full))
+
+pub returns-clause-odd : goal.returns-clause-odd
+returns-clause-odd g c =
+    let call = c.finish_wtf8-end in
+    let fed = c.in_ok-all in
+    let room : 4 ≤ length call.new.to = omega arith in
+    let fits = end_fits (wtf8_parts g.E.Utf16Order.BIG) generalized_utf8 (wtf8_chunks g.E.Utf16Order.BIG) utf8_short (stream_pending fed.stream) in
+    let not_full : call.result.stop ≢ NoSpace = (λ full. omega (arith, call.ensures.no_space.0 full, fits, room)) in
+    (
+      (λ yes. absurd (cc)),
+      (λ odd. absurd (c.in_default.not-Incomplete (call.ensures.incomplete.1 (not_full, omega (arith, odd, ap length fed.ensures.pending))))),
+    )
