@@ -20,4 +20,3 @@ mod utf32;
 mod validate;
 mod version;
 mod wtf8;
-mod wtf8_encoder;

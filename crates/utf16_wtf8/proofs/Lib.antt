@@ -13,6 +13,3 @@ pub mod SurrogateLemmas
 pub mod FromWtf8Lemmas
 pub mod PartialLemmas
 pub mod FewLemmas
-pub mod LongerLemmas
-pub mod SeamLemmas
-pub mod StreamLemmas
