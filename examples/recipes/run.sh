@@ -53,8 +53,8 @@ prints() {
 refuses() {
     local program=$1 line=$2
     shift 2
-    ! "./$program" "$@" < input > found 2> said && [ ! -s found ] &&
-        [ "$(cat said)" = "${program%.*}: $line" ]
+    "./$program" "$@" < input > found 2> said
+    [[ $? == [12] ]] && [ ! -s found ] && [ "$(cat said)" = "${program%.*}: $line" ]
     count "$program: $line"
 }
 
