@@ -18,7 +18,8 @@ packages=(
     # Compilers, and what they build with.
     gcc=gcc g++=g++ clang=clang clang=clang++ lld=lld-link binutils=objcopy make=make cmake=cmake
     pkg-config=pkg-config cargo=cargo rustc=rustc rustfmt=cargo-fmt rust-clippy=cargo-clippy
-    libicu-dev librust-byteorder-dev librust-cc-dev librust-pkg-config-dev
+    llvm=llvm-symbolizer libclang-rt-dev libicu-dev librust-byteorder-dev librust-cc-dev
+    librust-pkg-config-dev
     # Other platforms.
     gcc-aarch64-linux-gnu=aarch64-linux-gnu-gcc g++-aarch64-linux-gnu=aarch64-linux-gnu-g++
     libc6-dev-arm64-cross gcc-mingw-w64-x86-64=x86_64-w64-mingw32-gcc

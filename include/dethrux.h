@@ -925,6 +925,131 @@ DETHRUX_NODISCARD int32_t dethrux_compare(dethrux_byte_order first_order, const 
 DETHRUX_NODISCARD dethrux_bom dethrux_detect_bom(
     dethrux_byte_order default_order, const void *bytes, size_t len);
 
+/* AddressSanitizer and MemorySanitizer do not see what the library reads and writes. With them, the
+ * name of each call stands for a function that first checks the buffers, unless the program defines
+ * DETHRUX_NO_SANITIZERS. */
+#ifdef __has_feature
+#define DETHRUX_HAS(feature) __has_feature(feature)
+#else
+#define DETHRUX_HAS(feature) 0
+#endif
+#if defined(DETHRUX_NO_SANITIZERS) || !defined(__ELF__)
+#elif defined(__SANITIZE_ADDRESS__) || DETHRUX_HAS(address_sanitizer)
+/* The function of this sanitizer, with types that need no casts. */
+const volatile char *dethrux_checked_region(const void *from, size_t len) __asm__(
+    "__asan_region_is_poisoned");
+/* Reads the first byte that is not the caller's, so that the sanitizer reports it. */
+static inline void dethrux_checked_bytes(const void *from, size_t len) {
+    const volatile char *first = dethrux_checked_region(from, len);
+    if (first != NULL) {
+        (void)*first;
+    }
+}
+#define DETHRUX_READS(from, len) dethrux_checked_bytes(from, len)
+#define DETHRUX_WRITES(to, len) dethrux_checked_bytes(to, len)
+#define DETHRUX_WROTE(to, len) (void)(to)
+#elif DETHRUX_HAS(memory_sanitizer)
+#include <sanitizer/msan_interface.h>
+#define DETHRUX_READS(from, len) __msan_check_mem_is_initialized(from, len)
+#define DETHRUX_WRITES(to, len) (void)(to)
+#define DETHRUX_WROTE(to, len) __msan_unpoison(to, len)
+#endif
+#undef DETHRUX_HAS
+
+#ifdef DETHRUX_READS
+#pragma GCC diagnostic push
+#pragma GCC diagnostic ignored "-Wredundant-decls"
+/* The symbol of a call becomes the checked function's, and another name has the library's. */
+#define DETHRUX_DEFINE(type, name, parameters, body) \
+    extern __typeof__(dethrux_##name) dethrux_##name __asm__("dethrux_checked_" #name); \
+    extern __typeof__(dethrux_##name) dethrux_unchecked_##name __asm__("dethrux_" #name); \
+    extern __typeof__(dethrux_##name) dethrux_checked_##name __attribute__((weak)); \
+    type dethrux_checked_##name parameters { \
+        body; \
+    }
+#define DETHRUX_CALL(type, name, parameters, arguments, before, after) \
+    DETHRUX_DEFINE(type, name, parameters, before; \
+        type result = dethrux_unchecked_##name arguments; \
+        DETHRUX_WROTE(&result, sizeof result); after; return result)
+#define DETHRUX_FROM dethrux_byte_order order, const void *from, size_t len
+#define DETHRUX_READ(type, name, parameters, arguments, len) \
+    DETHRUX_CALL(type, name, parameters, arguments, DETHRUX_READS(from, len), (void)0)
+#define DETHRUX_UTF16(type, name) DETHRUX_READ(type, name, (DETHRUX_FROM), (order, from, len), len)
+#define DETHRUX_UTF8(name) \
+    DETHRUX_READ(size_t, name, (const void *from, size_t len), (from, len), len)
+#define DETHRUX_UTF32(type, name) \
+    DETHRUX_READ(type, name, (const uint32_t *from, size_t len), (from, len), len * 4)
+#define DETHRUX_PLACE(type, name, offset) \
+    DETHRUX_READ(type, name, (DETHRUX_FROM, offset at), (order, from, len, at), len)
+#define DETHRUX_TWO(type, name, parameters, arguments) \
+    DETHRUX_CALL(type, name, parameters, arguments, \
+        DETHRUX_READS(from, len); DETHRUX_READS(other, most), (void)0)
+#define DETHRUX_CONVERT(name, from_type, from_size, to_type, to_size) \
+    DETHRUX_CALL(dethrux_progress, name, \
+        (dethrux_byte_order order, const from_type *from, size_t len, to_type *to, size_t most), \
+        (order, from, len, to, most), \
+        DETHRUX_READS(from, len * from_size); DETHRUX_WRITES(to, most * to_size), \
+        DETHRUX_WROTE(to, result.written * to_size))
+#define DETHRUX_BYTES(name) DETHRUX_CONVERT(name, void, 1, void, 1)
+/* Of a state, only the fields that have a meaning must be initialized. */
+#define DETHRUX_STREAM(name, parameters, arguments, before) \
+    DETHRUX_CALL(dethrux_progress, name, parameters, arguments, \
+        DETHRUX_WRITES(state, sizeof *state); DETHRUX_READS(&state->pending_len, 1); \
+        DETHRUX_WRITES(to, most); before, \
+        DETHRUX_WROTE(state, sizeof *state); DETHRUX_WROTE(to, result.written))
+#define DETHRUX_FEED(name, type) \
+    DETHRUX_STREAM(name, (type *state, DETHRUX_FROM, void *to, size_t most), \
+        (state, order, from, len, to, most), DETHRUX_READS(from, len))
+#define DETHRUX_FINISH(name, type) \
+    DETHRUX_STREAM(name, (type *state, dethrux_byte_order order, void *to, size_t most), \
+        (state, order, to, most), (void)0)
+#define DETHRUX_SIZE(name) DETHRUX_UTF16(size_t, name)
+#define DETHRUX_EACH(define, a, b, c, d, e) define(a) define(b) define(c) define(d) define(e)
+DETHRUX_CALL(uint32_t, version, (void), (), (void)0, (void)0)
+DETHRUX_UTF16(dethrux_validity, validate)
+DETHRUX_UTF16(dethrux_inspection, inspect)
+DETHRUX_UTF16(dethrux_bom, detect_bom)
+DETHRUX_UTF16(bool, is_ascii)
+DETHRUX_EACH(DETHRUX_SIZE, count_chars, to_utf8_lossy_len, to_utf8_replacements, to_utf32_lossy_len,
+    to_wtf8_len)
+DETHRUX_UTF8(from_utf8_len)
+DETHRUX_UTF8(from_utf8_lossy_len)
+DETHRUX_UTF8(from_utf8_replacements)
+DETHRUX_UTF32(dethrux_validity, validate_utf32)
+DETHRUX_UTF32(size_t, from_utf32_lossy_len)
+DETHRUX_EACH(DETHRUX_BYTES, to_utf8, to_utf8_lossy, to_utf8_partial, from_utf8, from_utf8_lossy)
+DETHRUX_EACH(DETHRUX_BYTES, to_wtf8, to_wtf8_partial, from_wtf8, from_wtf8_partial, to_latin1)
+DETHRUX_BYTES(from_latin1)
+DETHRUX_CONVERT(to_utf32, void, 1, uint32_t, 4)
+DETHRUX_CONVERT(to_utf32_lossy, void, 1, uint32_t, 4)
+DETHRUX_CONVERT(from_utf32, uint32_t, 4, void, 1)
+DETHRUX_CONVERT(from_utf32_lossy, uint32_t, 4, void, 1)
+DETHRUX_FEED(decoder_feed, dethrux_decoder)
+DETHRUX_FEED(decoder_feed_wtf8, dethrux_decoder)
+DETHRUX_FEED(encoder_feed, dethrux_encoder)
+DETHRUX_STREAM(decoder_finish, (dethrux_decoder *state, void *to, size_t most), (state, to, most),
+    (void)0)
+DETHRUX_FINISH(decoder_finish_wtf8, dethrux_decoder)
+DETHRUX_FINISH(encoder_finish, dethrux_encoder)
+DETHRUX_PLACE(bool, is_char_boundary, size_t)
+DETHRUX_PLACE(size_t, floor_char_boundary, size_t)
+DETHRUX_PLACE(uint64_t, floor_char_boundary_around, uint64_t)
+DETHRUX_CALL(uint64_t, shard_offset, (uint64_t len, uint64_t count, uint64_t index),
+    (len, count, index), (void)0, (void)0)
+DETHRUX_TWO(size_t, find, (DETHRUX_FROM, const void *other, size_t most),
+    (order, from, len, other, most))
+DETHRUX_TWO(size_t, rfind, (DETHRUX_FROM, const void *other, size_t most),
+    (order, from, len, other, most))
+DETHRUX_TWO(int32_t, compare,
+    (DETHRUX_FROM, dethrux_byte_order other_order, const void *other, size_t most),
+    (order, from, len, other_order, other, most))
+DETHRUX_READ(size_t, make_well_formed, (dethrux_byte_order order, void *from, size_t len),
+    (order, from, len), len)
+DETHRUX_DEFINE(void, swap_byte_order, (void *from, size_t len),
+    DETHRUX_READS(from, len); dethrux_unchecked_swap_byte_order(from, len))
+#pragma GCC diagnostic pop
+#endif
+
 #ifdef __cplusplus
 }
 #endif
@@ -965,6 +1090,17 @@ DETHRUX_U16 dethrux_unit *dethrux_u16_bytes(dethrux_unit *utf16) {
 typedef uint16_t dethrux_unit;
 #define DETHRUX_U16_BYTES(utf16) (utf16)
 #endif
+#define DETHRUX_U16_TEXT(utf16, len) DETHRUX_NATIVE_ENDIAN, DETHRUX_U16_BYTES(utf16), (len) * 2
+/* Return how far a call came, in code units of the UTF-16 that it reads or writes. */
+#define DETHRUX_U16_READS(call) \
+    dethrux_progress progress = call; \
+    progress.read /= 2; \
+    progress.error_len /= 2; \
+    return progress
+#define DETHRUX_U16_WRITES(call) \
+    dethrux_progress progress = call; \
+    progress.written /= 2; \
+    return progress
 
 /** The capacity in bytes for the calls from `len` code units to UTF-8 and WTF-8. */
 #define DETHRUX_U16_TO_UTF8_MAX(len) ((size_t)(len) * 3)
@@ -979,8 +1115,7 @@ typedef uint16_t dethrux_unit;
 
 /** Does what dethrux_validate does, on code units. */
 DETHRUX_U16_RESULT dethrux_validity dethrux_u16_validate(const dethrux_unit *utf16, size_t len) {
-    dethrux_validity validity =
-        dethrux_validate(DETHRUX_NATIVE_ENDIAN, DETHRUX_U16_BYTES(utf16), len * 2);
+    dethrux_validity validity = dethrux_validate(DETHRUX_U16_TEXT(utf16, len));
     validity.valid_up_to /= 2;
     validity.error_len /= 2;
     return validity;
@@ -988,12 +1123,12 @@ DETHRUX_U16_RESULT dethrux_validity dethrux_u16_validate(const dethrux_unit *utf
 
 /** Does what dethrux_count_chars does, on code units. */
 DETHRUX_U16_RESULT size_t dethrux_u16_count_chars(const dethrux_unit *utf16, size_t len) {
-    return dethrux_count_chars(DETHRUX_NATIVE_ENDIAN, DETHRUX_U16_BYTES(utf16), len * 2);
+    return dethrux_count_chars(DETHRUX_U16_TEXT(utf16, len));
 }
 
 /** Does what dethrux_is_ascii does, on code units. */
 DETHRUX_U16_RESULT bool dethrux_u16_is_ascii(const dethrux_unit *utf16, size_t len) {
-    return dethrux_is_ascii(DETHRUX_NATIVE_ENDIAN, DETHRUX_U16_BYTES(utf16), len * 2);
+    return dethrux_is_ascii(DETHRUX_U16_TEXT(utf16, len));
 }
 
 /**
@@ -1002,12 +1137,12 @@ DETHRUX_U16_RESULT bool dethrux_u16_is_ascii(const dethrux_unit *utf16, size_t l
  * @return at most `len * 3`
  */
 DETHRUX_U16_RESULT size_t dethrux_u16_to_utf8_lossy_len(const dethrux_unit *utf16, size_t len) {
-    return dethrux_to_utf8_lossy_len(DETHRUX_NATIVE_ENDIAN, DETHRUX_U16_BYTES(utf16), len * 2);
+    return dethrux_to_utf8_lossy_len(DETHRUX_U16_TEXT(utf16, len));
 }
 
 /** Does what dethrux_to_utf8_replacements does, on code units. */
 DETHRUX_U16_RESULT size_t dethrux_u16_to_utf8_replacements(const dethrux_unit *utf16, size_t len) {
-    return dethrux_to_utf8_replacements(DETHRUX_NATIVE_ENDIAN, DETHRUX_U16_BYTES(utf16), len * 2);
+    return dethrux_to_utf8_replacements(DETHRUX_U16_TEXT(utf16, len));
 }
 
 /**
@@ -1017,11 +1152,7 @@ DETHRUX_U16_RESULT size_t dethrux_u16_to_utf8_replacements(const dethrux_unit *u
  */
 DETHRUX_U16_RESULT dethrux_progress dethrux_u16_to_utf8(
     const dethrux_unit *utf16, size_t len, void *to, size_t capacity) {
-    dethrux_progress progress =
-        dethrux_to_utf8(DETHRUX_NATIVE_ENDIAN, DETHRUX_U16_BYTES(utf16), len * 2, to, capacity);
-    progress.read /= 2;
-    progress.error_len /= 2;
-    return progress;
+    DETHRUX_U16_READS(dethrux_to_utf8(DETHRUX_U16_TEXT(utf16, len), to, capacity));
 }
 
 /**
@@ -1031,10 +1162,7 @@ DETHRUX_U16_RESULT dethrux_progress dethrux_u16_to_utf8(
  */
 DETHRUX_U16_RESULT dethrux_progress dethrux_u16_to_utf8_lossy(
     const dethrux_unit *utf16, size_t len, void *to, size_t capacity) {
-    dethrux_progress progress = dethrux_to_utf8_lossy(
-        DETHRUX_NATIVE_ENDIAN, DETHRUX_U16_BYTES(utf16), len * 2, to, capacity);
-    progress.read /= 2;
-    return progress;
+    DETHRUX_U16_READS(dethrux_to_utf8_lossy(DETHRUX_U16_TEXT(utf16, len), to, capacity));
 }
 
 /**
@@ -1046,10 +1174,7 @@ DETHRUX_U16_RESULT dethrux_progress dethrux_u16_to_utf8_lossy(
  */
 DETHRUX_U16_RESULT dethrux_progress dethrux_u16_to_utf8_partial(
     const dethrux_unit *utf16, size_t len, void *to, size_t capacity) {
-    dethrux_progress progress = dethrux_to_utf8_partial(
-        DETHRUX_NATIVE_ENDIAN, DETHRUX_U16_BYTES(utf16), len * 2, to, capacity);
-    progress.read /= 2;
-    return progress;
+    DETHRUX_U16_READS(dethrux_to_utf8_partial(DETHRUX_U16_TEXT(utf16, len), to, capacity));
 }
 
 /**
@@ -1060,10 +1185,7 @@ DETHRUX_U16_RESULT dethrux_progress dethrux_u16_to_utf8_partial(
  */
 DETHRUX_U16_RESULT dethrux_progress dethrux_u16_decoder_feed(
     dethrux_decoder *decoder, const dethrux_unit *chunk, size_t len, void *to, size_t capacity) {
-    dethrux_progress progress = dethrux_decoder_feed(
-        decoder, DETHRUX_NATIVE_ENDIAN, DETHRUX_U16_BYTES(chunk), len * 2, to, capacity);
-    progress.read /= 2;
-    return progress;
+    DETHRUX_U16_READS(dethrux_decoder_feed(decoder, DETHRUX_U16_TEXT(chunk, len), to, capacity));
 }
 
 /**
@@ -1073,10 +1195,8 @@ DETHRUX_U16_RESULT dethrux_progress dethrux_u16_decoder_feed(
  */
 DETHRUX_U16_RESULT dethrux_progress dethrux_u16_from_utf8(
     const void *utf8, size_t len, dethrux_unit *to, size_t capacity) {
-    dethrux_progress progress =
-        dethrux_from_utf8(DETHRUX_NATIVE_ENDIAN, utf8, len, DETHRUX_U16_BYTES(to), capacity * 2);
-    progress.written /= 2;
-    return progress;
+    DETHRUX_U16_WRITES(
+        dethrux_from_utf8(DETHRUX_NATIVE_ENDIAN, utf8, len, DETHRUX_U16_BYTES(to), capacity * 2));
 }
 
 /**
@@ -1086,10 +1206,8 @@ DETHRUX_U16_RESULT dethrux_progress dethrux_u16_from_utf8(
  */
 DETHRUX_U16_RESULT dethrux_progress dethrux_u16_from_utf8_lossy(
     const void *utf8, size_t len, dethrux_unit *to, size_t capacity) {
-    dethrux_progress progress = dethrux_from_utf8_lossy(
-        DETHRUX_NATIVE_ENDIAN, utf8, len, DETHRUX_U16_BYTES(to), capacity * 2);
-    progress.written /= 2;
-    return progress;
+    DETHRUX_U16_WRITES(dethrux_from_utf8_lossy(
+        DETHRUX_NATIVE_ENDIAN, utf8, len, DETHRUX_U16_BYTES(to), capacity * 2));
 }
 
 /**
@@ -1099,10 +1217,8 @@ DETHRUX_U16_RESULT dethrux_progress dethrux_u16_from_utf8_lossy(
  */
 DETHRUX_U16_RESULT dethrux_progress dethrux_u16_encoder_feed(
     dethrux_encoder *encoder, const void *chunk, size_t len, dethrux_unit *to, size_t capacity) {
-    dethrux_progress progress = dethrux_encoder_feed(
-        encoder, DETHRUX_NATIVE_ENDIAN, chunk, len, DETHRUX_U16_BYTES(to), capacity * 2);
-    progress.written /= 2;
-    return progress;
+    DETHRUX_U16_WRITES(dethrux_encoder_feed(
+        encoder, DETHRUX_NATIVE_ENDIAN, chunk, len, DETHRUX_U16_BYTES(to), capacity * 2));
 }
 
 /**
@@ -1112,16 +1228,12 @@ DETHRUX_U16_RESULT dethrux_progress dethrux_u16_encoder_feed(
  */
 DETHRUX_U16_RESULT dethrux_progress dethrux_u16_encoder_finish(
     dethrux_encoder *encoder, dethrux_unit *to, size_t capacity) {
-    dethrux_progress progress =
-        dethrux_encoder_finish(encoder, DETHRUX_NATIVE_ENDIAN, DETHRUX_U16_BYTES(to), capacity * 2);
-    progress.written /= 2;
-    return progress;
+    DETHRUX_U16_WRITES(dethrux_encoder_finish(encoder, DETHRUX_U16_TEXT(to, capacity)));
 }
 
 /** Does what dethrux_inspect does, on code units. */
 DETHRUX_U16_RESULT dethrux_inspection dethrux_u16_inspect(const dethrux_unit *utf16, size_t len) {
-    dethrux_inspection inspection =
-        dethrux_inspect(DETHRUX_NATIVE_ENDIAN, DETHRUX_U16_BYTES(utf16), len * 2);
+    dethrux_inspection inspection = dethrux_inspect(DETHRUX_U16_TEXT(utf16, len));
     inspection.valid_up_to /= 2;
     inspection.error_len /= 2;
     return inspection;
@@ -1134,11 +1246,7 @@ DETHRUX_U16_RESULT dethrux_inspection dethrux_u16_inspect(const dethrux_unit *ut
  */
 DETHRUX_U16_RESULT dethrux_progress dethrux_u16_to_utf32(
     const dethrux_unit *utf16, size_t len, uint32_t *to, size_t capacity) {
-    dethrux_progress progress =
-        dethrux_to_utf32(DETHRUX_NATIVE_ENDIAN, DETHRUX_U16_BYTES(utf16), len * 2, to, capacity);
-    progress.read /= 2;
-    progress.error_len /= 2;
-    return progress;
+    DETHRUX_U16_READS(dethrux_to_utf32(DETHRUX_U16_TEXT(utf16, len), to, capacity));
 }
 
 /**
@@ -1148,10 +1256,7 @@ DETHRUX_U16_RESULT dethrux_progress dethrux_u16_to_utf32(
  */
 DETHRUX_U16_RESULT dethrux_progress dethrux_u16_to_utf32_lossy(
     const dethrux_unit *utf16, size_t len, uint32_t *to, size_t capacity) {
-    dethrux_progress progress = dethrux_to_utf32_lossy(
-        DETHRUX_NATIVE_ENDIAN, DETHRUX_U16_BYTES(utf16), len * 2, to, capacity);
-    progress.read /= 2;
-    return progress;
+    DETHRUX_U16_READS(dethrux_to_utf32_lossy(DETHRUX_U16_TEXT(utf16, len), to, capacity));
 }
 
 /**
@@ -1160,7 +1265,7 @@ DETHRUX_U16_RESULT dethrux_progress dethrux_u16_to_utf32_lossy(
  * @return at most `len`
  */
 DETHRUX_U16_RESULT size_t dethrux_u16_to_utf32_lossy_len(const dethrux_unit *utf16, size_t len) {
-    return dethrux_to_utf32_lossy_len(DETHRUX_NATIVE_ENDIAN, DETHRUX_U16_BYTES(utf16), len * 2);
+    return dethrux_to_utf32_lossy_len(DETHRUX_U16_TEXT(utf16, len));
 }
 
 /**
@@ -1170,10 +1275,8 @@ DETHRUX_U16_RESULT size_t dethrux_u16_to_utf32_lossy_len(const dethrux_unit *utf
  */
 DETHRUX_U16_RESULT dethrux_progress dethrux_u16_from_utf32(
     const uint32_t *utf32, size_t len, dethrux_unit *to, size_t capacity) {
-    dethrux_progress progress =
-        dethrux_from_utf32(DETHRUX_NATIVE_ENDIAN, utf32, len, DETHRUX_U16_BYTES(to), capacity * 2);
-    progress.written /= 2;
-    return progress;
+    DETHRUX_U16_WRITES(
+        dethrux_from_utf32(DETHRUX_NATIVE_ENDIAN, utf32, len, DETHRUX_U16_BYTES(to), capacity * 2));
 }
 
 /**
@@ -1183,10 +1286,8 @@ DETHRUX_U16_RESULT dethrux_progress dethrux_u16_from_utf32(
  */
 DETHRUX_U16_RESULT dethrux_progress dethrux_u16_from_utf32_lossy(
     const uint32_t *utf32, size_t len, dethrux_unit *to, size_t capacity) {
-    dethrux_progress progress = dethrux_from_utf32_lossy(
-        DETHRUX_NATIVE_ENDIAN, utf32, len, DETHRUX_U16_BYTES(to), capacity * 2);
-    progress.written /= 2;
-    return progress;
+    DETHRUX_U16_WRITES(dethrux_from_utf32_lossy(
+        DETHRUX_NATIVE_ENDIAN, utf32, len, DETHRUX_U16_BYTES(to), capacity * 2));
 }
 
 /**
@@ -1196,11 +1297,7 @@ DETHRUX_U16_RESULT dethrux_progress dethrux_u16_from_utf32_lossy(
  */
 DETHRUX_U16_RESULT dethrux_progress dethrux_u16_to_latin1(
     const dethrux_unit *utf16, size_t len, void *to, size_t capacity) {
-    dethrux_progress progress =
-        dethrux_to_latin1(DETHRUX_NATIVE_ENDIAN, DETHRUX_U16_BYTES(utf16), len * 2, to, capacity);
-    progress.read /= 2;
-    progress.error_len /= 2;
-    return progress;
+    DETHRUX_U16_READS(dethrux_to_latin1(DETHRUX_U16_TEXT(utf16, len), to, capacity));
 }
 
 /**
@@ -1210,10 +1307,8 @@ DETHRUX_U16_RESULT dethrux_progress dethrux_u16_to_latin1(
  */
 DETHRUX_U16_RESULT dethrux_progress dethrux_u16_from_latin1(
     const void *latin1, size_t len, dethrux_unit *to, size_t capacity) {
-    dethrux_progress progress = dethrux_from_latin1(
-        DETHRUX_NATIVE_ENDIAN, latin1, len, DETHRUX_U16_BYTES(to), capacity * 2);
-    progress.written /= 2;
-    return progress;
+    DETHRUX_U16_WRITES(dethrux_from_latin1(
+        DETHRUX_NATIVE_ENDIAN, latin1, len, DETHRUX_U16_BYTES(to), capacity * 2));
 }
 
 /**
@@ -1223,10 +1318,7 @@ DETHRUX_U16_RESULT dethrux_progress dethrux_u16_from_latin1(
  */
 DETHRUX_U16_RESULT dethrux_progress dethrux_u16_to_wtf8(
     const dethrux_unit *utf16, size_t len, void *to, size_t capacity) {
-    dethrux_progress progress =
-        dethrux_to_wtf8(DETHRUX_NATIVE_ENDIAN, DETHRUX_U16_BYTES(utf16), len * 2, to, capacity);
-    progress.read /= 2;
-    return progress;
+    DETHRUX_U16_READS(dethrux_to_wtf8(DETHRUX_U16_TEXT(utf16, len), to, capacity));
 }
 
 /**
@@ -1235,7 +1327,7 @@ DETHRUX_U16_RESULT dethrux_progress dethrux_u16_to_wtf8(
  * @return at most `len * 3`
  */
 DETHRUX_U16_RESULT size_t dethrux_u16_to_wtf8_len(const dethrux_unit *utf16, size_t len) {
-    return dethrux_to_wtf8_len(DETHRUX_NATIVE_ENDIAN, DETHRUX_U16_BYTES(utf16), len * 2);
+    return dethrux_to_wtf8_len(DETHRUX_U16_TEXT(utf16, len));
 }
 
 /**
@@ -1247,10 +1339,7 @@ DETHRUX_U16_RESULT size_t dethrux_u16_to_wtf8_len(const dethrux_unit *utf16, siz
  */
 DETHRUX_U16_RESULT dethrux_progress dethrux_u16_to_wtf8_partial(
     const dethrux_unit *utf16, size_t len, void *to, size_t capacity) {
-    dethrux_progress progress = dethrux_to_wtf8_partial(
-        DETHRUX_NATIVE_ENDIAN, DETHRUX_U16_BYTES(utf16), len * 2, to, capacity);
-    progress.read /= 2;
-    return progress;
+    DETHRUX_U16_READS(dethrux_to_wtf8_partial(DETHRUX_U16_TEXT(utf16, len), to, capacity));
 }
 
 /**
@@ -1262,10 +1351,8 @@ DETHRUX_U16_RESULT dethrux_progress dethrux_u16_to_wtf8_partial(
  */
 DETHRUX_U16_RESULT dethrux_progress dethrux_u16_decoder_feed_wtf8(
     dethrux_decoder *decoder, const dethrux_unit *chunk, size_t len, void *to, size_t capacity) {
-    dethrux_progress progress = dethrux_decoder_feed_wtf8(
-        decoder, DETHRUX_NATIVE_ENDIAN, DETHRUX_U16_BYTES(chunk), len * 2, to, capacity);
-    progress.read /= 2;
-    return progress;
+    DETHRUX_U16_READS(
+        dethrux_decoder_feed_wtf8(decoder, DETHRUX_U16_TEXT(chunk, len), to, capacity));
 }
 
 /**
@@ -1275,10 +1362,8 @@ DETHRUX_U16_RESULT dethrux_progress dethrux_u16_decoder_feed_wtf8(
  */
 DETHRUX_U16_RESULT dethrux_progress dethrux_u16_from_wtf8(
     const void *wtf8, size_t len, dethrux_unit *to, size_t capacity) {
-    dethrux_progress progress =
-        dethrux_from_wtf8(DETHRUX_NATIVE_ENDIAN, wtf8, len, DETHRUX_U16_BYTES(to), capacity * 2);
-    progress.written /= 2;
-    return progress;
+    DETHRUX_U16_WRITES(
+        dethrux_from_wtf8(DETHRUX_NATIVE_ENDIAN, wtf8, len, DETHRUX_U16_BYTES(to), capacity * 2));
 }
 
 /**
@@ -1288,18 +1373,14 @@ DETHRUX_U16_RESULT dethrux_progress dethrux_u16_from_wtf8(
  */
 DETHRUX_U16_RESULT dethrux_progress dethrux_u16_from_wtf8_partial(
     const void *wtf8, size_t len, dethrux_unit *to, size_t capacity) {
-    dethrux_progress progress = dethrux_from_wtf8_partial(
-        DETHRUX_NATIVE_ENDIAN, wtf8, len, DETHRUX_U16_BYTES(to), capacity * 2);
-    progress.written /= 2;
-    return progress;
+    DETHRUX_U16_WRITES(dethrux_from_wtf8_partial(
+        DETHRUX_NATIVE_ENDIAN, wtf8, len, DETHRUX_U16_BYTES(to), capacity * 2));
 }
 
 /** Does what dethrux_is_char_boundary does, on code units. */
 DETHRUX_U16_RESULT bool dethrux_u16_is_char_boundary(
     const dethrux_unit *utf16, size_t len, size_t at) {
-    return at <= len
-           && dethrux_is_char_boundary(
-               DETHRUX_NATIVE_ENDIAN, DETHRUX_U16_BYTES(utf16), len * 2, at * 2);
+    return at <= len && dethrux_is_char_boundary(DETHRUX_U16_TEXT(utf16, len), at * 2);
 }
 
 /**
@@ -1309,8 +1390,7 @@ DETHRUX_U16_RESULT bool dethrux_u16_is_char_boundary(
  */
 DETHRUX_U16_RESULT size_t dethrux_u16_floor_char_boundary(
     const dethrux_unit *utf16, size_t len, size_t at) {
-    return dethrux_floor_char_boundary(DETHRUX_NATIVE_ENDIAN, DETHRUX_U16_BYTES(utf16), len * 2,
-               at < len ? at * 2 : len * 2)
+    return dethrux_floor_char_boundary(DETHRUX_U16_TEXT(utf16, len), at < len ? at * 2 : len * 2)
            / 2;
 }
 
@@ -1321,8 +1401,8 @@ DETHRUX_U16_RESULT size_t dethrux_u16_floor_char_boundary(
  */
 DETHRUX_U16_RESULT size_t dethrux_u16_find(
     const dethrux_unit *utf16, size_t len, const dethrux_unit *pattern, size_t pattern_len) {
-    size_t found = dethrux_find(DETHRUX_NATIVE_ENDIAN, DETHRUX_U16_BYTES(utf16), len * 2,
-        DETHRUX_U16_BYTES(pattern), pattern_len * 2);
+    size_t found =
+        dethrux_find(DETHRUX_U16_TEXT(utf16, len), DETHRUX_U16_BYTES(pattern), pattern_len * 2);
     return found == DETHRUX_NOT_FOUND ? found : found / 2;
 }
 
@@ -1333,8 +1413,8 @@ DETHRUX_U16_RESULT size_t dethrux_u16_find(
  */
 DETHRUX_U16_RESULT size_t dethrux_u16_rfind(
     const dethrux_unit *utf16, size_t len, const dethrux_unit *pattern, size_t pattern_len) {
-    size_t found = dethrux_rfind(DETHRUX_NATIVE_ENDIAN, DETHRUX_U16_BYTES(utf16), len * 2,
-        DETHRUX_U16_BYTES(pattern), pattern_len * 2);
+    size_t found =
+        dethrux_rfind(DETHRUX_U16_TEXT(utf16, len), DETHRUX_U16_BYTES(pattern), pattern_len * 2);
     return found == DETHRUX_NOT_FOUND ? found : found / 2;
 }
 
@@ -1345,14 +1425,14 @@ DETHRUX_U16 void dethrux_u16_swap_byte_order(dethrux_unit *utf16, size_t len) {
 
 /** Does what dethrux_make_well_formed does, on code units. */
 DETHRUX_U16 size_t dethrux_u16_make_well_formed(dethrux_unit *utf16, size_t len) {
-    return dethrux_make_well_formed(DETHRUX_NATIVE_ENDIAN, DETHRUX_U16_BYTES(utf16), len * 2);
+    return dethrux_make_well_formed(DETHRUX_U16_TEXT(utf16, len));
 }
 
 /** Does what dethrux_compare does, on code units. */
 DETHRUX_U16_RESULT int32_t dethrux_u16_compare(
     const dethrux_unit *first, size_t first_len, const dethrux_unit *second, size_t second_len) {
-    return dethrux_compare(DETHRUX_NATIVE_ENDIAN, DETHRUX_U16_BYTES(first), first_len * 2,
-        DETHRUX_NATIVE_ENDIAN, DETHRUX_U16_BYTES(second), second_len * 2);
+    return dethrux_compare(
+        DETHRUX_U16_TEXT(first, first_len), DETHRUX_U16_TEXT(second, second_len));
 }
 
 /** @} */
@@ -1360,5 +1440,8 @@ DETHRUX_U16_RESULT int32_t dethrux_u16_compare(
 #undef DETHRUX_U16
 #undef DETHRUX_U16_RESULT
 #undef DETHRUX_U16_BYTES
+#undef DETHRUX_U16_TEXT
+#undef DETHRUX_U16_READS
+#undef DETHRUX_U16_WRITES
 
 #endif

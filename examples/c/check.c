@@ -619,10 +619,8 @@ static const char *contradicted(const conversion *by, dethrux_byte_order order, 
             return "validate";
         }
     }
-    if (by->make == dethrux_from_utf8 && dethrux_from_utf8_len(from->bytes, from->len) != found.written) {
-        return "size";
-    }
-    if (by->make == dethrux_to_wtf8 && dethrux_to_wtf8_len(order, from->bytes, from->len) != found.written) {
+    if ((by->make == dethrux_from_utf8 && dethrux_from_utf8_len(from->bytes, from->len) != found.written)
+        || (by->make == dethrux_to_wtf8 && dethrux_to_wtf8_len(order, from->bytes, from->len) != found.written)) {
         return "size";
     }
     if (found.written > most(by, from->len)) {
@@ -652,26 +650,19 @@ static const char *contradicted(const conversion *by, dethrux_byte_order order, 
     return NULL;
 }
 
-static bool call_convert(const conversion *by, dethrux_byte_order order, char **values, size_t count, text *answer) {
-    text from = {0};
-    bool is = count == 2 && bytes_of(values[0], order, &from);
-    if (is) {
-        bool sized = strcmp(values[1], "size") == 0;
-        size_t room = sized ? size_of(by, order, &from) : strtoul(values[1], NULL, 10);
-        text to = blank(room);
-        dethrux_progress found = by->make(order, from.bytes, from.len, to.bytes, room);
-        const char *but = !is_blank(&to, room) ? "written after the buffer"
-            : found.status == DETHRUX_NO_SPACE    ? NULL
-                                               : contradicted(by, order, &from, found, &to);
-        add_progress(answer, found);
-        add_found(answer, by->way == TO_UTF8, to.bytes, found.written);
-        if (but != NULL) {
-            add_word(answer, but);
-        }
-        free(to.bytes);
+static void call_convert(const conversion *by, dethrux_byte_order order, const text *from, const char *value, text *answer) {
+    size_t room = strcmp(value, "size") == 0 ? size_of(by, order, from) : strtoul(value, NULL, 10);
+    text to = blank(room);
+    dethrux_progress found = by->make(order, from->bytes, from->len, to.bytes, room);
+    const char *but = !is_blank(&to, room) ? "written after the buffer"
+        : found.status == DETHRUX_NO_SPACE ? NULL
+                                           : contradicted(by, order, from, found, &to);
+    add_progress(answer, found);
+    add_found(answer, by->way == TO_UTF8, to.bytes, found.written);
+    if (but != NULL) {
+        add_word(answer, but);
     }
-    free(from.bytes);
-    return is;
+    free(to.bytes);
 }
 
 static bool call_every_room(dethrux_byte_order order, char **values, size_t count, text *answer) {
@@ -839,17 +830,13 @@ static bool feed_to_buffers(decoder by, char **values, size_t count, text *answe
     return true;
 }
 
-static bool call_stream_feed(dethrux_byte_order order, char **values, size_t count, text *answer) {
-    return feed_to_buffers(new_decoder(TO_UTF8, order), values, count, answer);
-}
-
-static bool call_utf8_stream_feed(dethrux_byte_order order, char **values, size_t count, text *answer) {
-    return feed_to_buffers(new_decoder(FROM_UTF8, order), values, count, answer);
-}
-
-static bool call_wtf8_feed(dethrux_byte_order order, char **values, size_t count, text *answer) {
-    return feed_to_buffers(new_decoder(TO_WTF8, order), values, count, answer);
-}
+#define FED(name, way) \
+    static bool name(dethrux_byte_order order, char **values, size_t count, text *answer) { \
+        return feed_to_buffers(new_decoder(way, order), values, count, answer); \
+    }
+FED(call_stream_feed, TO_UTF8)
+FED(call_utf8_stream_feed, FROM_UTF8)
+FED(call_wtf8_feed, TO_WTF8)
 
 static bool call_lossy_feed(dethrux_byte_order order, char **values, size_t count, text *answer) {
     decoder by = new_decoder(TO_UTF8, order);
@@ -882,58 +869,43 @@ static size_t number_of(const char *word) {
     return strcmp(word, "max") == 0 ? SIZE_MAX : (size_t)strtoull(word, NULL, 0);
 }
 
-static bool call_swap(dethrux_byte_order order, char **values, size_t count, text *answer) {
-    text raw = {0};
-    bool is = count == 1 && bytes_of(values[0], order, &raw);
-    if (is) {
-        dethrux_swap_byte_order(raw.bytes, raw.len);
-        add_bytes(answer, raw.bytes, raw.len);
-    }
-    free(raw.bytes);
-    return is;
+static void ask_swap(dethrux_byte_order order, const text *raw, text *answer) {
+    (void)order;
+    dethrux_swap_byte_order(raw->bytes, raw->len);
+    add_bytes(answer, raw->bytes, raw->len);
 }
 
-static bool call_make_well_formed(
-    dethrux_byte_order order, char **values, size_t count, text *answer) {
-    text raw = {0};
-    bool is = count == 1 && bytes_of(values[0], order, &raw);
-    if (is) {
-        add_number(answer, dethrux_make_well_formed(order, raw.bytes, raw.len));
-        add_bytes(answer, raw.bytes, raw.len);
+static void ask_make_well_formed(dethrux_byte_order order, const text *raw, text *answer) {
+    add_number(answer, dethrux_make_well_formed(order, raw->bytes, raw->len));
+    add_bytes(answer, raw->bytes, raw->len);
+}
+
+/* The bytes that a value spells. Another value gets a word that no result has. */
+static text other_of(const char *value, dethrux_byte_order order, text *answer) {
+    text found = {0};
+    if (!bytes_of(value, order, &found)) {
+        add_word(answer, "ill spelled");
     }
-    free(raw.bytes);
-    return is;
+    return found;
 }
 
 /* The second text in the other byte order must compare in the same way. */
-static bool call_compare(dethrux_byte_order order, char **values, size_t count, text *answer) {
+static void call_compare(dethrux_byte_order order, const text *raw, const char *value, text *answer) {
     dethrux_byte_order other =
         order == DETHRUX_BIG_ENDIAN ? DETHRUX_LITTLE_ENDIAN : DETHRUX_BIG_ENDIAN;
-    text raw = {0}, second = {0};
-    bool is = count == 2 && bytes_of(values[0], order, &raw) && bytes_of(values[1], order, &second);
-    if (is) {
-        int32_t found =
-            dethrux_compare(order, raw.bytes, raw.len, order, second.bytes, second.len);
-        add_word(answer, found < 0 ? "less" : found > 0 ? "greater" : "equal");
-        dethrux_swap_byte_order(second.bytes, second.len);
-        if (dethrux_compare(order, raw.bytes, raw.len, other, second.bytes, second.len) != found) {
-            add_word(answer, "differs");
-        }
+    text second = other_of(value, order, answer);
+    int32_t found = dethrux_compare(order, raw->bytes, raw->len, order, second.bytes, second.len);
+    add_word(answer, found < 0 ? "less" : found > 0 ? "greater" : "equal");
+    dethrux_swap_byte_order(second.bytes, second.len);
+    if (dethrux_compare(order, raw->bytes, raw->len, other, second.bytes, second.len) != found) {
+        add_word(answer, "differs");
     }
-    free(raw.bytes);
     free(second.bytes);
-    return is;
 }
 
-static bool call_is_boundary(dethrux_byte_order order, char **values, size_t count, text *answer) {
-    text raw = {0};
-    bool is = count == 2 && bytes_of(values[0], order, &raw);
-    if (is) {
-        bool found = dethrux_is_char_boundary(order, raw.bytes, raw.len, number_of(values[1]));
-        add_word(answer, found ? "true" : "false");
-    }
-    free(raw.bytes);
-    return is;
+static void call_is_boundary(dethrux_byte_order order, const text *raw, const char *value, text *answer) {
+    bool found = dethrux_is_char_boundary(order, raw->bytes, raw->len, number_of(value));
+    add_word(answer, found ? "true" : "false");
 }
 
 /* The same with the call that takes a few bytes of a file. */
@@ -943,30 +915,17 @@ static size_t floor_in_file(dethrux_byte_order order, const text *file, size_t a
     return (size_t)dethrux_floor_char_boundary_around(order, around, left < 4 ? left : 4, at);
 }
 
-static bool call_floor(dethrux_byte_order order, char **values, size_t count, text *answer) {
-    text raw = {0};
-    bool is = count == 2 && bytes_of(values[0], order, &raw);
-    if (is) {
-        size_t at = number_of(values[1]);
-        size_t found = dethrux_floor_char_boundary(order, raw.bytes, raw.len, at);
-        add_number(answer, found);
-        if (at <= raw.len && floor_in_file(order, &raw, at) != found) {
-            add_word(answer, "around");
-        }
+static void call_floor(dethrux_byte_order order, const text *raw, const char *value, text *answer) {
+    size_t at = number_of(value);
+    size_t found = dethrux_floor_char_boundary(order, raw->bytes, raw->len, at);
+    add_number(answer, found);
+    if (at <= raw->len && floor_in_file(order, raw, at) != found) {
+        add_word(answer, "around");
     }
-    free(raw.bytes);
-    return is;
 }
 
-static bool call_floor_around(dethrux_byte_order order, char **values, size_t count, text *answer) {
-    text raw = {0};
-    bool is = count == 2 && bytes_of(values[0], order, &raw);
-    if (is) {
-        add_number(answer,
-            dethrux_floor_char_boundary_around(order, raw.bytes, raw.len, number_of(values[1])));
-    }
-    free(raw.bytes);
-    return is;
+static void call_floor_around(dethrux_byte_order order, const text *raw, const char *value, text *answer) {
+    add_number(answer, dethrux_floor_char_boundary_around(order, raw->bytes, raw->len, number_of(value)));
 }
 
 static bool call_shard(dethrux_byte_order order, char **values, size_t count, text *answer) {
@@ -980,26 +939,21 @@ static bool call_shard(dethrux_byte_order order, char **values, size_t count, te
 
 /* A call of the tables that shares its body with others. */
 #define CALLED(name, by, call) \
-    static bool name(dethrux_byte_order order, char **values, size_t count, text *answer) { \
-        return by(call, order, values, count, answer); \
+    static void name(dethrux_byte_order order, const text *raw, const char *value, text *answer) { \
+        by(call, order, raw, value, answer); \
     }
 
 typedef size_t search(dethrux_byte_order order, const void *utf16, size_t len, const void *pattern, size_t pattern_len);
 
-static bool search_by(search *make, dethrux_byte_order order, char **values, size_t count, text *answer) {
-    text raw = {0}, pattern = {0};
-    bool is = count == 2 && bytes_of(values[0], order, &raw) && bytes_of(values[1], order, &pattern);
-    if (is) {
-        size_t found = make(order, raw.bytes, raw.len, pattern.bytes, pattern.len);
-        if (found == DETHRUX_NOT_FOUND) {
-            add_word(answer, "none");
-        } else {
-            add_number(answer, found);
-        }
+static void search_by(search *make, dethrux_byte_order order, const text *raw, const char *value, text *answer) {
+    text pattern = other_of(value, order, answer);
+    size_t found = make(order, raw->bytes, raw->len, pattern.bytes, pattern.len);
+    if (found == DETHRUX_NOT_FOUND) {
+        add_word(answer, "none");
+    } else {
+        add_number(answer, found);
     }
-    free(raw.bytes);
     free(pattern.bytes);
-    return is;
 }
 
 CALLED(call_find, search_by, dethrux_find)
@@ -1019,31 +973,25 @@ static uint32_t *code_points(const text *spelled, size_t *count) {
 
 typedef dethrux_progress widen(dethrux_byte_order order, const void *from, size_t len, uint32_t *to, size_t room);
 
-static bool to_utf32_by(widen *make, dethrux_byte_order order, char **values, size_t count, text *answer) {
-    text from = {0}, big = {0};
-    bool is = count == 2 && bytes_of(values[0], order, &from);
-    if (is) {
-        bool sized = strcmp(values[1], "size") == 0;
-        size_t room = sized ? dethrux_to_utf32_lossy_len(order, from.bytes, from.len) : number_of(values[1]);
-        text to = blank(4 * room);
-        uint32_t *points = malloc(to.len);
-        memcpy(points, to.bytes, to.len);
-        dethrux_progress found = make(order, from.bytes, from.len, points, room);
-        memcpy(to.bytes, points, to.len);
-        add_progress(answer, found);
-        for (size_t i = 0; i < 4 * found.written; i++) {
-            append_byte(&big, points[i / 4] >> (24 - i % 4 * 8) & 0xFF);
-        }
-        add_bytes(answer, big.bytes, big.len);
-        if (!is_blank(&to, 4 * room)) {
-            add_word(answer, "written after the buffer");
-        }
-        free(points);
-        free(to.bytes);
+static void to_utf32_by(widen *make, dethrux_byte_order order, const text *from, const char *value, text *answer) {
+    bool sized = strcmp(value, "size") == 0;
+    size_t room = sized ? dethrux_to_utf32_lossy_len(order, from->bytes, from->len) : number_of(value);
+    text to = blank(4 * room), big = {0};
+    uint32_t *points = malloc(to.len);
+    memcpy(points, to.bytes, to.len);
+    dethrux_progress found = make(order, from->bytes, from->len, points, room);
+    memcpy(to.bytes, points, to.len);
+    add_progress(answer, found);
+    for (size_t i = 0; i < 4 * found.written; i++) {
+        append_byte(&big, points[i / 4] >> (24 - i % 4 * 8) & 0xFF);
     }
+    add_bytes(answer, big.bytes, big.len);
+    if (!is_blank(&to, 4 * room)) {
+        add_word(answer, "written after the buffer");
+    }
+    free(points);
+    free(to.bytes);
     free(big.bytes);
-    free(from.bytes);
-    return is;
 }
 
 CALLED(call_to_utf32, to_utf32_by, dethrux_to_utf32)
@@ -1051,47 +999,35 @@ CALLED(call_to_utf32_lossy, to_utf32_by, dethrux_to_utf32_lossy)
 
 typedef dethrux_progress narrow(dethrux_byte_order order, const uint32_t *from, size_t len, void *to, size_t room);
 
-static bool from_utf32_by(narrow *make, dethrux_byte_order order, char **values, size_t count, text *answer) {
-    text from = {0};
-    bool is = count == 2 && bytes_of(values[0], order, &from);
-    if (is) {
-        size_t len;
-        uint32_t *points = code_points(&from, &len);
-        bool sized = strcmp(values[1], "size") == 0;
-        size_t room = sized ? dethrux_from_utf32_lossy_len(points, len) : number_of(values[1]);
-        text to = blank(room);
-        dethrux_progress found = make(order, points, len, to.bytes, room);
-        add_progress(answer, found);
-        add_bytes(answer, to.bytes, found.written);
-        if (!is_blank(&to, room)) {
-            add_word(answer, "written after the buffer");
-        }
-        free(to.bytes);
-        free(points);
+static void from_utf32_by(narrow *make, dethrux_byte_order order, const text *from, const char *value, text *answer) {
+    size_t len;
+    uint32_t *points = code_points(from, &len);
+    bool sized = strcmp(value, "size") == 0;
+    size_t room = sized ? dethrux_from_utf32_lossy_len(points, len) : number_of(value);
+    text to = blank(room);
+    dethrux_progress found = make(order, points, len, to.bytes, room);
+    add_progress(answer, found);
+    add_bytes(answer, to.bytes, found.written);
+    if (!is_blank(&to, room)) {
+        add_word(answer, "written after the buffer");
     }
-    free(from.bytes);
-    return is;
+    free(to.bytes);
+    free(points);
 }
 
 CALLED(call_from_utf32, from_utf32_by, dethrux_from_utf32)
 CALLED(call_from_utf32_lossy, from_utf32_by, dethrux_from_utf32_lossy)
 
-static bool latin1_by(convert *make, dethrux_byte_order order, char **values, size_t count, text *answer) {
-    text from = {0};
-    bool is = count == 2 && bytes_of(values[0], order, &from);
-    if (is) {
-        size_t room = number_of(values[1]);
-        text to = blank(room);
-        dethrux_progress found = make(order, from.bytes, from.len, to.bytes, room);
-        add_progress(answer, found);
-        add_bytes(answer, to.bytes, found.written);
-        if (!is_blank(&to, found.written)) {
-            add_word(answer, "changed");
-        }
-        free(to.bytes);
+static void latin1_by(convert *make, dethrux_byte_order order, const text *from, const char *value, text *answer) {
+    size_t room = number_of(value);
+    text to = blank(room);
+    dethrux_progress found = make(order, from->bytes, from->len, to.bytes, room);
+    add_progress(answer, found);
+    add_bytes(answer, to.bytes, found.written);
+    if (!is_blank(&to, found.written)) {
+        add_word(answer, "changed");
     }
-    free(from.bytes);
-    return is;
+    free(to.bytes);
 }
 
 CALLED(call_to_latin1, latin1_by, dethrux_to_latin1)
@@ -1130,11 +1066,12 @@ static void ask_inspect(dethrux_byte_order order, const text *raw, text *answer)
     add_stop(answer, found.status, found.error_len);
 }
 
-/* The call of a name: on values, on bytes only, or a number for UTF-16. The conversions have a
- * separate table. */
+/* The call of a name: on values, on bytes and a value, on bytes only, or a number for UTF-16. The
+ * conversions have a separate table. */
 static struct {
     const char *name;
     bool (*make)(dethrux_byte_order order, char **values, size_t count, text *answer);
+    void (*with)(dethrux_byte_order order, const text *raw, const char *value, text *answer);
     question *ask;
     measure *size;
     unsigned made;
@@ -1150,21 +1087,21 @@ static struct {
     {.name = "feed_wtf8", .make = call_wtf8_feed},
     {.name = "Lossy::feed", .make = call_lossy_feed},
     {.name = "decode_pieces", .make = call_decode_pieces},
-    {.name = "swap_byte_order", .make = call_swap},
-    {.name = "make_well_formed", .make = call_make_well_formed},
-    {.name = "bytes::compare", .make = call_compare},
-    {.name = "bytes::is_char_boundary", .make = call_is_boundary},
-    {.name = "bytes::floor_char_boundary", .make = call_floor},
-    {.name = "bytes::floor_char_boundary_around", .make = call_floor_around},
+    {.name = "swap_byte_order", .ask = ask_swap},
+    {.name = "make_well_formed", .ask = ask_make_well_formed},
+    {.name = "bytes::compare", .with = call_compare},
+    {.name = "bytes::is_char_boundary", .with = call_is_boundary},
+    {.name = "bytes::floor_char_boundary", .with = call_floor},
+    {.name = "bytes::floor_char_boundary_around", .with = call_floor_around},
     {.name = "shard_offset", .make = call_shard},
-    {.name = "search::find", .make = call_find},
-    {.name = "search::rfind", .make = call_rfind},
-    {.name = "to_utf32", .make = call_to_utf32},
-    {.name = "to_utf32_lossy", .make = call_to_utf32_lossy},
-    {.name = "from_utf32", .make = call_from_utf32},
-    {.name = "from_utf32_lossy", .make = call_from_utf32_lossy},
-    {.name = "to_latin1", .make = call_to_latin1},
-    {.name = "from_latin1", .make = call_from_latin1},
+    {.name = "search::find", .with = call_find},
+    {.name = "search::rfind", .with = call_rfind},
+    {.name = "to_utf32", .with = call_to_utf32},
+    {.name = "to_utf32_lossy", .with = call_to_utf32_lossy},
+    {.name = "from_utf32", .with = call_from_utf32},
+    {.name = "from_utf32_lossy", .with = call_from_utf32_lossy},
+    {.name = "to_latin1", .with = call_to_latin1},
+    {.name = "from_latin1", .with = call_from_latin1},
     {.name = "from_utf32_lossy_len", .ask = ask_from_utf32_len},
     {.name = "validate_utf32", .ask = ask_validate_utf32},
     {.name = "inspect", .ask = ask_inspect},
@@ -1179,6 +1116,15 @@ static struct {
 };
 
 enum { CALLS = sizeof calls / sizeof *calls };
+
+/* The index of a name, or CALLS. */
+static size_t call_of(const char *name) {
+    size_t at = 0;
+    while (at < CALLS && strcmp(calls[at].name, name) != 0) {
+        at++;
+    }
+    return at;
+}
 
 static unsigned passed, failed;
 
@@ -1195,24 +1141,27 @@ static void count(bool passes, const char *name) {
 static void run(dethrux_byte_order order, const char *line, char **words, size_t said, size_t all) {
     text found = {0}, should = {0};
     const conversion *by = conversion_of(words[2]);
-    bool is = false;
-    for (size_t i = 0; by == NULL && i < CALLS; i++) {
-        if (strcmp(calls[i].name, words[2]) == 0) {
-            text raw = {0};
-            calls[i].made++;
-            if (calls[i].make != NULL) {
-                is = calls[i].make(order, words + 3, said - 3, &found);
-            } else if ((is = said == 4 && bytes_of(words[3], order, &raw))) {
-                if (calls[i].size != NULL) {
-                    add_number(&found, calls[i].size(order, raw.bytes, raw.len));
-                } else {
-                    calls[i].ask(order, &raw, &found);
-                }
+    text raw = {0};
+    bool is = by != NULL && said == 5 && bytes_of(words[3], order, &raw);
+    if (is) {
+        call_convert(by, order, &raw, words[4], &found);
+    }
+    size_t i = by != NULL ? CALLS : call_of(words[2]);
+    if (i < CALLS) {
+        calls[i].made++;
+        if (calls[i].make != NULL) {
+            is = calls[i].make(order, words + 3, said - 3, &found);
+        } else if ((is = said == (calls[i].with != NULL ? 5 : 4) && bytes_of(words[3], order, &raw))) {
+            if (calls[i].with != NULL) {
+                calls[i].with(order, &raw, words[4], &found);
+            } else if (calls[i].size != NULL) {
+                add_number(&found, calls[i].size(order, raw.bytes, raw.len));
+            } else {
+                calls[i].ask(order, &raw, &found);
             }
-            free(raw.bytes);
         }
     }
-    is = by != NULL ? call_convert(by, order, words + 3, said - 3, &found) : is;
+    free(raw.bytes);
     is = wanted(words + said + 1, all - said - 1, order, &should) && is && same(&found, &should);
     count(is, line);
     if (!is) {
@@ -1220,14 +1169,6 @@ static void run(dethrux_byte_order order, const char *line, char **words, size_t
     }
     free(found.bytes);
     free(should.bytes);
-}
-
-static bool has_call(const char *name) {
-    bool is = conversion_of(name) != NULL;
-    for (size_t i = 0; i < CALLS; i++) {
-        is = is || strcmp(calls[i].name, name) == 0;
-    }
-    return is;
 }
 
 /* Runs a line of a table: a name, a byte order, a call, its values, `=`, and its result. */
@@ -1240,7 +1181,7 @@ static void run_line(const char *line) {
         said = said == 0 && strcmp(word, "=") == 0 ? all : said;
         words[all++] = word;
     }
-    if (all == 0 || *line == '#' || (all > 2 && (strchr(words[1], ';') != NULL || !has_call(words[2])))) {
+    if (all == 0 || *line == '#' || (all > 2 && (strchr(words[1], ';') != NULL || (conversion_of(words[2]) == NULL && call_of(words[2]) == CALLS)))) {
         return;
     }
     bool little = all > 2 && strcmp(words[1], "be") != 0, big = all > 2 && strcmp(words[1], "le") != 0;
@@ -1445,35 +1386,21 @@ static bool feed_needs(const decoder *state, const text *chunk, size_t capacity)
 }
 
 /* A state with three bytes, one that a call leaves and one that no call leaves, and a chunk of
- * characters that take three bytes each. */
+ * characters that take three bytes each, or from UTF-8 of ASCII. */
 static bool is_feed_bound_reached(way by, size_t len) {
-    static const uint8_t left[] = {0xD8, 0x00, 0x4E};
+    static const uint8_t left[][DETHRUX_PENDING_MAX] = {{0xD8, 0x00, 0x4E}, {0xF0, 0x9F, 0x98}};
+    const size_t most = is_back(by) ? DETHRUX_ENCODER_FEED_MAX(len) : DETHRUX_DECODER_FEED_MAX(len);
     decoder by_call = new_decoder(by, DETHRUX_BIG_ENDIAN), by_hand = by_call;
     by_hand.utf16 = (dethrux_decoder){{0x4E, 0x00, 0x4E}, DETHRUX_PENDING_MAX};
-    dethrux_progress found = feed(&by_call, left, sizeof left, NULL, 0);
-    bool is = found.status == DETHRUX_DONE && by_call.utf16.pending_len == DETHRUX_PENDING_MAX;
-    text chunk = {0};
-    for (size_t i = 0; i < len; i++) {
-        append_byte(&chunk, i % 2 == 0 ? 0x00 : 0x4E);
-    }
-    is = is && (len == 0 || feed_needs(&by_call, &chunk, DETHRUX_DECODER_FEED_MAX(len))) && feed_needs(&by_hand, &chunk, DETHRUX_DECODER_FEED_MAX(len));
-    free(chunk.bytes);
-    return is;
-}
-
-/* The same from UTF-8, with a chunk of ASCII. */
-static bool is_utf8_feed_bound_reached(size_t len) {
-    static const uint8_t left[] = {0xF0, 0x9F, 0x98};
-    decoder by_call = new_decoder(FROM_UTF8, DETHRUX_BIG_ENDIAN), by_hand = by_call;
     by_hand.utf8 = (dethrux_encoder){{'a', 'b', 'c'}, DETHRUX_PENDING_MAX};
-    dethrux_progress found = feed(&by_call, left, sizeof left, NULL, 0);
-    bool is = found.status == DETHRUX_DONE && by_call.utf8.pending_len == DETHRUX_PENDING_MAX;
+    dethrux_progress found = feed(&by_call, left[is_back(by)], DETHRUX_PENDING_MAX, NULL, 0);
+    bool is = found.status == DETHRUX_DONE && pending_of(&by_call).len == DETHRUX_PENDING_MAX;
     text chunk = {0};
     for (size_t i = 0; i < len; i++) {
-        append_byte(&chunk, 'a');
+        append_byte(&chunk, is_back(by) ? 'a' : i % 2 == 0 ? 0x00 : 0x4E);
     }
-    is = is && (len == 0 || feed_needs(&by_call, &chunk, DETHRUX_ENCODER_FEED_MAX(len)))
-        && feed_needs(&by_hand, &chunk, 2 * (DETHRUX_PENDING_MAX + len));
+    is = is && (len == 0 || feed_needs(&by_call, &chunk, most))
+        && feed_needs(&by_hand, &chunk, is_back(by) ? 2 * (DETHRUX_PENDING_MAX + len) : most);
     free(chunk.bytes);
     return is;
 }
@@ -1513,7 +1440,7 @@ static bool is_pending_bound_reached(void) {
 static bool are_bounds_reached(void) {
     bool is = is_pending_bound_reached();
     for (size_t len = 0; is && len <= 2 * SHORT + 1; len++) {
-        is = is_bound_reached(len) && is_feed_bound_reached(TO_UTF8, len) && is_feed_bound_reached(TO_WTF8, len) && is_utf8_feed_bound_reached(len);
+        is = is_bound_reached(len) && is_feed_bound_reached(TO_UTF8, len) && is_feed_bound_reached(TO_WTF8, len) && is_feed_bound_reached(FROM_UTF8, len);
     }
     return is;
 }

@@ -82,7 +82,7 @@ in_cxx() {
 
 # Whether the header itself has no cast that a program's warnings tell of.
 casts_nothing() {
-    c++ -std=c++17 -Wold-style-cast -Wuseless-cast -Werror "-I$top/include" -fsyntax-only \
+    c++ -std=c++17 -Wold-style-cast -Wuseless-cast -Werror "$@" "-I$top/include" -fsyntax-only \
         "$top/examples/cpp/first.cpp"
 }
 
@@ -134,32 +134,62 @@ warns() {
 }
 
 # The functions whose result may be ignored, and the ones that only the header uses.
-no_result='(swap_byte_order|make_well_formed|u16_bytes)\('
+no_result='(swap_byte_order|make_well_formed|u16_bytes|checked_[a-z]+)\('
 
 # The names of the other functions that a file calls or declares.
 names() {
     grep -oE "$1[a-z0-9_]+\(" "$2" | sort -u | grep -vE "$no_result"
 }
 
-# Writes a program that ignores the result of each function of the header, in C99 and C++. Each
-# function is called in one line, with arguments by the types of its parameters.
+# Writes a call of each function of the header into a line, with arguments by the types of its
+# parameters, and a program for C99 and C++ that ignores the results.
 write_ignored() {
     local parameters='dethrux_byte_order by, uint8_t *bytes, uint16_t *units, uint32_t *points,'
     parameters+=' size_t len, dethrux_decoder *decoder, dethrux_encoder *encoder'
     gcc -fsyntax-only -aux-info "$room/prototypes" -x c "$top/include/dethrux.h" || return
-    printf '#include "dethrux.h"\nvoid ignore(%s);\nvoid ignore(%s) {\n' \
-        "$parameters" "$parameters" > "$room/ignored.c"
     sed -nE 's/.*dethrux\.h:.*[ *](dethrux_[a-z0-9_]+) (\([^()]*\);).*/    \1\2/p' "$room/prototypes" |
         sed -E 's/const //g; s/\(void\)/()/; s/dethrux_(decoder|encoder) \*\w*/\1/g
-            s/void \*\w*/bytes/g; s/dethrux_unit \*\w*/units/g; s/uint32_t \*\w*/points/g
-            s/dethrux_byte_order( \w+)?/by/g; s/(size_t|uint64_t)( \w+)?/len/g' |
-        grep -vE "$no_result" >> "$room/ignored.c"
-    echo '}' >> "$room/ignored.c"
+            s/void \*\w*, size_t( \w+)?/bytes, len/g; s/dethrux_unit \*\w*, size_t( \w+)?/units, len/g
+            s/uint32_t \*\w*, size_t( \w+)?/points, len/g; s/dethrux_byte_order( \w+)?/by/g
+            s/(size_t|uint64_t)( \w+)?/0/g' > "$room/calls.inc"
+    { printf '#include "dethrux.h"\nvoid ignore(%s);\nvoid ignore(%s) {\n' "$parameters" "$parameters"
+        grep -vE "$no_result" "$room/calls.inc"
+        echo '}'; } > "$room/ignored.c"
+}
+
+# Compiles a file of this folder with sanitizers, and runs a command if that passes.
+sanitized() {
+    "$1" -std=c99 -O0 -g "-fsanitize=$2" -w "-I$top/include" "-I$room" "$here/$3.c" "$archive" \
+        -o "$room/sanitized" && "${@:4}"
+}
+
+# Whether a report of a sanitizer is about a line that calls the library.
+is_about() {
+    sed -nE '/(ERROR|WARNING): \w+Sanitizer/,/^$/p' "$room/report" | grep -q " in main .*/$1\b"
+}
+
+# Whether AddressSanitizer reports each wrong argument of misuse.c, or every few of them.
+reports_misuse() {
+    local -x ASAN_OPTIONS=detect_leaks=0
+    local count number line
+    count=$("$room/sanitized") && [ "$count" -gt 200 ] || return
+    for ((number = $1; number <= count; number += $1)); do
+        ! line=$("$room/sanitized" $number 2> "$room/report") && is_about "calls.inc:$line" && continue
+        sed -n "${line%%$'\n'*}p" "$room/calls.inc"
+        return 1
+    done
+}
+
+# Whether a sanitizer reports the call of a program in C++: a header, a buffer, and the call.
+reports() {
+    printf '#include "%s"\nint main() {\n%s;\nreturn !%s;\n}\n' "${@:3}" > "$room/wrong.cpp"
+    "$1" -std=c++17 -g "-fsanitize=$2" "-I$top/include" "$room/wrong.cpp" "$archive" -o "$room/wrong" &&
+        ! "$room/wrong" 2> "$room/report" && is_about wrong.cpp:4
 }
 
 # Whether the checks in C name each function of the header.
 checks_all() {
-    grep -oE 'dethrux_[a-z0-9_]+\(' "$top/include/dethrux.h" | tr -d '(' | grep -v u16_bytes |
+    grep -oE 'dethrux_[a-z0-9_]+\(' "$top/include/dethrux.h" | tr -d '(' | grep -vE 'u16_bytes|checked_' |
         sort -u > "$room/declared"
     cat "$here"/{check,units,fixed}.c | grep -oE 'dethrux_[a-z0-9_]+' | sort -u |
         comm -23 "$room/declared" - > "$room/missing"
@@ -209,13 +239,13 @@ is_native() {
 }
 
 check_c() {
-    "$room/check" < "$room/cases"
+    "$room/${1:-check}" < "$room/cases"
 }
 
 # The program that decodes a file in chunks, on a text that is longer than a chunk and ends with an
 # unpaired surrogate.
 decodes() {
-    { printf '\xFE\xFF'; for _ in {1..3000}; do printf '\0a\x4E\0'; done; printf '\xD8\0'; } | "$room/decode" auto > "$room/found"
+    { printf '\xFE\xFF'; for _ in {1..3000}; do printf '\0a\x4E\0'; done; printf '\xD8\0'; } | "$room/${1:-decode}" auto > "$room/found"
     { for _ in {1..3000}; do printf 'a\xE4\xB8\x80'; done; printf '\xEF\xBF\xBD'; } | cmp - "$room/found"
 }
 
@@ -255,7 +285,7 @@ comment_decodes() {
 # the middle and half a code unit at the end.
 resumes() {
     { printf 'abc%.0s' {1..9} | sed 's/./&\x0/g'; printf '\0\xDC\xE4\0\x3D\xD8\0\xDEz'; } > "$room/cut"
-    "$room/resume" < "$room/cut" > "$room/found"
+    "$room/${1:-resume}" < "$room/cut" > "$room/found"
     [ $? = 1 ] && { printf 'abc%.0s' {1..9}; printf '\xC3\xA4\xF0\x9F\x98\x80'; } | cmp - "$room/found"
 }
 
@@ -294,6 +324,25 @@ memory_in_c() {
     head -c -1 "$room/cut" > "$room/whole"
     count 'the program of the README under valgrind' is_clean resume "$room/whole"
     count 'the first program under valgrind' is_clean first /dev/null
+}
+
+# Sanitizers find no fault in the tables, and report each wrong argument.
+test_sanitizers() {
+    local with
+    for with in 'gcc address,undefined' 'gcc thread' 'clang address,undefined' 'clang memory'; do
+        count "the cases by $with" sanitized $with check check_c sanitized
+    done
+    count 'what calls write, by MemorySanitizer' sanitized clang memory resume resumes sanitized
+    count 'what decoders write, by MemorySanitizer' sanitized clang memory decode decodes sanitized
+    count 'wrong arguments by gcc' sanitized gcc address misuse reports_misuse 1
+    count 'wrong arguments by clang' sanitized clang address misuse reports_misuse 7
+    count 'a byte that is not set' reports clang++ memory dethrux.h 'char text[2]; text[0] = 0' \
+        'dethrux_is_ascii(DETHRUX_BIG_ENDIAN, text, 2)'
+    count 'a view that is too long' reports g++ address dethrux.hpp 'std::string text(40, 0)' \
+        'dethrux::to_utf8_lossy(dethrux::byte_order::big, dethrux::bytes(text.data(), 42)).size()'
+    count 'no casts with a sanitizer' casts_nothing -fsanitize=address
+    level=-fsanitize=address,undefined count 'C++ by sanitizers' in_cxx g++ c++17 check &&
+        count 'the check in C++ by sanitizers' "$room/cpp_check"
 }
 
 # The header for C, in C++.
@@ -350,6 +399,7 @@ fi
 test_cxx
 if [ -z "$headers" ]; then
     has valgrind 'memory in C and C++' && memory_in_c && memory_in_cxx
+    test_sanitizers
     has python3 'Python' && count 'the cases in Python' check_python
 fi
 result

@@ -454,14 +454,13 @@ static void to_wtf8(const any_units *row) {
 
 static void from_wtf8(const any_units *row) {
     size_t len = strlen(row->wtf8);
-    const char *bytes = len == 0 ? NULL : row->wtf8;
     for (size_t i = 0; i < sizeof calls_from_wtf8 / sizeof *calls_from_wtf8; i++) {
         bool is = true;
         for (size_t capacity = 0; capacity <= len; capacity++) {
             uint16_t to[BUFFER / 2];
             memset(to, BLANK, sizeof to);
-            dethrux_progress found =
-                calls_from_wtf8[i].call(bytes, len, capacity == 0 ? NULL : to, capacity);
+            dethrux_progress found = calls_from_wtf8[i].call(
+                len == 0 ? NULL : row->wtf8, len, capacity == 0 ? NULL : to, capacity);
             reach wanted = reached_wtf8(row, calls_from_wtf8[i].leaves, capacity, SIZE_MAX);
             is = is && found.read == wanted.bytes && found.written == wanted.units
                  && found.status == wanted.status && found.error_len == 0

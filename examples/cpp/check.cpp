@@ -239,10 +239,6 @@ static std::u32string points_of(std::string_view utf8) {
     return found;
 }
 
-static std::size_t utf16_len(char32_t point) {
-    return point < 0x10000 ? 2 : 4;
-}
-
 static dethrux::repertoire least(const std::u32string &text) {
     char32_t most = 0;
     for (char32_t point : text) {
@@ -257,7 +253,7 @@ static dethrux::repertoire least(const std::u32string &text) {
 static void inspect(const row &from) {
     const std::u32string text = points_of(from.utf8);
     std::size_t end = from.reason ? from.reason->valid_up_to : from.big.size(), count = 0;
-    for (std::size_t at = 0; at < end; at += utf16_len(text[count++])) {
+    for (std::size_t at = 0; at < end; at += text[count++] < 0x10000 ? 2u : 4u) {
     }
     check_forms("inspect", from, [&](std::size_t element, auto... order) {
         dethrux::inspection found = dethrux::inspect(order..., in_form(from.big, order...));
@@ -548,18 +544,13 @@ static int sign(int compared) {
     return (compared > 0) - (compared < 0);
 }
 
-static bool compares(const pair_row &from, byte_order first_order, byte_order second_order) {
-    std::string first = in_form(from.first, first_order);
-    std::string second = in_form(from.second, second_order);
-    return sign(dethrux::compare(first_order, first, second_order, second)) == from.wanted
-           && sign(dethrux::compare(second_order, second, first_order, first)) == -from.wanted;
-}
-
 static void compare(const pair_row &from) {
     bool is = true;
-    for (byte_order first : {byte_order::little, byte_order::big}) {
-        for (byte_order second : {byte_order::little, byte_order::big}) {
-            is = is && compares(from, first, second);
+    for (byte_order one : {byte_order::little, byte_order::big}) {
+        for (byte_order other : {byte_order::little, byte_order::big}) {
+            std::string first = in_form(from.first, one), second = in_form(from.second, other);
+            is = is && sign(dethrux::compare(one, first, other, second)) == from.wanted
+                 && sign(dethrux::compare(other, second, one, first)) == -from.wanted;
         }
     }
     check("compare: "s + from.name, is);
@@ -616,18 +607,11 @@ static void search(const search_row &from) {
     auto in_elements = [](std::size_t at, std::size_t element) {
         return at == npos ? npos : at / element;
     };
-    auto is_in_units = from.pattern.size() % 2 == 0;
-    check_forms("find", from, [&](std::size_t element, auto... order) {
-        return (element == 2 && !is_in_units)
-               || dethrux::find(
-                      order..., in_form(from.big, order...), in_form(from.pattern, order...))
-                      == in_elements(from.first, element);
-    });
-    check_forms("rfind", from, [&](std::size_t element, auto... order) {
-        return (element == 2 && !is_in_units)
-               || dethrux::rfind(
-                      order..., in_form(from.big, order...), in_form(from.pattern, order...))
-                      == in_elements(from.last, element);
+    check_forms("find and rfind", from, [&](std::size_t element, auto... order) {
+        auto text = in_form(from.big, order...), pattern = in_form(from.pattern, order...);
+        return (element == 2 && from.pattern.size() % 2 != 0)
+               || (dethrux::find(order..., text, pattern) == in_elements(from.first, element)
+                   && dethrux::rfind(order..., text, pattern) == in_elements(from.last, element));
     });
 }
 
@@ -755,60 +739,31 @@ static void results() {
     check("a value that is moved", moved == "text+-=" && also == "text");
 }
 
-// What can be given as bytes and as code units, and what cannot.
-template <class Element>
-static bool is_taken_as_bytes() {
-    const std::array<Element, 3> text{Element{'a'}, Element{'b'}, Element{0}};
+// What can be given as bytes, as code units and as code points, and what cannot: three elements, of
+// which the last one is a NUL.
+template <class Element, class View, class Text>
+static bool is_taken(Text (*call)(View), Element second, const Text &wanted) {
+    const std::array<Element, 3> text{Element{'a'}, second, Element{0}};
     const std::vector<Element> more(text.begin(), text.end());
-    bool is = dethrux::from_utf8(text).value() == u"ab\0"sv
-              && dethrux::from_utf8(more).value() == u"ab\0"sv
-              && dethrux::from_utf8({text.data(), 2}).value() == u"ab";
+    bool is = call(text) == wanted && call(more) == wanted
+              && call({text.data(), 2}) == wanted.substr(0, wanted.size() - 1);
 #if __cplusplus >= 202002L
-    is = is && dethrux::from_utf8(std::span(more)).value() == u"ab\0"sv
-         && dethrux::from_utf8(std::span<const Element>(text)).value() == u"ab\0"sv;
+    is = is && call(std::span(more)) == wanted && call(std::span<const Element>(text)) == wanted;
 #endif
     return is;
 }
 
-template <class Element>
-static bool is_taken_as_units() {
-    const std::array<Element, 3> text{Element{'a'}, Element{'b'}, Element{0}};
-    const std::vector<Element> more(text.begin(), text.end());
-    bool is = dethrux::to_utf8(text).value() == "ab\0"sv
-              && dethrux::to_utf8(more).value() == "ab\0"sv
-              && dethrux::to_utf8({text.data(), 2}).value() == "ab";
-#if __cplusplus >= 202002L
-    is = is && dethrux::to_utf8(std::span(more)).value() == "ab\0"sv
-         && dethrux::to_utf8(std::span<const Element>(text)).value() == "ab\0"sv;
-#endif
-    return is;
-}
-
-template <class Element>
-static bool is_taken_as_points() {
-    const std::array<Element, 3> text{Element{'a'}, Element{0x1F600}, Element{0}};
-    const std::vector<Element> more(text.begin(), text.end());
-    bool is = dethrux::from_utf32(text).value() == u"a\U0001F600\0"sv
-              && dethrux::from_utf32(more).value() == u"a\U0001F600\0"sv
-              && dethrux::from_utf32({text.data(), 2}).value() == u"a\U0001F600";
-#if __cplusplus >= 202002L
-    is = is && dethrux::from_utf32(std::span(more)).value() == u"a\U0001F600\0"sv
-         && dethrux::from_utf32(std::span<const Element>(text)).value() == u"a\U0001F600\0"sv;
-#endif
-    return is;
+template <class... Elements, class View, class Text>
+static bool are_taken(Text (*call)(View), char32_t second, const Text &wanted) {
+    return (is_taken(call, static_cast<Elements>(second), wanted) && ...);
 }
 
 enum class letter : char {};
 enum class unit : std::uint16_t {};
 enum class point : std::uint32_t {};
-struct one_byte {
-    char of;
-};
-struct two_bytes {
-    char of[2];
-};
-struct four_bytes {
-    char of[4];
+template <std::size_t Size>
+struct no_element {
+    char of[Size];
 };
 
 template <class View, class Element>
@@ -819,13 +774,14 @@ template <class View, class... Elements>
 constexpr bool takes_any = (takes<View, Elements> || ...);
 
 static void views() {
-    check("bytes", is_taken_as_bytes<char>() && is_taken_as_bytes<unsigned char>()
-                       && is_taken_as_bytes<signed char>() && is_taken_as_bytes<std::byte>()
-                       && is_taken_as_bytes<letter>());
-    check("code units", is_taken_as_units<char16_t>() && is_taken_as_units<std::uint16_t>()
-                            && is_taken_as_units<short>() && is_taken_as_units<unit>());
-    check("code points", is_taken_as_points<char32_t>() && is_taken_as_points<std::uint32_t>()
-                             && is_taken_as_points<int>() && is_taken_as_points<point>());
+    const auto of_chars = +[](dethrux::chars text) { return dethrux::from_utf8(text).value(); };
+    const auto of_units = +[](dethrux::utf16 text) { return dethrux::to_utf8(text).value(); };
+    const auto of_points = +[](dethrux::points text) { return dethrux::from_utf32(text).value(); };
+    check("bytes",
+        are_taken<char, unsigned char, signed char, std::byte, letter>(of_chars, U'b', u"ab\0"s));
+    check("code units", are_taken<char16_t, std::uint16_t, short, unit>(of_units, U'b', "ab\0"s));
+    check("code points",
+        are_taken<char32_t, std::uint32_t, int, point>(of_points, 0x1F600, u"a\U0001F600\0"s));
     check("strings",
         dethrux::from_utf8("ab"s).value() == u"ab" && dethrux::from_utf8("ab"sv).value() == u"ab"
             && dethrux::from_utf8("ab").value() == u"ab" && dethrux::to_utf8(u"ab"s).value() == "ab"
@@ -840,7 +796,8 @@ static void views() {
                                  && dethrux::bytes("abcd"sv).size() == 4
                                  && *dethrux::bytes("abcd"sv).data() == 'a');
 #if __cplusplus >= 202002L
-    check("char8_t", is_taken_as_bytes<char8_t>() && dethrux::from_utf8(u8"ab").value() == u"ab"
+    check("char8_t", are_taken<char8_t>(of_chars, U'b', u"ab\0"s)
+                         && dethrux::from_utf8(u8"ab").value() == u"ab"
                          && dethrux::to_utf8<std::u8string>(u"\xE9").value() == u8"\u00E9");
 #endif
     using wide = std::conditional_t<sizeof(wchar_t) == 2, dethrux::units, dethrux::points>;
@@ -849,9 +806,9 @@ static void views() {
     static_assert(!std::is_constructible_v<dethrux::bytes, char(&)[4]>);
     static_assert(!std::is_constructible_v<dethrux::chars, const unsigned char *>);
     static_assert(!std::is_constructible_v<dethrux::units, const short *>);
-    static_assert(!takes_any<dethrux::bytes, char16_t, char32_t, one_byte, float>);
-    static_assert(!takes_any<dethrux::units, char, char32_t, two_bytes, float>);
-    static_assert(!takes_any<dethrux::points, char, char16_t, four_bytes, float>);
+    static_assert(!takes_any<dethrux::bytes, char16_t, char32_t, no_element<1>, float>);
+    static_assert(!takes_any<dethrux::units, char, char32_t, no_element<2>, float>);
+    static_assert(!takes_any<dethrux::points, char, char16_t, no_element<4>, float>);
 }
 
 // What each call that reads finds in no elements.
