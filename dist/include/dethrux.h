@@ -925,6 +925,7 @@ DETHRUX_NODISCARD int32_t dethrux_compare(dethrux_byte_order first_order, const 
 DETHRUX_NODISCARD dethrux_bom dethrux_detect_bom(
     dethrux_byte_order default_order, const void *bytes, size_t len);
 
+/** @cond */
 /* AddressSanitizer and MemorySanitizer do not see what the library reads and writes. With them, the
  * name of each call stands for a function that first checks the buffers, unless the program defines
  * DETHRUX_NO_SANITIZERS. */
@@ -1049,6 +1050,7 @@ DETHRUX_DEFINE(void, swap_byte_order, (void *from, size_t len),
     DETHRUX_READS(from, len); dethrux_unchecked_swap_byte_order(from, len))
 #pragma GCC diagnostic pop
 #endif
+/** @endcond */
 
 #ifdef __cplusplus
 }
@@ -1090,6 +1092,7 @@ DETHRUX_U16 dethrux_unit *dethrux_u16_bytes(dethrux_unit *utf16) {
 typedef uint16_t dethrux_unit;
 #define DETHRUX_U16_BYTES(utf16) (utf16)
 #endif
+/** @cond */
 #define DETHRUX_U16_TEXT(utf16, len) DETHRUX_NATIVE_ENDIAN, DETHRUX_U16_BYTES(utf16), (len) * 2
 /* Return how far a call came, in code units of the UTF-16 that it reads or writes. */
 #define DETHRUX_U16_READS(call) \
@@ -1101,6 +1104,7 @@ typedef uint16_t dethrux_unit;
     dethrux_progress progress = call; \
     progress.written /= 2; \
     return progress
+/** @endcond */
 
 /** The capacity in bytes for the calls from `len` code units to UTF-8 and WTF-8. */
 #define DETHRUX_U16_TO_UTF8_MAX(len) ((size_t)(len) * 3)
