@@ -45,9 +45,9 @@ hides_calls() {
 
 # Tests that a debugger finds the callers from within calls.
 shows_callers() {
-    cc "${user[@]}" -L"$room/make-$1" -ldethrux -o "$room/user" || return
+    cc "${user[@]}" -L"$room/make-$1" -ldethrux -o "$room/debugged" || return
     LD_LIBRARY_PATH=$room/make-$1 gdb -q -batch -ex 'break dethrux_to_utf8' -ex run \
-        -ex 'stepi 10' -ex bt -ex 'stepi 20' -ex bt -ex 'stepi 30' -ex bt "$room/user" 2>&1 |
+        -ex 'stepi 10' -ex bt -ex 'stepi 20' -ex bt -ex 'stepi 30' -ex bt "$room/debugged" 2>&1 |
         tee "$room/callers"
     [ "$(grep -c '^#[1-9].* in main ()$' "$room/callers")" = 3 ]
 }
