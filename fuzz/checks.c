@@ -370,39 +370,8 @@ static void expect_written(const decoded *text, size_t before, const uint8_t *to
     expect_text(to, text->out + before, len);
 }
 
-/* However the stream is cut, dethrux_to_utf8_partial writes the same bytes in all. */
-static void check_partial_stream(void) {
-    uint8_t chunk[DETHRUX_PENDING_MAX + TEXT_MAX];
-    size_t pending = 0, written = 0, capacity = 4 + in.capacity % 64;
-    for (size_t at = 0, number = 0; at < in.len; number++) {
-        size_t len = chunk_len(number, in.len - at);
-        memcpy(chunk + pending, in.text + at, len);
-        at += len;
-        len += pending;
-        size_t read = 0;
-        dethrux_progress got;
-        do {
-            const uint8_t *from = guarded_input(0, chunk + read, len - read, AT_END);
-            uint8_t *to = output_at(capacity, AT_END);
-            got = dethrux_to_utf8_partial(in.order, from, len - read, to, capacity);
-            expect_written(&from_utf16, written, to, got.written);
-            expect_full(&got, capacity);
-            read += got.read;
-            written += got.written;
-        } while (got.status == DETHRUX_NO_SPACE);
-        pending = len - read;
-        expect_that("at most 3 bytes are unread", pending <= DETHRUX_PENDING_MAX);
-        memmove(chunk, chunk + read, pending);
-    }
-    uint8_t *to = output_at(DETHRUX_DECODER_FINISH_MAX, AT_END);
-    dethrux_progress last = dethrux_to_utf8_lossy(in.order, chunk, pending, to, DETHRUX_DECODER_FINISH_MAX);
-    expect_written(&from_utf16, written, to, last.written);
-    expect("written in all", written + last.written, from_utf16.out_len);
-}
-
 static void check_to_utf8_partial(void) {
     check_conversion(dethrux_to_utf8_partial, &from_utf16, PARTIAL, in.len / 2 * 3);
-    check_partial_stream();
 }
 
 typedef dethrux_progress feed_call(dethrux_decoder *decoder, dethrux_byte_order order,
@@ -506,9 +475,9 @@ static void check_feed_any_state(const decoder_calls *calls) {
     }
 }
 
-/* However the stream is cut, the same bytes are written in all. Returns the status of its end. */
-static dethrux_status check_cut_stream(const decoder_calls *calls, dethrux_decoder *decoder,
-                                       size_t number, size_t capacity) {
+/* However the stream is cut, the same bytes are written in all. */
+static void check_cut_stream(const decoder_calls *calls, dethrux_decoder *decoder, size_t number,
+                             size_t capacity) {
     size_t written = 0;
     for (size_t at = 0; at < in.len; number++) {
         size_t end = at + chunk_len(number, in.len - at);
@@ -528,7 +497,6 @@ static dethrux_status check_cut_stream(const decoder_calls *calls, dethrux_decod
     dethrux_progress last = calls->finish(decoder, in.order, to, calls->finish_max);
     expect_written(calls->text, written, to, last.written);
     expect("written in all", written + last.written, calls->text->out_len);
-    return last.status;
 }
 
 /* A decoder that has ended a stream decodes the same stream again, in other chunks. */
@@ -536,9 +504,7 @@ static void check_stream(const decoder_calls *calls) {
     dethrux_decoder decoder = DETHRUX_DECODER_INIT;
     size_t capacity = 4 + in.capacity % 64;
     for (size_t number = 0; number < 2; number++) {
-        if (check_cut_stream(calls, &decoder, number, capacity + number) != DETHRUX_DONE) {
-            break;
-        }
+        check_cut_stream(calls, &decoder, number, capacity + number);
     }
 }
 
@@ -611,27 +577,26 @@ static void check_decoder_feed_wtf8(void) {
     check_feed(&WTF8_DECODER);
 }
 
-/* A pending code unit is written, in any state; before an odd byte nothing changes. */
+/* A pending code unit is written, in any state, and an odd byte is left out. */
 static void check_decoder_finish_wtf8(void) {
     uint8_t wtf8[3];
     size_t pending = pending_len(&in.decoder);
-    size_t len = pending == 2 ? encode_utf8(unit_at(in.order, in.decoder.pending, 0), wtf8) : 0;
+    size_t len = pending >= 2 ? encode_utf8(unit_at(in.order, in.decoder.pending, 0), wtf8) : 0;
     for (size_t capacity = 0; capacity <= DETHRUX_DECODER_FINISH_MAX + 1; capacity++) {
         for (place at = AT_START; at < place_count(capacity); at++) {
             dethrux_decoder decoder = in.decoder;
             uint8_t *to = output_at(capacity, at);
             dethrux_progress got = finish_wtf8(&decoder, in.order, to, capacity);
-            dethrux_progress want = {0, 0, DETHRUX_DONE, 0};
-            want.status = pending % 2 == 1 ? DETHRUX_INCOMPLETE
-                          : len > capacity ? DETHRUX_NO_SPACE
-                                           : DETHRUX_DONE;
-            want.written = want.status == DETHRUX_DONE ? len : 0;
+            bool fits = len <= capacity;
+            dethrux_progress want = {0, fits ? len : 0, DETHRUX_NO_SPACE, 0};
+            if (fits) {
+                want.status = pending % 2 == 1 ? DETHRUX_INCOMPLETE : DETHRUX_DONE;
+            }
             expect_progress(got, want);
             expect_bytes("text", to, wtf8, got.written);
             expect_that("the rest of `to` stays", guarded_intact(got.written, true));
-            expect("pending_len", decoder.pending_len,
-                   want.status == DETHRUX_DONE ? 0 : in.decoder.pending_len);
-            if (want.status != DETHRUX_DONE) {
+            expect("pending_len", decoder.pending_len, fits ? 0 : in.decoder.pending_len);
+            if (!fits) {
                 expect_bytes("pending", decoder.pending, in.decoder.pending, DETHRUX_PENDING_MAX);
             }
         }
@@ -651,16 +616,22 @@ static bool is_after_leading(size_t offset) {
     return is_leading(last);
 }
 
+/* What a call for a chunk returns for all of the input. */
+static dethrux_progress wtf8_chunk_progress(size_t capacity) {
+    dethrux_progress want = expected_progress(&from_wtf8, STRICT, capacity);
+    bool ends = want.status == DETHRUX_DONE || want.status == DETHRUX_INCOMPLETE;
+    if (ends && is_after_leading(want.read)) {
+        want = (dethrux_progress){want.read - 3, want.written - 2, DETHRUX_INCOMPLETE, 0};
+    }
+    return want;
+}
+
 static void check_from_wtf8_partial(void) {
     const size_t capacities[] = {DETHRUX_UTF16_MAX(in.len), 0, from_wtf8.out_len,
                                  in.capacity % (from_wtf8.out_len + 8),
                                  from_wtf8.out_len - (from_wtf8.out_len > 0)};
     for (size_t i = 0; i < sizeof capacities / sizeof capacities[0]; i++) {
-        dethrux_progress want = expected_progress(&from_wtf8, STRICT, capacities[i]);
-        bool ends = want.status == DETHRUX_DONE || want.status == DETHRUX_INCOMPLETE;
-        if (ends && is_after_leading(want.read)) {
-            want = (dethrux_progress){want.read - 3, want.written - 2, DETHRUX_INCOMPLETE, 0};
-        }
+        dethrux_progress want = wtf8_chunk_progress(capacities[i]);
         for (place at = AT_START; at < place_count_of_both(in.len, capacities[i]); at++) {
             const uint8_t *from = input_at(at);
             uint8_t *to = output_at(capacities[i], at);
@@ -673,6 +644,59 @@ static void check_from_wtf8_partial(void) {
             expect_that("at most 6 bytes are unread", got.status != DETHRUX_INCOMPLETE || is_few);
         }
     }
+}
+
+/* Feeds an encoder a chunk, or ends its stream if there is none. */
+static dethrux_progress encode(dethrux_wtf8_encoder *encoder, const uint8_t *chunk, size_t len,
+                               uint8_t *to, size_t capacity) {
+    dethrux_wtf8_encoder *state = guarded_state(encoder, sizeof *encoder, situation.at);
+    dethrux_progress got =
+        chunk == NULL ? dethrux_wtf8_encoder_finish(state, in.order, to, capacity)
+                      : dethrux_wtf8_encoder_feed(state, in.order, chunk, len, to, capacity);
+    *encoder = *state;
+    expect_that("pending_len is at most 6", encoder->pending_len <= DETHRUX_WTF8_PENDING_MAX);
+    expect_full(&got, capacity);
+    return got;
+}
+
+/* However the stream is cut, dethrux_from_wtf8 writes the same, and stops for the same reason. Its
+ * first bytes may be pending, in any state. If none are, the documented capacities suffice. */
+static void check_wtf8_encoder(size_t number, size_t pending, size_t capacity) {
+    dethrux_wtf8_encoder encoder = {{0}, (uint8_t)(pending < 6 ? pending : 255)};
+    dethrux_progress got = {0, 0, DETHRUX_DONE, 0};
+    size_t read = pending, written = 0;
+    memcpy(encoder.pending, in.text, pending);
+    for (size_t end = pending; read < in.len && got.status != DETHRUX_ILL_FORMED;) {
+        end += read == end ? chunk_len(number++, in.len - end) : 0;
+        size_t most = pending > 0 ? capacity : DETHRUX_WTF8_ENCODER_FEED_MAX(end - read);
+        const uint8_t *from = guarded_input(0, in.text + read, end - read, AT_END);
+        uint8_t *to = output_at(most, AT_END);
+        got = encode(&encoder, from, end - read, to, most);
+        expect_that("the capacity suffices", pending > 0 || got.status != DETHRUX_NO_SPACE);
+        expect_written(&from_wtf8, written, to, got.written);
+        written += got.written;
+        read += got.read;
+        expect_bytes("pending", encoder.pending, in.text + (read - encoder.pending_len),
+                     encoder.pending_len);
+    }
+    read -= encoder.pending_len < 6 ? encoder.pending_len : 6;
+    if (got.status != DETHRUX_ILL_FORMED) {
+        size_t most = pending > 0 ? 2 * pending : DETHRUX_WTF8_ENCODER_FINISH_MAX;
+        uint8_t *to = output_at(most, AT_END);
+        got = encode(&encoder, NULL, 0, to, most);
+        expect_written(&from_wtf8, written, to, got.written);
+        expect("pending_len", encoder.pending_len, 0);
+        written += got.written;
+        read += got.read;
+    }
+    dethrux_progress all = {read, written, got.status, got.error_len};
+    expect_progress(all, expected_progress(&from_wtf8, STRICT, from_wtf8.out_len));
+}
+
+static void check_wtf8_encoder_feed(void) {
+    size_t most = in.len < DETHRUX_WTF8_PENDING_MAX ? in.len : DETHRUX_WTF8_PENDING_MAX;
+    check_wtf8_encoder(0, 0, 0);
+    check_wtf8_encoder(1, in.at % (most + 1), 4 + in.capacity % 64);
 }
 
 /* What was written in WTF-8 is the same code units again. */
@@ -1143,6 +1167,7 @@ const check CHECKS[] = {
     {"dethrux_decoder_finish_wtf8", check_decoder_finish_wtf8},
     {"dethrux_from_wtf8", check_from_wtf8},
     {"dethrux_from_wtf8_partial", check_from_wtf8_partial},
+    {"dethrux_wtf8_encoder_feed", check_wtf8_encoder_feed},
     {"WTF-8 and back", check_wtf8_and_back},
     {"dethrux_is_char_boundary", check_is_char_boundary},
     {"dethrux_floor_char_boundary", check_floor_char_boundary},

@@ -188,12 +188,12 @@ static void append_unit(decoded *to, uint32_t unit) {
     append_item(to, found, encode_utf8(unit, to->out + to->out_len));
 }
 
-/* The end of a stream: a leading surrogate is a code unit, and an odd byte is not. What is
- * incomplete is written only if it is one code unit. */
+/* The end of a stream: a leading surrogate is a code unit, and an odd byte is not. Of what is
+ * incomplete, the code unit is written. */
 static void append_end(decoded *to, uint32_t unit, size_t len, bool more_follow) {
     if (more_follow) {
         sequence found = {INCOMPLETE, len, unit};
-        append_item(to, found, len == 2 ? encode_utf8(unit, to->out + to->out_len) : 0);
+        append_item(to, found, len >= 2 ? encode_utf8(unit, to->out + to->out_len) : 0);
         return;
     }
     if (len >= 2) {

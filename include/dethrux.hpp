@@ -448,6 +448,19 @@ dethrux_progress append_utf16_by(conversion call, byte_order order, bytes from, 
     });
 }
 
+// Appends what a call of an encoder writes: code units in the machine's byte order, or bytes.
+template <class String, class Call>
+dethrux_progress append_encoded(byte_order order, std::size_t most, String &to, Call call) {
+    constexpr std::size_t size = sizeof(typename String::value_type);
+    static_assert(size == 1 || size == 2);
+    return append(to, most / size, [&](auto *data, std::size_t capacity) {
+        dethrux_progress made = call(
+            detail::order(size == 2 ? byte_order::native : order), data, capacity * size);
+        made.written /= size;
+        return made;
+    });
+}
+
 template <class String>
 dethrux_progress append_utf32_by(widening call, const utf16 &from, String &to) {
     static_assert(sizeof(typename String::value_type) == 4);
@@ -1286,12 +1299,10 @@ public:
      */
     template <class String>
     [[nodiscard]] bool finish(String &to) {
-        const utf16 rest(order_, bytes(state_.pending, state_.pending_len));
         const dethrux_progress made =
             detail::append(to, DETHRUX_DECODER_FINISH_MAX, [&](auto *data, std::size_t most) {
-                return detail::from_utf16_by(dethrux_to_wtf8, rest, 0, data, most);
+                return dethrux_decoder_finish_wtf8(&state_, detail::order(order_), data, most);
             });
-        state_ = DETHRUX_DECODER_INIT;
         return made.status == DETHRUX_DONE;
     }
 };
@@ -1377,24 +1388,17 @@ public:
     /** Appends the text of the next chunk that is certain. */
     template <class String>
     void feed(bytes chunk, String &to) {
-        constexpr std::size_t size = sizeof(typename String::value_type);
-        detail::append(to, (chunk.size() * 2 + 2) / size, [&](auto *data, std::size_t most) {
-            return detail::to_utf16_by(
-                [&](auto... all) { return dethrux_encoder_feed(&state_, all...); },
-                size == 2 ? byte_order::native : order_, chunk.data(), chunk.size(), data, most);
-        });
+        detail::append_encoded(
+            order_, chunk.size() * 2 + 2, to, [&](auto order, auto *data, std::size_t most) {
+                return dethrux_encoder_feed(&state_, order, chunk.data(), chunk.size(), data, most);
+            });
     }
 
     /** Ends the stream: appends U+FFFD if it ends inside a character. A new stream begins. */
     template <class String>
     void finish(String &to) {
-        constexpr std::size_t size = sizeof(typename String::value_type);
-        detail::append(to, DETHRUX_ENCODER_FINISH_MAX / size, [&](auto *data, std::size_t most) {
-            dethrux_progress made = dethrux_encoder_finish(
-                &state_, detail::order(size == 2 ? byte_order::native : order_), data, most * size);
-            made.written /= size;
-            return made;
-        });
+        detail::append_encoded(order_, DETHRUX_ENCODER_FINISH_MAX, to,
+            [&](auto... all) { return dethrux_encoder_finish(&state_, all...); });
     }
 
     /** Returns the number of pending bytes, at most three. */
@@ -1424,7 +1428,20 @@ public:
      */
     template <class String>
     [[nodiscard]] std::optional<error> feed(bytes chunk, String &to) {
-        return convert(dethrux_from_wtf8_partial, chunk, to);
+        if (error_) {
+            return error_;
+        }
+        const dethrux_progress made = detail::append_encoded(
+            order_, chunk.size() * 2 + 4, to, [&](auto order, auto *data, std::size_t most) {
+                return dethrux_wtf8_encoder_feed(
+                    &state_, order, chunk.data(), chunk.size(), data, most);
+            });
+        fed_ += made.read;
+        if (made.status == DETHRUX_ILL_FORMED) {
+            error_ = error{fed_ - state_.pending_len, made.error_len};
+            state_ = DETHRUX_WTF8_ENCODER_INIT;
+        }
+        return error_;
     }
 
     /**
@@ -1434,41 +1451,22 @@ public:
      */
     template <class String>
     [[nodiscard]] std::optional<error> finish(String &to) {
-        std::optional<error> found = convert(dethrux_from_wtf8, bytes(), to);
-        if (!found && pending_len_ > 0) {
-            found = error{read_, 0};
-        }
+        const std::size_t start = fed_ - state_.pending_len;
+        const dethrux_progress made =
+            detail::append_encoded(order_, DETHRUX_WTF8_ENCODER_FINISH_MAX, to,
+                [&](auto... all) { return dethrux_wtf8_encoder_finish(&state_, all...); });
+        const std::optional<error> found =
+            made.status == DETHRUX_DONE ? error_ : error{start + made.read, 0};
         *this = wtf8_encoder(order_);
         return found;
     }
 
     /** Returns the number of pending bytes, at most six. */
-    std::size_t pending() const noexcept { return pending_len_; }
+    std::size_t pending() const noexcept { return state_.pending_len; }
 
 private:
-    template <class String>
-    std::optional<error> convert(detail::conversion call, bytes chunk, String &to) {
-        if (error_) {
-            return error_;
-        }
-        const bool is_units = sizeof(typename String::value_type) == 2;
-        std::string joined(pending_, pending_len_);
-        joined.append(reinterpret_cast<const char *>(chunk.data()), chunk.size());
-        const dethrux_progress made =
-            detail::append_utf16_by(call, is_units ? byte_order::native : order_, joined, to);
-        read_ += made.read;
-        pending_len_ = 0;
-        if (made.status == DETHRUX_ILL_FORMED) {
-            error_ = error{read_, made.error_len};
-        } else {
-            pending_len_ = joined.copy(pending_, sizeof pending_, made.read);
-        }
-        return error_;
-    }
-
-    char pending_[DETHRUX_WTF8_PENDING_MAX] = {};
-    std::size_t pending_len_ = 0;
-    std::size_t read_ = 0;
+    dethrux_wtf8_encoder state_ = DETHRUX_WTF8_ENCODER_INIT;
+    std::size_t fed_ = 0;
     std::optional<error> error_;
     byte_order order_;
 };

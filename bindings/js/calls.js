@@ -35,6 +35,8 @@ export const CALLS = {
     decoder_finish_wtf8: ["stream", "progress"],
     from_wtf8: ["bytesToUtf16", "progress"],
     from_wtf8_partial: ["bytesToUtf16", "progress"],
+    wtf8_encoder_feed: ["stream", "progress"],
+    wtf8_encoder_finish: ["stream", "progress"],
     decoder_feed: ["stream", "progress"],
     decoder_finish: ["stream", "progress"],
     encoder_feed: ["stream", "progress"],

@@ -115,7 +115,8 @@
 /**
  * @addtogroup dethrux_capacities
  * Capacities that suffice for every input of `len` bytes, and that some input needs. No formula
- * wraps for a `len` below PTRDIFF_MAX, or for as many code units of UTF-32 as such an input has.
+ * wraps for a `len` below PTRDIFF_MAX - 1, or for as many code units of UTF-32 as such an input
+ * has.
  * @{
  */
 
@@ -137,6 +138,10 @@
 #define DETHRUX_ENCODER_FEED_MAX(len) ((size_t)(len) * 2 + 2)
 /** The capacity for dethrux_encoder_finish. */
 #define DETHRUX_ENCODER_FINISH_MAX 2
+/** The capacity for dethrux_wtf8_encoder_feed. */
+#define DETHRUX_WTF8_ENCODER_FEED_MAX(len) ((size_t)(len) * 2 + 4)
+/** The capacity for dethrux_wtf8_encoder_finish. */
+#define DETHRUX_WTF8_ENCODER_FINISH_MAX 2
 
 /** @} */
 
@@ -149,7 +154,8 @@
 #define DETHRUX_PENDING_MAX 3
 
 /**
- * The most bytes that dethrux_from_wtf8_partial leaves unread with DETHRUX_INCOMPLETE.
+ * The most bytes that dethrux_from_wtf8_partial leaves unread with DETHRUX_INCOMPLETE, and that a
+ * dethrux_wtf8_encoder keeps.
  *
  * @ingroup dethrux_wtf8
  */
@@ -302,6 +308,22 @@ typedef struct dethrux_encoder {
  * @ingroup dethrux_streams
  */
 #define DETHRUX_ENCODER_INIT {{0, 0, 0}, 0}
+
+/**
+ * The state of an encoder of WTF-8: the bytes of a stream that are not encoded yet.
+ *
+ * It is like dethrux_decoder: DETHRUX_WTF8_ENCODER_INIT begins a stream, and a `pending_len` above
+ * 6 is read as 6.
+ *
+ * @ingroup dethrux_wtf8
+ */
+typedef struct dethrux_wtf8_encoder {
+    uint8_t pending[DETHRUX_WTF8_PENDING_MAX]; /**< Bytes from `pending_len` on have no meaning. */
+    uint8_t pending_len;                       /**< The number of bytes not encoded yet. */
+} dethrux_wtf8_encoder;
+
+/** The value of a dethrux_wtf8_encoder that begins a stream. @ingroup dethrux_wtf8 */
+#define DETHRUX_WTF8_ENCODER_INIT {{0, 0, 0, 0, 0, 0}, 0}
 
 /**
  * Returns the version of the library as a number, DETHRUX_VERSION of its header.
@@ -671,15 +693,14 @@ DETHRUX_NODISCARD dethrux_progress dethrux_decoder_feed_wtf8(dethrux_decoder *de
 /**
  * Ends a stream of dethrux_decoder_feed_wtf8 whose last chunk was read.
  *
- * Writes the pending leading surrogate, of 3 bytes, or nothing if none is pending. With
- * DETHRUX_DONE the decoder begins a new stream. Here the bytes of `to` after `written` stay as they were.
+ * Writes the pending leading surrogate, of 3 bytes, or nothing if none is pending. The decoder
+ * begins a new stream. Here the bytes of `to` after `written` stay as they were.
  *
  * @param byte_order the same for a whole stream
  * @param capacity DETHRUX_DECODER_FINISH_MAX suffices
  * @return how much was written; `read` is 0, and the status is one of these:
  * - DETHRUX_DONE: the stream has ended
- * - DETHRUX_INCOMPLETE: the stream ends with an odd byte, and nothing changed: dethrux_to_wtf8
- *   writes the surrogate that may be before it in `pending`
+ * - DETHRUX_INCOMPLETE: the stream has ended with an odd byte, which was left out
  * - DETHRUX_NO_SPACE: the surrogate does not fit, and nothing changed
  * @ingroup dethrux_wtf8
  */
@@ -722,6 +743,46 @@ DETHRUX_NODISCARD dethrux_progress dethrux_from_wtf8(
  */
 DETHRUX_NODISCARD dethrux_progress dethrux_from_wtf8_partial(
     dethrux_byte_order byte_order, const void *wtf8, size_t len, void *to, size_t capacity);
+
+/**
+ * Encodes the next chunk of a stream of WTF-8, cut anywhere, in UTF-16.
+ *
+ * This is like dethrux_from_wtf8_partial, but what more bytes could change is kept in the encoder.
+ *
+ * @param byte_order the same for a whole stream
+ * @param capacity DETHRUX_WTF8_ENCODER_FEED_MAX(len) suffices for an encoder whose fields only
+ *   these calls have set, and `2 * (pending_len + len)` for any
+ * @return how far the call came (`read` counts bytes of the chunk), with one of these statuses:
+ * - DETHRUX_DONE: all of the chunk was read
+ * - DETHRUX_ILL_FORMED: an ill-formed sequence begins with the pending bytes, if there are any, and
+ *   continues after `read`: to resume after it, skip `error_len - pending_len` bytes of the chunk
+ *   and set `pending_len` to 0
+ * - DETHRUX_NO_SPACE: the next character or surrogate does not fit, even if it is a leading
+ *   surrogate at the end: call again with the rest; with a capacity of 4 or more, something was
+ *   written
+ * @ingroup dethrux_wtf8
+ */
+DETHRUX_NODISCARD dethrux_progress dethrux_wtf8_encoder_feed(
+    dethrux_wtf8_encoder *encoder, dethrux_byte_order byte_order, const void *chunk, size_t len,
+    void *to, size_t capacity);
+
+/**
+ * Ends a stream of dethrux_wtf8_encoder_feed whose last chunk was read.
+ *
+ * Writes the pending leading surrogate, of 2 bytes, or nothing if none is pending. The encoder
+ * begins a new stream, except with DETHRUX_NO_SPACE.
+ *
+ * @param byte_order the same for a whole stream
+ * @param capacity DETHRUX_WTF8_ENCODER_FINISH_MAX suffices
+ * @return how far the call came (`read` counts pending bytes), with one of these statuses:
+ * - DETHRUX_DONE: the stream has ended
+ * - DETHRUX_ILL_FORMED: pending bytes that no call left are ill formed, and were dropped
+ * - DETHRUX_INCOMPLETE: the stream has ended inside a character or surrogate, which was left out
+ * - DETHRUX_NO_SPACE: the next character or surrogate does not fit, and is still pending
+ * @ingroup dethrux_wtf8
+ */
+DETHRUX_NODISCARD dethrux_progress dethrux_wtf8_encoder_finish(
+    dethrux_wtf8_encoder *encoder, dethrux_byte_order byte_order, void *to, size_t capacity);
 
 /**
  * Decodes the next chunk of a stream, cut anywhere, to UTF-8.
@@ -1028,10 +1089,12 @@ DETHRUX_CONVERT(from_utf32_lossy, uint32_t, 4, void, 1)
 DETHRUX_FEED(decoder_feed, dethrux_decoder)
 DETHRUX_FEED(decoder_feed_wtf8, dethrux_decoder)
 DETHRUX_FEED(encoder_feed, dethrux_encoder)
+DETHRUX_FEED(wtf8_encoder_feed, dethrux_wtf8_encoder)
 DETHRUX_STREAM(decoder_finish, (dethrux_decoder *state, void *to, size_t most), (state, to, most),
     (void)0)
 DETHRUX_FINISH(decoder_finish_wtf8, dethrux_decoder)
 DETHRUX_FINISH(encoder_finish, dethrux_encoder)
+DETHRUX_FINISH(wtf8_encoder_finish, dethrux_wtf8_encoder)
 DETHRUX_PLACE(bool, is_char_boundary, size_t)
 DETHRUX_PLACE(size_t, floor_char_boundary, size_t)
 DETHRUX_PLACE(uint64_t, floor_char_boundary_around, uint64_t)
@@ -1116,6 +1179,8 @@ typedef uint16_t dethrux_unit;
 #define DETHRUX_U16_DECODER_FEED_MAX(len) ((size_t)(len) * 3 + 3)
 /** The capacity in code units for dethrux_u16_encoder_feed. */
 #define DETHRUX_U16_ENCODER_FEED_MAX(len) ((size_t)(len) + 1)
+/** The capacity in code units for dethrux_u16_wtf8_encoder_feed. */
+#define DETHRUX_U16_WTF8_ENCODER_FEED_MAX(len) ((size_t)(len) + 2)
 
 /** Does what dethrux_validate does, on code units. */
 DETHRUX_U16_RESULT dethrux_validity dethrux_u16_validate(const dethrux_unit *utf16, size_t len) {
@@ -1379,6 +1444,28 @@ DETHRUX_U16_RESULT dethrux_progress dethrux_u16_from_wtf8_partial(
     const void *wtf8, size_t len, dethrux_unit *to, size_t capacity) {
     DETHRUX_U16_WRITES(dethrux_from_wtf8_partial(
         DETHRUX_NATIVE_ENDIAN, wtf8, len, DETHRUX_U16_BYTES(to), capacity * 2));
+}
+
+/**
+ * Does what dethrux_wtf8_encoder_feed does, on code units.
+ *
+ * @param capacity `len + 2` suffices
+ */
+DETHRUX_U16_RESULT dethrux_progress dethrux_u16_wtf8_encoder_feed(
+    dethrux_wtf8_encoder *encoder, const void *chunk, size_t len, dethrux_unit *to,
+    size_t capacity) {
+    DETHRUX_U16_WRITES(dethrux_wtf8_encoder_feed(
+        encoder, DETHRUX_NATIVE_ENDIAN, chunk, len, DETHRUX_U16_BYTES(to), capacity * 2));
+}
+
+/**
+ * Does what dethrux_wtf8_encoder_finish does, on code units.
+ *
+ * @param capacity 1 suffices
+ */
+DETHRUX_U16_RESULT dethrux_progress dethrux_u16_wtf8_encoder_finish(
+    dethrux_wtf8_encoder *encoder, dethrux_unit *to, size_t capacity) {
+    DETHRUX_U16_WRITES(dethrux_wtf8_encoder_finish(encoder, DETHRUX_U16_TEXT(to, capacity)));
 }
 
 /** Does what dethrux_is_char_boundary does, on code units. */

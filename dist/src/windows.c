@@ -45,6 +45,8 @@ CALL(dethrux_progress, dethrux_decoder_feed_wtf8, (dethrux_decoder *decoder, det
 CALL(dethrux_progress, dethrux_decoder_finish_wtf8, (dethrux_decoder *decoder, dethrux_byte_order byte_order, void *to, size_t capacity), (decoder, byte_order, to, capacity))
 CALL(dethrux_progress, dethrux_from_wtf8, (dethrux_byte_order byte_order, const void *wtf8, size_t len, void *to, size_t capacity), (byte_order, wtf8, len, to, capacity))
 CALL(dethrux_progress, dethrux_from_wtf8_partial, (dethrux_byte_order byte_order, const void *wtf8, size_t len, void *to, size_t capacity), (byte_order, wtf8, len, to, capacity))
+CALL(dethrux_progress, dethrux_wtf8_encoder_feed, (dethrux_wtf8_encoder *encoder, dethrux_byte_order byte_order, const void *chunk, size_t len, void *to, size_t capacity), (encoder, byte_order, chunk, len, to, capacity))
+CALL(dethrux_progress, dethrux_wtf8_encoder_finish, (dethrux_wtf8_encoder *encoder, dethrux_byte_order byte_order, void *to, size_t capacity), (encoder, byte_order, to, capacity))
 CALL(dethrux_progress, dethrux_decoder_feed, (dethrux_decoder *decoder, dethrux_byte_order byte_order, const void *chunk, size_t len, void *to, size_t capacity), (decoder, byte_order, chunk, len, to, capacity))
 CALL(dethrux_progress, dethrux_decoder_finish, (dethrux_decoder *decoder, void *to, size_t capacity), (decoder, to, capacity))
 CALL(dethrux_progress, dethrux_encoder_feed, (dethrux_encoder *encoder, dethrux_byte_order byte_order, const void *chunk, size_t len, void *to, size_t capacity), (encoder, byte_order, chunk, len, to, capacity))

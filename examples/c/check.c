@@ -424,22 +424,24 @@ static bool comes_so_far(const conversion *by, dethrux_byte_order order, const t
     return is;
 }
 
-/* A decoder, of UTF-16 or of UTF-8, and its byte order. There is none of WTF-8. */
+/* A decoder, of UTF-16, of UTF-8 or of WTF-8, and its byte order. */
 typedef struct {
     way way;
     dethrux_byte_order order;
     dethrux_decoder utf16;
     dethrux_encoder utf8;
+    dethrux_wtf8_encoder wtf8;
 } decoder;
 
 static decoder new_decoder(way by, dethrux_byte_order order) {
-    return (decoder){by, order, DETHRUX_DECODER_INIT, DETHRUX_ENCODER_INIT};
+    return (decoder){by, order, DETHRUX_DECODER_INIT, DETHRUX_ENCODER_INIT, DETHRUX_WTF8_ENCODER_INIT};
 }
 
 static dethrux_progress feed(decoder *by, const uint8_t *chunk, size_t len, uint8_t *to, size_t room) {
     switch (by->way) {
     case TO_UTF8: return dethrux_decoder_feed(&by->utf16, by->order, chunk, len, to, room);
     case TO_WTF8: return dethrux_decoder_feed_wtf8(&by->utf16, by->order, chunk, len, to, room);
+    case FROM_WTF8: return dethrux_wtf8_encoder_feed(&by->wtf8, by->order, chunk, len, to, room);
     default: return dethrux_encoder_feed(&by->utf8, by->order, chunk, len, to, room);
     }
 }
@@ -448,6 +450,7 @@ static dethrux_progress finish(decoder *by, uint8_t *to, size_t room) {
     switch (by->way) {
     case TO_UTF8: return dethrux_decoder_finish(&by->utf16, to, room);
     case TO_WTF8: return dethrux_decoder_finish_wtf8(&by->utf16, by->order, to, room);
+    case FROM_WTF8: return dethrux_wtf8_encoder_finish(&by->wtf8, by->order, to, room);
     default: return dethrux_encoder_finish(&by->utf8, by->order, to, room);
     }
 }
@@ -457,7 +460,11 @@ static size_t finish_max(const decoder *by) {
 }
 
 static text pending_of(decoder *by) {
-    return is_back(by->way) ? (text){by->utf8.pending, by->utf8.pending_len, 0} : (text){by->utf16.pending, by->utf16.pending_len, 0};
+    switch (by->way) {
+    case FROM_UTF8: return (text){by->utf8.pending, by->utf8.pending_len, 0};
+    case FROM_WTF8: return (text){by->wtf8.pending, by->wtf8.pending_len, 0};
+    default: return (text){by->utf16.pending, by->utf16.pending_len, 0};
+    }
 }
 
 static bool is_unchanged(const decoder *by, const decoder *before) {
@@ -768,16 +775,23 @@ static void ask_every_any_chunking(dethrux_byte_order order, const text *raw, te
 /* Calls over chunks. */
 typedef bool over_pieces(decoder *by, const text *piece, size_t room, text *answer, text *all);
 
+/* After an ill-formed sequence the rest of the chunk is fed, to a new decoder. */
 static bool feed_to_buffer(decoder *by, const text *piece, size_t room, text *answer, text *all) {
     text to = blank(room);
     dethrux_progress found = feed(by, piece->bytes, piece->len, to.bytes, room);
-    (void)all;
     add_progress(answer, found);
     add_found(answer, by->way == TO_UTF8, to.bytes, found.written);
     add_bytes(answer, pending_of(by).bytes, pending_of(by).len);
     bool is = is_blank(&to, room);
     free(to.bytes);
-    return is;
+    size_t behind = found.read + found.error_len - pending_of(by).len;
+    if (found.status != DETHRUX_ILL_FORMED || behind >= piece->len) {
+        *by = found.status == DETHRUX_ILL_FORMED ? new_decoder(by->way, by->order) : *by;
+        return is;
+    }
+    text rest = {piece->bytes + behind, piece->len - behind, 0};
+    *by = new_decoder(by->way, by->order);
+    return feed_to_buffer(by, &rest, room, answer, all) && is;
 }
 
 static bool feed_and_show(decoder *by, const text *piece, size_t room, text *answer, text *all) {
@@ -823,7 +837,7 @@ static bool feed_to_buffers(decoder by, char **values, size_t count, text *answe
     add_progress(answer, end);
     add_found(answer, by.way == TO_UTF8, to.bytes, end.written);
     add_bytes(answer, pending_of(&by).bytes, pending_of(&by).len);
-    if (!is_blank(&to, end.written)) {
+    if (!is_blank(&to, by.way == FROM_WTF8 ? room : end.written)) {
         add_word(answer, "changed");
     }
     free(to.bytes);
@@ -837,6 +851,7 @@ static bool feed_to_buffers(decoder by, char **values, size_t count, text *answe
 FED(call_stream_feed, TO_UTF8)
 FED(call_utf8_stream_feed, FROM_UTF8)
 FED(call_wtf8_feed, TO_WTF8)
+FED(call_wtf8_stream_feed, FROM_WTF8)
 
 static bool call_lossy_feed(dethrux_byte_order order, char **values, size_t count, text *answer) {
     decoder by = new_decoder(TO_UTF8, order);
@@ -1085,6 +1100,7 @@ static struct {
     {.name = "Stream::feed", .make = call_stream_feed},
     {.name = "feed_utf8", .make = call_utf8_stream_feed},
     {.name = "feed_wtf8", .make = call_wtf8_feed},
+    {.name = "Wtf8Stream::feed", .make = call_wtf8_stream_feed},
     {.name = "Lossy::feed", .make = call_lossy_feed},
     {.name = "decode_pieces", .make = call_decode_pieces},
     {.name = "swap_byte_order", .ask = ask_swap},
@@ -1276,6 +1292,8 @@ static bool is_changed_as_little(dethrux_byte_order order, const text *utf16) {
     dethrux_encoder decoder = {{0xC3, 0, 0}, 1};
     is = is && dethrux_encoder_finish(&decoder, order, mark, 2).written == 2 && mark[0] == 0xFD && mark[1] == 0xFF;
     uint8_t lead[3];
+    dethrux_wtf8_encoder back = {{0xED, 0xA0, 0xBD, 0, 0, 0}, 3};
+    is = is && dethrux_wtf8_encoder_finish(&back, order, mark, 2).written == 2 && mark[0] == 0x3D && mark[1] == 0xD8;
     dethrux_decoder wtf8 = {{0x3D, 0xD8, 0}, 2};
     return is && dethrux_decoder_finish_wtf8(&wtf8, order, lead, 3).written == 3 && memcmp(lead, "\xED\xA0\xBD", 3) == 0;
 }
@@ -1385,22 +1403,33 @@ static bool feed_needs(const decoder *state, const text *chunk, size_t capacity)
     return is && found.status == DETHRUX_NO_SPACE;
 }
 
-/* A state with three bytes, one that a call leaves and one that no call leaves, and a chunk of
- * characters that take three bytes each, or from UTF-8 of ASCII. */
+/* A state with the most bytes that can be pending, one that a call leaves and one that no call
+ * leaves, and a chunk of characters that take three bytes each, or from UTF-8 of ASCII. */
 static bool is_feed_bound_reached(way by, size_t len) {
-    static const uint8_t left[][DETHRUX_PENDING_MAX] = {{0xD8, 0x00, 0x4E}, {0xF0, 0x9F, 0x98}};
-    const size_t most = is_back(by) ? DETHRUX_ENCODER_FEED_MAX(len) : DETHRUX_DECODER_FEED_MAX(len);
+    static const uint8_t utf16[] = {0xD8, 0x00, 0x4E};
+    static const uint8_t utf8[] = {0xED, 0xA0, 0xBD, 0xF0, 0x9F, 0x98};
+    const bool wtf8 = by == FROM_WTF8;
+    const size_t most = wtf8 ? DETHRUX_WTF8_PENDING_MAX : DETHRUX_PENDING_MAX;
+    const size_t capacity = wtf8 ? DETHRUX_WTF8_ENCODER_FEED_MAX(len)
+        : is_back(by)            ? DETHRUX_ENCODER_FEED_MAX(len)
+                                 : DETHRUX_DECODER_FEED_MAX(len);
+    uint8_t to[2];
     decoder by_call = new_decoder(by, DETHRUX_BIG_ENDIAN), by_hand = by_call;
     by_hand.utf16 = (dethrux_decoder){{0x4E, 0x00, 0x4E}, DETHRUX_PENDING_MAX};
     by_hand.utf8 = (dethrux_encoder){{'a', 'b', 'c'}, DETHRUX_PENDING_MAX};
-    dethrux_progress found = feed(&by_call, left[is_back(by)], DETHRUX_PENDING_MAX, NULL, 0);
-    bool is = found.status == DETHRUX_DONE && pending_of(&by_call).len == DETHRUX_PENDING_MAX;
+    by_hand.wtf8 = (dethrux_wtf8_encoder){{'a', 'b', 'c', 'd', 'e', 'f'}, DETHRUX_WTF8_PENDING_MAX};
+    const uint8_t *left = is_back(by) ? utf8 + sizeof utf8 - most : utf16;
+    dethrux_progress found = feed(&by_call, left, most, to, wtf8 ? 2 : 0);
+    bool is = found.status == DETHRUX_DONE && pending_of(&by_call).len == most;
     text chunk = {0};
     for (size_t i = 0; i < len; i++) {
         append_byte(&chunk, is_back(by) ? 'a' : i % 2 == 0 ? 0x00 : 0x4E);
     }
-    is = is && (len == 0 || feed_needs(&by_call, &chunk, most))
-        && feed_needs(&by_hand, &chunk, is_back(by) ? 2 * (DETHRUX_PENDING_MAX + len) : most);
+    is = is && feed_needs(&by_hand, &chunk, is_back(by) ? 2 * (most + len) : capacity);
+    if (len > 0) {
+        chunk.bytes[0] = wtf8 ? 0x80 : chunk.bytes[0];
+        is = is && feed_needs(&by_call, &chunk, capacity);
+    }
     free(chunk.bytes);
     return is;
 }
@@ -1438,9 +1467,13 @@ static bool is_pending_bound_reached(void) {
 
 /* Each bound that the header states, at inputs that need it. */
 static bool are_bounds_reached(void) {
+    static const way ways[] = {TO_UTF8, FROM_UTF8, TO_WTF8, FROM_WTF8};
     bool is = is_pending_bound_reached();
     for (size_t len = 0; is && len <= 2 * SHORT + 1; len++) {
-        is = is_bound_reached(len) && is_feed_bound_reached(TO_UTF8, len) && is_feed_bound_reached(TO_WTF8, len) && is_feed_bound_reached(FROM_UTF8, len);
+        is = is_bound_reached(len);
+        for (size_t i = 0; is && i < sizeof ways / sizeof *ways; i++) {
+            is = is_feed_bound_reached(ways[i], len);
+        }
     }
     return is;
 }
@@ -1484,6 +1517,9 @@ static bool are_macros_right(void) {
         {DETHRUX_ENCODER_FEED_MAX(yes ? 3 : 0), 8},
         {DETHRUX_ENCODER_FEED_MAX(wide), 8589934592},
         {DETHRUX_ENCODER_FEED_MAX(most), UINT64_MAX - 1},
+        {DETHRUX_WTF8_ENCODER_FEED_MAX(yes ? 3 : 0), 10},
+        {DETHRUX_WTF8_ENCODER_FEED_MAX(wide), 8589934594},
+        {DETHRUX_WTF8_ENCODER_FEED_MAX(most - 1), UINT64_MAX - 1},
     };
     bool is = true;
     for (size_t i = 0; i < sizeof found / sizeof *found; i++) {
@@ -1531,13 +1567,15 @@ static bool feeds(decoder *by, const char *chunk, size_t room, dethrux_status st
 /* A state that no call left: three bytes of two characters, and a length above three. */
 static bool is_any_state_fine(void) {
     decoder by = new_decoder(TO_UTF8, DETHRUX_LITTLE_ENDIAN), back = new_decoder(FROM_UTF8, DETHRUX_LITTLE_ENDIAN);
-    decoder wtf8 = new_decoder(TO_WTF8, DETHRUX_LITTLE_ENDIAN);
+    decoder wtf8 = new_decoder(TO_WTF8, DETHRUX_LITTLE_ENDIAN), any = new_decoder(FROM_WTF8, DETHRUX_LITTLE_ENDIAN);
     by.utf16 = wtf8.utf16 = (dethrux_decoder){{0x41, 0x00, 0x42}, 200};
     back.utf8 = (dethrux_encoder){{0x41, 0xE4, 0xB8}, 200};
+    any.wtf8 = (dethrux_wtf8_encoder){{0x41, 0x42, 0xED, 0xA0, 0xBD, 0xF0}, 200};
     return feeds(&by, "-", 4, DETHRUX_DONE, "41", "42") && feeds(&by, "0043", 0, DETHRUX_NO_SPACE, "-", "42")
         && feeds(&by, "0043", 4, DETHRUX_DONE, "42", "43") && feeds(&back, "-", 4, DETHRUX_DONE, "4100", "E4B8")
-        && finish(&wtf8, NULL, 0).status == DETHRUX_INCOMPLETE && wtf8.utf16.pending_len == 200
+        && finish(&wtf8, NULL, 0).status == DETHRUX_NO_SPACE && wtf8.utf16.pending_len == 200
         && feeds(&wtf8, "-", 4, DETHRUX_DONE, "41", "42") && feeds(&wtf8, "0000DC00D8", 4, DETHRUX_DONE, "42EDB080", "00D8")
+        && feeds(&any, "9F", 3, DETHRUX_NO_SPACE, "4100", "42EDA0BDF0") && feeds(&any, "9F", 6, DETHRUX_DONE, "4200", "EDA0BDF09F")
         && feeds(&back, "80C3", 1, DETHRUX_NO_SPACE, "-", "E4B8") && feeds(&back, "80C3", 4, DETHRUX_DONE, "004E", "C3");
 }
 
@@ -1547,6 +1585,7 @@ static bool is_empty_fine(void) {
     const dethrux_byte_order little = DETHRUX_LITTLE_ENDIAN, big = DETHRUX_BIG_ENDIAN;
     const uint8_t letter[] = {'a'};
     decoder by = new_decoder(TO_UTF8, big), back = new_decoder(FROM_UTF8, big), wtf8 = new_decoder(TO_WTF8, big);
+    decoder from_wtf8 = new_decoder(FROM_WTF8, big);
     bool is = true;
     for (size_t i = 0; i < sizeof conversions / sizeof *conversions; i++) {
         is = is && conversions[i].make(little, NULL, 0, NULL, 0).status == DETHRUX_DONE
@@ -1559,6 +1598,7 @@ static bool is_empty_fine(void) {
     return is && feed(&wtf8, NULL, 0, NULL, 0).status == DETHRUX_DONE && finish(&wtf8, NULL, 0).status == DETHRUX_DONE
         && feed(&by, NULL, 0, NULL, 0).status == DETHRUX_DONE && finish(&by, NULL, 0).status == DETHRUX_DONE
         && feed(&back, NULL, 0, NULL, 0).status == DETHRUX_DONE && finish(&back, NULL, 0).status == DETHRUX_DONE
+        && feed(&from_wtf8, NULL, 0, NULL, 0).status == DETHRUX_DONE && finish(&from_wtf8, NULL, 0).status == DETHRUX_DONE
         && dethrux_validate(little, NULL, 0).status == DETHRUX_DONE && dethrux_is_ascii(big, NULL, 0)
         && dethrux_from_utf8_len(NULL, 0) == 0 && dethrux_from_utf8_lossy_len(NULL, 0) == 0
         && dethrux_from_utf8_replacements(NULL, 0) == 0
@@ -1580,7 +1620,7 @@ static bool is_no_space_fine(void) {
         dethrux_progress found = conversions[i].make(DETHRUX_LITTLE_ENDIAN, letter, len, NULL, 0);
         is = is && found.status == DETHRUX_NO_SPACE && found.read == 0 && found.written == 0;
     }
-    for (int way_of = TO_UTF8; way_of <= TO_WTF8; way_of++) {
+    for (int way_of = TO_UTF8; way_of <= FROM_WTF8; way_of++) {
         decoder by = new_decoder((way)way_of, DETHRUX_LITTLE_ENDIAN);
         dethrux_progress found = feed(&by, letter, is_back((way)way_of) ? 1 : 2, NULL, 0);
         is = is && found.status == DETHRUX_NO_SPACE && found.read == 0 && found.written == 0;

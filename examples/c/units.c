@@ -412,6 +412,18 @@ static dethrux_progress feed_wtf8(const uint16_t *utf16, size_t len, void *to, s
     return found;
 }
 
+/* A stream of one chunk, and its end. */
+static dethrux_progress encode_wtf8(
+    const void *wtf8, size_t len, uint16_t *to, size_t capacity) {
+    dethrux_wtf8_encoder encoder = DETHRUX_WTF8_ENCODER_INIT;
+    dethrux_progress found = dethrux_u16_wtf8_encoder_feed(&encoder, wtf8, len, to, capacity);
+    if (encoder.pending_len > 0) {
+        found.written += dethrux_u16_wtf8_encoder_finish(
+            &encoder, to + found.written, capacity - found.written).written;
+    }
+    return found;
+}
+
 static const struct {
     const char *name;
     dethrux_progress (*call)(const uint16_t *utf16, size_t len, void *to, size_t capacity);
@@ -429,6 +441,7 @@ static const struct {
 } calls_from_wtf8[] = {
     {"from_wtf8", dethrux_u16_from_wtf8, false},
     {"from_wtf8_partial", dethrux_u16_from_wtf8_partial, true},
+    {"wtf8_encoder_feed", encode_wtf8, false},
 };
 
 /* In a buffer of each size, up to the one that the header says suffices. */
@@ -483,7 +496,8 @@ static void ends_of_wtf8(void) {
     check("from_wtf8", "an encoded pair",
         is_same(dethrux_u16_from_wtf8(pair, 6, to, 6), ill_formed));
     check("from_wtf8_partial", "an encoded pair",
-        is_same(dethrux_u16_from_wtf8_partial(pair, 6, to, 6), ill_formed));
+        is_same(dethrux_u16_from_wtf8_partial(pair, 6, to, 6), ill_formed)
+            && is_same(encode_wtf8(pair, 6, to, 6), ill_formed));
     dethrux_progress one = dethrux_u16_decoder_feed_wtf8(&decoder, units, 2, wtf8, 9);
     dethrux_progress two = dethrux_u16_decoder_feed_wtf8(&decoder, units + 2, 1, wtf8 + 1, 6);
     check("decoder_feed_wtf8 of two chunks", "a leading surrogate",

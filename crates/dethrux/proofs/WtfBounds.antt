@@ -1,6 +1,6 @@
 -- The most bytes that any bytes have in WTF-8, and that WTF-8 has in UTF-16, and that a call with
 -- this capacity does not stop for lack of space.
-use Rattle.std.proofs.Common.{◌≡◌, ◌≢◌, ℕ, ◌+◌, ◌*◌, ◌/◌, ◌-◌, ◌<◌, ◌≤◌, Bool, List, [], ◌∷◌, ◌++◌, length, take, drop, ap, ◌∙◌, ⊎_elim, arith, length-append, length-take-le, length-drop}
+use Rattle.std.proofs.Common.{◌≡◌, ◌≢◌, ℕ, ◌+◌, ◌*◌, ◌/◌, ◌-◌, ◌<◌, ◌≤◌, Bool, List, [], ◌∷◌, ◌++◌, length, take, drop, sym, ap, ◌∙◌, subst, ⊎_elim, arith, length-append, length-take-le, length-drop, take_at}
 use Rattle.std.proofs.lemmas.Bool.{cases_lt}
 use Rattle.std.specs.List.{flat_map}
 use Rattle.utf16_units.specs.Encoding.{char_bytes}
@@ -13,6 +13,7 @@ use Rattle.utf16_transcode.specs.Wrote.{Wrote}
 use Rattle.utf16_transcode.specs.declared.progress.Stop.{Stop}
 use Rattle.utf16_transcode.specs.declared.progress.Stop.TheVariants.{Incomplete, Done, IllFormed, NoSpace}
 use Rattle.utf16_wtf8.specs.FromWtf8.{NextPointDoesNotFit, StopsFromWtf8, StopsFromWtf8Partial, TranscodesFromWtf8}
+use Rattle.utf16_wtf8.specs.Stream.{FeedsWtf8, StopsFeedingWtf8, encoded_len}
 use Rattle.utf16_wtf8.specs.ToWtf8.{StopsToWtf8, points_of, wtf8_parts}
 use Rattle.utf16_wtf8.specs.Wtf8.{generalized_utf8}
 use Rattle.utf16_wtf8.proofs.CodeLemmas.{some_bytes}
@@ -114,3 +115,35 @@ module _ (big : Bool) (wtf8 to : List ℕ) (read written : ℕ) (wrote : Wrote (
   from_partial_filled (IllFormed len) here full = absurd (cc)
   from_partial_filled Incomplete here full = absurd (cc)
   from_partial_filled NoSpace here full = next_filled here
+
+-- a chunk of a stream, with pending bytes before it
+module _ (big : Bool) (pending chunk left to : List ℕ) (read written : ℕ) (fed : FeedsWtf8 big pending chunk left to read written) where
+  abbrev at : ℕ
+  at = encoded_len pending left read
+
+  both : length (pending ++ chunk) ≡ length pending + length chunk
+  both = length-append pending chunk
+
+  long : length fed.front ≡ at
+  long =
+      let within = fed.within in
+      omega (arith, ap length fed.splits, both, length-append fed.front (left ++ drop read chunk), length-append left (drop read chunk), length-drop read chunk)
+
+  Wrote-fed : Wrote (TranscodesFromWtf8 big) (pending ++ chunk) to at written
+  Wrote-fed = record {
+    within = omega (arith, ap length fed.splits, long, length-append fed.front (left ++ drop read chunk));
+    fits = fed.fits;
+    gives = subst (λ b. TranscodesFromWtf8 big b (take written to)) (sym (ap (take at) fed.splits ∙ take_at fed.front (left ++ drop read chunk) at long)) fed.gives;
+  }
+
+  pub encoder_fits : (stop : Stop) → StopsFeedingWtf8 big pending chunk left read (length to - written) stop → 2 * (length pending + length chunk) ≤ length to → stop ≢ NoSpace
+  encoder_fits Done here enough full = absurd (cc)
+  encoder_fits (IllFormed len) here enough full = absurd (cc)
+  encoder_fits Incomplete here enough full = absurd here
+  encoder_fits NoSpace here enough full = from_partial_fits big (pending ++ chunk) to at written Wrote-fed NoSpace here.1 (omega (arith, both, enough)) full
+
+  pub encoder_filled : (stop : Stop) → StopsFeedingWtf8 big pending chunk left read (length to - written) stop → stop ≡ NoSpace → length to < written + 4
+  encoder_filled Done here full = absurd (cc)
+  encoder_filled (IllFormed len) here full = absurd (cc)
+  encoder_filled Incomplete here full = absurd here
+  encoder_filled NoSpace here full = from_partial_filled big (pending ++ chunk) to at written Wrote-fed NoSpace here.1 full

@@ -34,6 +34,13 @@ macro_rules! in_order {
             $made($call::<$crate::byte_order::LE>($($argument),*))
         }
     };
+    ($byte_order:expr, $stream:ident.$call:ident($($argument:expr),*)) => {
+        if $crate::byte_order::is_big_endian($byte_order) {
+            $stream.$call::<$crate::byte_order::BE>($($argument),*)
+        } else {
+            $stream.$call::<$crate::byte_order::LE>($($argument),*)
+        }
+    };
     ($byte_order:expr, $stream:ident.$call:ident::<$direction:ident>($($argument:expr),*)) => {
         if $crate::byte_order::is_big_endian($byte_order) {
             $stream.$call::<$direction<$crate::byte_order::BE>>($($argument),*)

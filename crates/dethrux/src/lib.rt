@@ -20,3 +20,4 @@ mod utf32;
 mod validate;
 mod version;
 mod wtf8;
+mod wtf8_encoder;

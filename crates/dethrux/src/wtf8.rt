@@ -101,8 +101,9 @@ pub extern "C" fn dethrux_decoder_feed_wtf8(
 }
 
 /// Ends a stream of `dethrux_decoder_feed_wtf8`: writes a pending leading surrogate in WTF-8, and
-/// otherwise nothing. The bytes after it are unchanged. With status 2 an odd byte is pending, which
-/// is not a code unit, and with status 3 the surrogate does not fit: then nothing changes.
+/// otherwise nothing. The bytes after it are unchanged. With status 2 an odd byte at the end, which
+/// is not a code unit, was left out. With status 3 the surrogate does not fit, and nothing changes;
+/// otherwise a new stream begins.
 #[unsafe(no_mangle)]
 pub extern "C" fn dethrux_decoder_finish_wtf8(
     decoder: &mut Stream,
@@ -110,23 +111,23 @@ pub extern "C" fn dethrux_decoder_finish_wtf8(
     to: &mut [u8],
 ) -> Progress
     ensures read { result.read ≡ 0 }
+    ensures no_space { (stop_of result.status result.error_len ≡ NoSpace) ↔ (length to.new
+        < length (flat_map generalized_utf8
+        (tail_points (is_big byte_order) (stream_pending decoder.old)))) }
     ensures incomplete { (stop_of result.status result.error_len ≡ Incomplete)
-        ↔ (length (stream_pending decoder.old) % 2 ≡ 1) }
+        ↔ ((stop_of result.status result.error_len ≢ NoSpace)
+        × (length (stream_pending decoder.old) % 2 ≡ 1)) }
     ensures done { (stop_of result.status result.error_len ≡ Done)
-        ↔ ((length (stream_pending decoder.old) % 2 ≡ 0)
-        × (length (flat_map generalized_utf8
-        (tail_points (is_big byte_order) (stream_pending decoder.old))) ≤ length to.new)) }
-    ensures text { stop_of result.status result.error_len ≡ Done → take result.written to.new
-        ≡ flat_map generalized_utf8
+        ↔ ((stop_of result.status result.error_len ≢ NoSpace)
+        × (length (stream_pending decoder.old) % 2 ≡ 0)) }
+    ensures text { stop_of result.status result.error_len ≢ NoSpace
+        → take result.written to.new ≡ flat_map generalized_utf8
         (tail_points (is_big byte_order) (stream_pending decoder.old)) }
     ensures within { result.written ≤ length to.new }
     ensures rest { drop result.written to.new ≡ drop result.written to.old }
-    ensures pending { stop_of result.status result.error_len ≡ Done
+    ensures pending { stop_of result.status result.error_len ≢ NoSpace
         → stream_pending decoder.new ≡ [] }
-    ensures no_space { stop_of result.status result.error_len ≢ Done
-        → stop_of result.status result.error_len ≢ Incomplete
-        → stop_of result.status result.error_len ≡ NoSpace }
-    ensures unchanged { stop_of result.status result.error_len ≢ Done
+    ensures unchanged { stop_of result.status result.error_len ≡ NoSpace
         → (result.written ≡ 0) × (decoder.new ≡ decoder.old) × (to.new ≡ to.old) }
     ensures numbers { AreNumbers result.status result.error_len }
 {

@@ -20,6 +20,7 @@ pub fn call<E: Utf16Order>(run: &mut Run, name: &str) -> bool {
         Some(("search", call)) => search::call::<E>(run, call),
         Some(("bytes" | "utf8", _)) => offsets::call::<E>(run, name),
         Some(("text", _)) => texts::call::<E>(run, name),
+        Some(("Wtf8Stream", _)) => wtf8::stream_call::<E>(run, name),
         Some(_) => streams::call::<E>(run, name),
         None => plain::<E>(run, name),
     }

@@ -4,7 +4,6 @@ pub mod Utf32Lemmas
 pub mod Latin1Lemmas
 pub mod Wtf8Lemmas
 pub mod SeamLemmas
-pub mod StreamLemmas
 pub mod CutLemmas
 pub mod ChunkLemmas
 pub mod ReadLemmas

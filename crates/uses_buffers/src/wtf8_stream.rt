@@ -13,7 +13,7 @@ use crate::small_buffer::feed_chunks;
 use std::alloc::{AllocError, Allocator};
 use utf16_transcode::Stop;
 use utf16_units::Utf16Order;
-use utf16_wtf8::{ToWtf8, finish_wtf8, to_wtf8};
+use utf16_wtf8::{ToWtf8, finish_wtf8};
 
 /// Converts all code units of a stream of UTF-16 to WTF-8. The stream comes in chunks, cut
 /// anywhere. Also returns whether it ends with an odd byte, which is not a code unit.
@@ -38,11 +38,9 @@ pub fn decoder_feed_wtf8_through<E: Utf16Order, A: Allocator, B: Allocator>(
 {
     let (mut all, mut stream) = feed_chunks::<ToWtf8<E>, A, B>(alloc, chunks, buffer)?;
     let end = finish_wtf8::<E>(&mut stream, buffer);
+    all.extend_from_slice(&buffer[..end.written])?;
     if let Stop::Incomplete = end.stop {
-        let last = to_wtf8::<E>(stream.pending(), buffer);
-        all.extend_from_slice(&buffer[..last.written])?;
         return Ok((all, true));
     }
-    all.extend_from_slice(&buffer[..end.written])?;
     Ok((all, false))
 }

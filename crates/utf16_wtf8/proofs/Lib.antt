@@ -13,3 +13,6 @@ pub mod SurrogateLemmas
 pub mod FromWtf8Lemmas
 pub mod PartialLemmas
 pub mod FewLemmas
+pub mod LongerLemmas
+pub mod SeamLemmas
+pub mod StreamLemmas

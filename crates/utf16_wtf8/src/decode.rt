@@ -1,6 +1,6 @@
 //! UTF-16 to WTF-8: all code units, as far as they are certain, and the end of a stream.
 
-ghost use Rattle.std.specs.Prelude.{◌≡◌, ◌≢◌, ◌↔◌, ◌-◌, ◌%◌, ◌≤◌, [], drop, length, take};
+ghost use Rattle.std.specs.Prelude.{◌≡◌, ◌≢◌, ◌↔◌, ◌-◌, ◌%◌, ◌<◌, ◌≤◌, [], drop, length, take};
 ghost use Rattle.std.specs.List.{flat_map};
 ghost use Rattle.utf16_transcode.specs.Shown.{ShowsWhole};
 ghost use Rattle.utf16_transcode.specs.Stream.{stream_pending};
@@ -69,31 +69,29 @@ pub fn to_wtf8<E: Utf16Order>(raw: &[u8], to: &mut [u8]) -> Progress
 }
 
 /// Ends a stream in the direction `ToWtf8`: writes a pending leading surrogate to the start of a
-/// buffer. No bytes are pending afterwards. `read` is 0. With `Incomplete`, an odd byte is pending,
-/// which is not a code unit, and nothing changed. With `NoSpace`, the surrogate does not fit, and
-/// nothing changed. Bytes of the buffer after the written ones are unchanged.
+/// buffer. No bytes are pending afterwards. `read` is 0. With `Incomplete`, an odd byte at the end
+/// of the stream, which is not a code unit, was left out. With `NoSpace`, the surrogate does not
+/// fit, and nothing changed. Bytes of the buffer after the written ones are unchanged.
 pub fn finish_wtf8<E: Utf16Order>(stream: &mut Stream, to: &mut [u8]) -> Progress
     ensures read { result.read ≡ 0 }
-    ensures incomplete { (result.stop ≡ Incomplete)
-        ↔ (length (stream_pending stream.old) % 2 ≡ 1) }
-    ensures done { (result.stop ≡ Done) ↔ ((length (stream_pending stream.old) % 2 ≡ 0)
-        × (length (flat_map generalized_utf8 (tail_points E.BIG (stream_pending stream.old)))
-        ≤ length to.new)) }
-    ensures text { result.stop ≡ Done → take result.written to.new
+    ensures no_space { (result.stop ≡ NoSpace) ↔ (length to.new
+        < length (flat_map generalized_utf8 (tail_points E.BIG (stream_pending stream.old)))) }
+    ensures incomplete { (result.stop ≡ Incomplete) ↔ ((result.stop ≢ NoSpace)
+        × (length (stream_pending stream.old) % 2 ≡ 1)) }
+    ensures done { (result.stop ≡ Done) ↔ ((result.stop ≢ NoSpace)
+        × (length (stream_pending stream.old) % 2 ≡ 0)) }
+    ensures text { result.stop ≢ NoSpace → take result.written to.new
         ≡ flat_map generalized_utf8 (tail_points E.BIG (stream_pending stream.old)) }
     ensures within { result.written ≤ length to.new }
     ensures rest { drop result.written to.new ≡ drop result.written to.old }
-    ensures pending { result.stop ≡ Done → stream_pending stream.new ≡ [] }
-    ensures no_space { result.stop ≢ Done → result.stop ≢ Incomplete → result.stop ≡ NoSpace }
-    ensures unchanged { result.stop ≢ Done
+    ensures pending { result.stop ≢ NoSpace → stream_pending stream.new ≡ [] }
+    ensures unchanged { result.stop ≡ NoSpace
         → (result.written ≡ 0) × (stream.new ≡ stream.old) × (to.new ≡ to.old) }
 {
-    if stream.pending().len() % 2 == 1 {
-        return Progress {
-            read: 0,
-            written: 0,
-            stop: Stop::Incomplete,
-        };
+    let odd = stream.pending().len() % 2 == 1;
+    let mut end = stream.finish::<ToWtf8<E>>(to);
+    if odd && end.stop == Stop::Done {
+        end.stop = Stop::Incomplete;
     }
-    stream.finish::<ToWtf8<E>>(to)
+    end
 }

@@ -7,10 +7,13 @@ mod code_point;
 mod decode;
 mod direction;
 mod encode;
+mod joined;
 pub mod laws;
 mod sizes;
+mod stream;
 
 pub use crate::decode::{finish_wtf8, to_wtf8, to_wtf8_partial};
 pub use crate::direction::ToWtf8;
 pub use crate::encode::{from_wtf8, from_wtf8_partial};
 pub use crate::sizes::to_wtf8_len;
+pub use crate::stream::Wtf8Stream;

@@ -1,0 +1,190 @@
+-- Why a call stops in the first bytes of WTF-8, if that does not depend on the bytes after them.
+use Rattle.std.proofs.Common.{◌≡◌, ◌⊎◌, ℕ, ◌+◌, ◌<◌, ◌≤◌, Bool, true, false, List, [], ◌∷◌, ◌++◌, Option, None, Some, length, take, drop, refl, sym, ap, ◌∙◌, subst, ⊎_elim, arith, append_assoc, append-nil, length-append, length-drop, take-add, take-append-drop, take_at, true≢false, le-ltb, ne_eqb}
+use Rattle.std.proofs.lemmas.Bool.{cases_Bool, cases_lt}
+use Rattle.std.proofs.lemmas.Bool.Decides.{nat_tests}
+use Rattle.std.proofs.lemmas.List.{drop-append-le, take-append-le}
+use Rattle.std.proofs.lemmas.List.Elements.{All-cons, All-nil}
+use Rattle.std.specs.Prelude.{◌==◌, ◌&&◌, if◌then◌else◌, nat_lt, slice_index}
+use Rattle.std.specs.Int.{is_in_range}
+use Rattle.std.specs.Str.Lossy.{second_byte_max, second_byte_min, utf8_error_len}
+use Rattle.utf16_units.specs.Unit.{IsTrailing}
+use Rattle.utf16_transcode.specs.Wrote.{Wrote}
+use Rattle.utf16_transcode.specs.declared.progress.Stop.{Stop}
+use Rattle.utf16_transcode.specs.declared.progress.Stop.TheVariants.{Incomplete, Done, IllFormed, NoSpace}
+use Rattle.utf16_wtf8.specs.FromWtf8.{IsIllFormedWtf8, IsWtf8ValidUpTo, NextPointDoesNotFit, NoPointContinues, StopsFromWtf8Partial, TranscodesFromWtf8, wtf8_error_len}
+use Rattle.utf16_wtf8.specs.Laws.{IsTruncated, StartsWithNoPoint}
+use Rattle.utf16_wtf8.specs.Wtf8.{IsCodePoint, IsWtf8, SpellsWtf8, ends_leading, generalized_utf8}
+use Rattle.utf16_wtf8.proofs.CodeLemmas.{point-unique, some_bytes}
+use Rattle.utf16_wtf8.proofs.ContinuedLemmas.{SpellsWtf8-append, valid_to}
+use Rattle.utf16_wtf8.proofs.MaximalLemmas.{none_if_truncated}
+
+SpellsWtf8-point : (c : ℕ) → IsCodePoint c → SpellsWtf8 (c ∷ []) (generalized_utf8 c)
+SpellsWtf8-point c below = record {
+  each_point = All-cons IsCodePoint c [] below (All-nil IsCodePoint);
+  no_pair = tt;
+  spelled = append-nil (generalized_utf8 c);
+}
+
+-- after the longest prefix, no code point continues it
+module _ (bytes : List ℕ) (read : ℕ) (valid : IsWtf8ValidUpTo bytes read) where
+  abbrev points : List ℕ
+  points = valid.front.points
+
+  module _ (point : ℕ) (more : List ℕ) (below : IsCodePoint point) (e : drop read bytes ≡ generalized_utf8 point ++ more) where
+    not_longer : ¬ (ends_leading points ≡ true → ¬ (IsTrailing point))
+    not_longer apart =
+        let k = length (generalized_utf8 point) in
+        valid.longest (read + k) (omega (arith, some_bytes point)) record {
+          points = points ++ point ∷ [];
+          spells =
+              subst (SpellsWtf8 (points ++ point ∷ []))
+              (ap (λ b. take read bytes ++ b) (sym (ap (take k) e ∙ take_at (generalized_utf8 point) more k refl)) ∙ sym (take-add read k bytes))
+              (SpellsWtf8-append points (point ∷ []) (take read bytes) (generalized_utf8 point) valid.front.spells (SpellsWtf8-point point below) apart);
+        }
+
+    is_pair : (ends_leading points ≡ true) × IsTrailing point
+    is_pair = ⊎_elim
+        (λ (leads : ends_leading points ≡ true). ⊎_elim
+        (λ (low : point < 0xDC00). absurd (not_longer (λ l t. omega arith)))
+        (λ (from : 0xDC00 ≤ point). ⊎_elim
+        (λ (to : point < 0xE000). (leads, (from, omega arith)))
+        (λ (high : 0xE000 ≤ point). absurd (not_longer (λ l t. omega arith)))
+        (cases_lt point 0xE000))
+        (cases_lt point 0xDC00))
+        (λ (other : ends_leading points ≡ false). absurd (not_longer (λ leads t. true≢false (sym leads ∙ other))))
+        (cases_Bool (ends_leading points))
+
+  none_continues : NoPointContinues (ends_leading points) (drop read bytes)
+  none_continues point more below e = is_pair point more below e
+
+-- the first three of four bytes and more decide the length of an ill-formed sequence
+abbrev len_of_four : ℕ → ℕ → ℕ → Option ℕ
+len_of_four x y z =
+    if (x == 0xED) && is_in_range 0xA0 0xBF y then (if is_in_range 0x80 0xBF z then Some 3 else Some 2)
+    else (if is_in_range 0xC2 0xF4 x then (if is_in_range (second_byte_min x) (second_byte_max x) y then (if is_in_range 0x80 0xBF z then Some 3 else Some 2) else Some 1) else Some 1)
+
+error_len_of_four : (bytes : List ℕ) → 4 ≤ length bytes → wtf8_error_len bytes ≡ len_of_four (slice_index bytes 0) (slice_index bytes 1) (slice_index bytes 2)
+unfolding utf8_error_len
+error_len_of_four bytes long =
+    let some_bytes : (length bytes == 0) ≡ false = ne_eqb _ _ (omega arith) in
+    let two : nat_lt (length bytes) 2 ≡ false = le-ltb (length bytes) 2 (omega arith) in
+    let three : nat_lt (length bytes) 3 ≡ false = le-ltb (length bytes) 3 (omega arith) in
+    let four : nat_lt (length bytes) 4 ≡ false = le-ltb (length bytes) 4 long in
+    rw (some_bytes, two, three, four) refl
+
+-- an ill-formed sequence stays one, and has the same length
+error_stays : (rest back : List ℕ) (len : ℕ) → wtf8_error_len rest ≡ Some len → wtf8_error_len (rest ++ back) ≡ Some len
+unfolding utf8_error_len
+error_stays [] back len is =
+    let none : None ≡ Some len = is in
+    absurd (cc)
+error_stays (x ∷ []) back len is = grind (arith, nat_tests)
+error_stays (x ∷ y ∷ []) back len is = grind (arith, nat_tests)
+error_stays (x ∷ y ∷ z ∷ []) back len is = grind (arith, nat_tests)
+error_stays (x ∷ y ∷ z ∷ w ∷ rest) back len is =
+    error_len_of_four (x ∷ y ∷ z ∷ w ∷ (rest ++ back)) (omega arith) ∙ sym (error_len_of_four (x ∷ y ∷ z ∷ w ∷ rest) (omega arith)) ∙ is
+
+module _ (front back : List ℕ) (read len : ℕ) (fault : IsIllFormedWtf8 front read (Some len)) where
+  abbrev rest : List ℕ
+  rest = drop read front
+
+  within : read ≤ length front
+  within = let short = fault.0.short in omega arith
+
+  longer : drop read (front ++ back) ≡ rest ++ back
+  longer = drop-append-le read front back within
+
+  -- a code point that more bytes complete would have no length
+  module _ (point : ℕ) (more : List ℕ) (below : IsCodePoint point) (e : rest ++ back ≡ generalized_utf8 point ++ more) (cut : length rest < length (generalized_utf8 point)) where
+    begins : rest ≡ take (length rest) (generalized_utf8 point)
+    begins = sym (take_at rest back (length rest) refl) ∙ ap (take (length rest)) e ∙ take-append-le (length rest) (generalized_utf8 point) more (omega (arith, cut))
+
+    truncated : IsTruncated rest
+    truncated = record {
+      point = point;
+      more = drop (length rest) (generalized_utf8 point);
+      code_point = below;
+      some = λ none. omega (arith, ap length none, length-drop (length rest) (generalized_utf8 point), cut);
+      spelled = ap (λ b. b ++ drop (length rest) (generalized_utf8 point)) begins ∙ take-append-drop (length rest) (generalized_utf8 point);
+    }
+
+    starts_with_none : StartsWithNoPoint rest
+    starts_with_none other others is e2 =
+        let same = point-unique other point (others ++ back) more is below (sym (append_assoc (generalized_utf8 other) others back) ∙ ap (λ b. b ++ back) (sym e2) ∙ e) in
+        omega (arith, ap (λ c. length (generalized_utf8 c)) same.0, ap length e2, length-append (generalized_utf8 other) others, cut)
+
+    not_truncated : ⊥
+    not_truncated =
+        let none = (none_if_truncated rest starts_with_none).1 truncated in
+        let some = fault.1 in
+        absurd (cc)
+
+  none_here : NoPointContinues (ends_leading fault.0.front.points) (drop read (front ++ back))
+  none_here point more below e =
+      let k = length (generalized_utf8 point) in
+      let both : rest ++ back ≡ generalized_utf8 point ++ more = sym longer ∙ e in
+      ⊎_elim
+      (λ (cut : length rest < k). absurd (not_truncated point more below both cut))
+      (λ (whole : k ≤ length rest).
+      none_continues front read fault.0 point (drop k rest) below
+      (sym (take-append-drop k rest) ∙ ap (λ b. b ++ drop k rest) (sym (take-append-le k rest back whole) ∙ ap (take k) both ∙ take_at (generalized_utf8 point) more k refl)))
+      (cases_lt (length rest) k)
+
+  pub ill_formed_longer : IsIllFormedWtf8 (front ++ back) read (Some len)
+  ill_formed_longer =
+      let short = fault.0.short in
+      let all = length-append front back in (
+        valid_to (front ++ back) fault.0.front.points read (omega arith) (subst (SpellsWtf8 fault.0.front.points) (sym (take-append-le read front back within)) fault.0.front.spells) (omega arith) none_here,
+        sym (ap wtf8_error_len longer ∙ error_stays rest back len (sym fault.1)),
+      )
+
+-- a code point that does not fit
+pub does_not_fit_longer : (big : Bool) (front back : List ℕ) (read left : ℕ) → NextPointDoesNotFit big front read left → NextPointDoesNotFit big (front ++ back) read left
+does_not_fit_longer big front back read left here =
+    let k = length (generalized_utf8 here.point) in
+    let some = some_bytes here.point in
+    let size = ap length here.begins ∙ length-append (generalized_utf8 here.point) here.more in
+    let all = length-drop read front in
+    record {
+      point = here.point;
+      more = here.more ++ back;
+      code_point = here.code_point;
+      begins = drop-append-le read front back (omega arith) ∙ ap (λ b. b ++ back) here.begins ∙ append_assoc (generalized_utf8 here.point) here.more back;
+      continues = subst IsWtf8 (sym (take-append-le (read + k) front back (omega arith))) here.continues;
+      too_long = here.too_long;
+    }
+
+abbrev pub Wrote-longer : (big : Bool) (front back to : List ℕ) (read written : ℕ) → Wrote (TranscodesFromWtf8 big) front to read written → Wrote (TranscodesFromWtf8 big) (front ++ back) to read written
+Wrote-longer big front back to read written wrote = record {
+  within = omega (arith, wrote.within, length-append front back);
+  fits = wrote.fits;
+  gives = record {
+    points = wrote.gives.points;
+    spells = subst (SpellsWtf8 wrote.gives.points) (sym (take-append-le read front back wrote.within)) wrote.gives.spells;
+    units = wrote.gives.units;
+  };
+}
+
+-- a call stops before an ill-formed sequence, or for lack of space
+abbrev pub IsDecided : Stop → Type 0
+IsDecided stop = ((len : ℕ) × (stop ≡ IllFormed len)) ⊎ (stop ≡ NoSpace)
+
+pub not_done : (stop : Stop) → IsDecided stop → ¬ (stop ≡ Done)
+not_done stop decided done = ⊎_elim
+    (λ (ill : (len : ℕ) × (stop ≡ IllFormed len)). let is = ill.1 in absurd (cc))
+    (λ (full : stop ≡ NoSpace). absurd (cc))
+    decided
+
+pub not_cut : (stop : Stop) → IsDecided stop → ¬ (stop ≡ Incomplete)
+not_cut stop decided cut = ⊎_elim
+    (λ (ill : (len : ℕ) × (stop ≡ IllFormed len)). let is = ill.1 in absurd (cc))
+    (λ (full : stop ≡ NoSpace). absurd (cc))
+    decided
+
+-- more bytes do not change that
+pub stops_longer : (big : Bool) (front back : List ℕ) (read left : ℕ) (stop : Stop) → IsDecided stop
+    → StopsFromWtf8Partial big front read left stop → StopsFromWtf8Partial big (front ++ back) read left stop
+stops_longer big front back read left Done decided here = absurd (not_done Done decided refl)
+stops_longer big front back read left (IllFormed len) decided here = ill_formed_longer front back read len here
+stops_longer big front back read left Incomplete decided here = absurd (not_cut Incomplete decided refl)
+stops_longer big front back read left NoSpace decided here = does_not_fit_longer big front back read left here

@@ -1,0 +1,61 @@
+use Rattle.std.proofs.Common.{◌≡◌, ◌≤◌, ◌-◌, ◌+◌, ◌∙◌, ◌++◌, length, take, drop, ap, arith}
+use Rattle.utf16_wtf8.proofs.StreamLemmas.{Feeds-wrote, fits_done, many_read, read_full, rest_done, rest_full, stops_done, stops_full, tail_few, tail_joined}
+use Rattle.utf16_wtf8.proofs.stream.Wtf8Stream.feed.Given.{Over}
+use Rattle.utf16_wtf8.proofs.stream.Wtf8Stream.feed.Goals as goal
+use Rattle.utf16_wtf8.proofs.stream.Wtf8Stream.feed.Goals.{After-joined_start-len}
+
+pub returns-in-IllFormed-clause-feeds : goal.returns-in-IllFormed-clause-feeds
+returns-in-IllFormed-clause-feeds g c =
+    let wrote = c.from_joined-front.ensures.wrote in
+    let read = ap (λ r. length c.args.chunk.now - length r) c.rest_of.ensures.chunk in
+    let left = c.holding.ensures.pending ∙ c.rest_of.ensures.left in
+    rw (← c.pending-pending.ensures.bytes)
+    (Feeds-wrote g.E.Utf16Order.BIG c.pending-pending.result.now c.args.chunk.now _ _ _ _ _ wrote
+    (read_full _ _ _ wrote.within _ _ left read) (rest_full _ _ _ wrote.within _ _ left read))
+
+pub returns-in-IllFormed-clause-stop : goal.returns-in-IllFormed-clause-stop
+returns-in-IllFormed-clause-stop g c =
+    let front = c.from_joined-front in
+    let read = ap (λ r. length c.args.chunk.now - length r) c.rest_of.ensures.chunk in
+    let left = c.holding.ensures.pending ∙ c.rest_of.ensures.left in
+    rw (← c.pending-pending.ensures.bytes)
+    (stops_full c.pending-pending.result.now c.args.chunk.now front.result.read front.ensures.wrote.within _ _ left read
+    g.E.Utf16Order.BIG _ front.result.stop c.in-IllFormed.is front.ensures.stop)
+
+-- what is pending if all was taken
+module _ (g : Over) (c : After-joined_start-len g) where
+  few : length (c.pending-pending.result.now ++ c.args.chunk.now) ≤ c.from_joined-front.result.read + 6
+  few = many_read g.E.Utf16Order.BIG _ _ _ c.from_joined-front.result.stop c.in-Done.is c.from_joined-front.ensures.stop
+
+  tail : take c.joined_start-len.result.1 c.joined_start-len.result.0 ≡ drop c.from_joined-front.result.read (c.pending-pending.result.now ++ c.args.chunk.now)
+  tail =
+      tail_joined c.pending-pending.result.now c.args.chunk.now _ _ _ c.from_joined-front.result.read c.rest_of.ensures.left c.rest_of.ensures.chunk c.joined_start-len.ensures.bytes few
+
+pub holding-requires-in-Done : goal.holding-requires-in-Done
+holding-requires-in-Done g c =
+    let before = (goal.at.holding-requires-in-Done g c).After-joined_start-len in
+    tail_few _ _ _ (tail g before) (few g before)
+
+pub returns-in-Done-clause-feeds : goal.returns-in-Done-clause-feeds
+returns-in-Done-clause-feeds g c =
+    let wrote = c.from_joined-front.ensures.wrote in
+    let left = c.holding-in-Done.ensures.pending ∙ tail g (goal.at.returns-in-Done-clause-feeds g c).After-joined_start-len in
+    rw (← c.pending-pending.ensures.bytes)
+    (Feeds-wrote g.E.Utf16Order.BIG c.pending-pending.result.now c.args.chunk.now _ _ _ _ _ wrote (omega arith)
+    (rest_done c.pending-pending.result.now c.args.chunk.now c.from_joined-front.result.read wrote.within _ left))
+
+pub returns-in-Done-clause-stop : goal.returns-in-Done-clause-stop
+returns-in-Done-clause-stop g c =
+    let front = c.from_joined-front in
+    let left = c.holding-in-Done.ensures.pending ∙ tail g (goal.at.returns-in-Done-clause-stop g c).After-joined_start-len in
+    rw (← c.pending-pending.ensures.bytes)
+    (stops_done c.pending-pending.result.now c.args.chunk.now front.result.read front.ensures.wrote.within _ left
+    g.E.Utf16Order.BIG _ front.result.stop c.in-Done.is front.ensures.stop)
+
+pub returns-in-Done-clause-fits : goal.returns-in-Done-clause-fits
+returns-in-Done-clause-fits g c done =
+    let front = c.from_joined-front in
+    let left = c.holding-in-Done.ensures.pending ∙ tail g (goal.at.returns-in-Done-clause-fits g c).After-joined_start-len in
+    rw (← c.pending-pending.ensures.bytes)
+    (fits_done c.pending-pending.result.now c.args.chunk.now front.result.read front.ensures.wrote.within _ left
+    g.E.Utf16Order.BIG _ front.result.stop c.in-Done.is front.ensures.stop front.ensures.fits)
