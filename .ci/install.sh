@@ -11,6 +11,7 @@ version=$(< "$top/VERSION")
 soname=libdethrux.so.${version%.*}
 with_avx2=glibc-hwcaps/x86-64-v3
 packages=(libdethrux0.2 libdethrux-dev dethrux-tools)
+sanitizers=(address undefined leak thread)
 room=$(mktemp -d)
 purge=false
 
@@ -61,6 +62,20 @@ all_static() {
     CC=$1 compile "$(config "$prefix" --static --cflags --libs)" -static && "$room/program" &&
         ! ldd "$room/program" && on_processor qemu64 "$room/program"
     [ $? = 4 ]
+}
+
+# Compiles the program of a page against what is installed, plain and with each of these sanitizers,
+# and tests that it prints what the page shows.
+is_page_sanitized() {
+    local compiler=$1 source=$2 page=$3 sanitizer words
+    eval "words=($(config "$prefix" --cflags --libs))"
+    sed -n '/^```text$/,/^```$/p' "$top/docs/$page.md" | sed '/^```/d' > "$room/page"
+    for sanitizer in '' "${@:4}"; do
+        $compiler -g ${sanitizer:+"-fsanitize=$sanitizer"} "$top/examples/$source" \
+            "${words[@]}" -o "$room/program" &&
+            LD_LIBRARY_PATH=$prefix/lib "$room/program" > "$room/found" &&
+            diff "$room/page" "$room/found" || return
+    done
 }
 
 # Compiles a program with each library, using CMake, and runs it.
@@ -225,7 +240,7 @@ packages_run_installed() {
         apt_get purge "${packages[@]}" && purge=false
 }
 
-need "${for_arm64[@]}" x86_64-w64-mingw32-gcc:gcc-mingw-w64-x86-64 gcc:gcc clang:clang \
+need "${for_arm64[@]}" x86_64-w64-mingw32-gcc:gcc-mingw-w64-x86-64 gcc:gcc g++:g++ clang:clang \
     nm:binutils make:make cmake:cmake pkg-config:pkg-config dh:debhelper \
     dpkg-buildpackage:dpkg-dev lintian:lintian qemu-x86_64:qemu-user npm:npm cargo:cargo || finish
 # Another program with this name, such as Request Tracker's.
@@ -254,6 +269,13 @@ check 'the version of the header, which pkg-config has' \
     diff <(config "$prefix" --modversion) "$top/VERSION"
 check 'no shared library' all_static gcc
 check 'no shared library by clang' all_static clang
+# MemorySanitizer needs a C++ library that it compiled.
+check 'the page for C by gcc' is_page_sanitized gcc c/first.c C "${sanitizers[@]}"
+check 'the page for C by clang' is_page_sanitized clang c/first.c C "${sanitizers[@]}" memory
+check 'the page for C++ by gcc' \
+    is_page_sanitized 'g++ -std=c++17' cpp/first.cpp CPP "${sanitizers[@]}"
+check 'the page for C++ by clang' \
+    is_page_sanitized 'clang++ -std=c++17' cpp/first.cpp CPP "${sanitizers[@]}"
 check 'both libraries by CMake' by_cmake "$prefix"
 check 'a later version by CMake' cmake_refuses "${version%.*}.999"
 check 'another major version by CMake' cmake_refuses $((${version%%.*} + 1)).0
