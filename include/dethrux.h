@@ -237,7 +237,8 @@ typedef char dethrux_enum_has_four_bytes[sizeof(dethrux_byte_order) == 4 ? 1 : -
  * How far a call came.
  *
  * `read` and `written` end between characters. The bytes of `to` after `written` have no meaning
- * and may have been overwritten.
+ * and may have been overwritten. If an ill-formed sequence follows `read`, the status is
+ * DETHRUX_ILL_FORMED, even if no space is left.
  */
 typedef struct dethrux_progress {
     size_t read;           /**< The number of bytes (UTF-32: code units) of the input read. */

@@ -32,6 +32,7 @@ static void *block(size_t size, int line) {
 #define points block(8 * 4, __LINE__)
 #define decoder block(sizeof(dethrux_decoder), __LINE__)
 #define encoder block(sizeof(dethrux_encoder), __LINE__)
+#define wtf8_encoder block(sizeof(dethrux_wtf8_encoder), __LINE__)
 #define len (is_wrong(__LINE__) ? 9 : 8)
 
 int main(int words, char **numbers) {

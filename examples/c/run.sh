@@ -145,10 +145,11 @@ names() {
 # parameters, and a program for C99 and C++ that ignores the results.
 write_ignored() {
     local parameters='dethrux_byte_order by, uint8_t *bytes, uint16_t *units, uint32_t *points,'
-    parameters+=' size_t len, dethrux_decoder *decoder, dethrux_encoder *encoder'
+    parameters+=' size_t len, dethrux_decoder *decoder, dethrux_encoder *encoder,'
+    parameters+=' dethrux_wtf8_encoder *wtf8_encoder'
     gcc -fsyntax-only -aux-info "$room/prototypes" -x c "$top/include/dethrux.h" || return
     sed -nE 's/.*dethrux\.h:.*[ *](dethrux_[a-z0-9_]+) (\([^()]*\);).*/    \1\2/p' "$room/prototypes" |
-        sed -E 's/const //g; s/\(void\)/()/; s/dethrux_(decoder|encoder) \*\w*/\1/g
+        sed -E 's/const //g; s/\(void\)/()/; s/dethrux_((wtf8_)?(decoder|encoder)) \*\w*/\1/g
             s/void \*\w*, size_t( \w+)?/bytes, len/g; s/dethrux_unit \*\w*, size_t( \w+)?/units, len/g
             s/uint32_t \*\w*, size_t( \w+)?/points, len/g; s/dethrux_byte_order( \w+)?/by/g
             s/(size_t|uint64_t)( \w+)?/0/g' > "$room/calls.inc"
