@@ -149,7 +149,7 @@ write_watched() {
             s/const uint32_t \*, size_t/AT(points), len \/ 2/
             s/void \*, size_t/AT(to), sizeof to/
             s/uint32_t \*, size_t/AT(points), sizeof points \/ 4/
-            s/dethrux_(decoder|encoder) \*/AT(\&\1)/
+            s/dethrux_((wtf8_)?(decoder|encoder)) \*/AT(\&\1)/
             s/dethrux_byte_order/order/; s/dethrux_byte_order/order ^ 1/
             s/uint64_t/len/; s/uint64_t/3/; s/uint64_t/1/; s/size_t/len \/ 2/
         ' > "$room/watched.inc"

@@ -119,6 +119,7 @@ static uint32_t points[sizeof text / 2];
 static void watch_all(uint64_t order, size_t len) {
     dethrux_decoder decoder = DETHRUX_DECODER_INIT;
     dethrux_encoder encoder = DETHRUX_ENCODER_INIT;
+    dethrux_wtf8_encoder wtf8_encoder = DETHRUX_WTF8_ENCODER_INIT;
     dethrux_inspection result; /* the largest one */
 #include "watched.inc"
 }
