@@ -12,3 +12,4 @@ pub mod AlikeLemmas
 pub mod FoundLemmas
 pub mod RunLemmas
 pub mod OccurrenceLemmas
+mod NulLemmas

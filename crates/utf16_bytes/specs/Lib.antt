@@ -4,3 +4,4 @@ pub mod CutLaws
 pub mod Shards
 pub mod SearchLaws
 pub mod Occurrence
+pub mod Nul
