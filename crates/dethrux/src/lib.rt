@@ -13,6 +13,7 @@ mod find;
 mod from_utf8;
 mod in_place;
 mod latin1;
+mod nul;
 mod order;
 mod results;
 mod to_utf8;

@@ -2,7 +2,7 @@
 
 use crate::buffers::output::add_stop;
 use tests_support::Run;
-use utf16_bytes::{count_chars, is_ascii, swap_byte_order};
+use utf16_bytes::{count_chars, is_ascii, nul_offset, swap_byte_order};
 use utf16_fixed::{Repertoire, inspect, to_utf32_lossy_len};
 use utf16_transcode::{
     from_utf8_len, from_utf8_lossy_len, from_utf8_replacements, make_well_formed,
@@ -36,6 +36,7 @@ enum MeasureCall {
     FromUtf8Replacements,
     HasAsciiUnits,
     IsAscii,
+    NulOffset,
     ToUtf8LossyLen,
     ToUtf8Replacements,
     ToUtf32LossyLen,
@@ -53,6 +54,7 @@ impl MeasureCall {
             "from_utf8_replacements" => Some(MeasureCall::FromUtf8Replacements),
             "has_ascii_units" => Some(MeasureCall::HasAsciiUnits),
             "is_ascii" => Some(MeasureCall::IsAscii),
+            "nul_offset" => Some(MeasureCall::NulOffset),
             "to_utf8_lossy_len" => Some(MeasureCall::ToUtf8LossyLen),
             "to_utf8_replacements" => Some(MeasureCall::ToUtf8Replacements),
             "to_utf32_lossy_len" => Some(MeasureCall::ToUtf32LossyLen),
@@ -73,6 +75,7 @@ fn measured<E: Utf16Order>(run: &mut Run, call: MeasureCall) {
         MeasureCall::FromUtf8Replacements => answer.number(from_utf8_replacements(&bytes)),
         MeasureCall::HasAsciiUnits => answer.truth(has_ascii_units::<E>(&bytes)),
         MeasureCall::IsAscii => answer.truth(is_ascii::<E>(&bytes)),
+        MeasureCall::NulOffset => answer.number(nul_offset(&bytes)),
         MeasureCall::ToUtf8LossyLen => answer.number(to_utf8_lossy_len::<E>(&bytes)),
         MeasureCall::ToUtf8Replacements => answer.number(to_utf8_replacements::<E>(&bytes)),
         MeasureCall::ToUtf32LossyLen => answer.number(to_utf32_lossy_len::<E>(&bytes)),
