@@ -1047,6 +1047,40 @@ static void check_rfind(void) {
     check_search(dethrux_rfind, find_last);
 }
 
+static size_t first_nul(const uint8_t *utf16, size_t len) {
+    for (size_t at = 0; at + 2 <= len; at += 2) {
+        if (utf16[at] == 0 && utf16[at + 1] == 0) {
+            return at;
+        }
+    }
+    return len;
+}
+
+static void nul_offset_of(const uint8_t *utf16) {
+    size_t want = first_nul(utf16, in.len);
+    for (place at = AT_START; at < place_count(in.len); at++) {
+        expect("offset", dethrux_nul_offset(guarded_input(1, utf16, in.len, at), in.len), want);
+    }
+}
+
+/* The text; without the zero bytes at even offsets, so that it has no NUL; and this with two zero
+ * bytes at an even and at an odd offset. */
+static void check_nul_offset(void) {
+    uint8_t other[TEXT_MAX];
+    nul_offset_of(in.text);
+    for (size_t i = 0; i < in.len; i++) {
+        other[i] = i % 2 == 0 && in.text[i] == 0 ? 1 : in.text[i];
+    }
+    nul_offset_of(other);
+    for (size_t i = 0; i < 2 && in.len >= 2; i++) {
+        size_t at = (in.at / 2 * 2 + i) % (in.len - 1);
+        uint8_t was[2] = {other[at], other[at + 1]};
+        other[at] = other[at + 1] = 0;
+        nul_offset_of(other);
+        memcpy(other + at, was, sizeof was);
+    }
+}
+
 #ifndef WITHOUT_PEERS
 /* The peers. */
 
@@ -1175,6 +1209,7 @@ const check CHECKS[] = {
     {"dethrux_shard_offset", check_shard_offset},
     {"dethrux_find", check_find},
     {"dethrux_rfind", check_rfind},
+    {"dethrux_nul_offset", check_nul_offset},
     {"dethrux_swap_byte_order", check_swap_byte_order},
     {"dethrux_make_well_formed", check_make_well_formed},
     {"dethrux_compare", check_compare},

@@ -938,6 +938,19 @@ DETHRUX_NODISCARD size_t dethrux_rfind(dethrux_byte_order byte_order, const void
     const void *pattern, size_t pattern_len);
 
 /**
+ * Returns the offset of the first NUL (U+0000), like strnlen of C.
+ *
+ * To take a string from a buffer of fixed size, pass the result as the length of the next call. A
+ * NUL is two zero bytes at an even offset, in either byte order; an odd byte at the end is not part
+ * of one. At most `len` bytes are read, and all of them must be readable.
+ *
+ * @return the offset, or `len` if there is no NUL
+ * @see dethrux_find
+ * @ingroup dethrux_search
+ */
+DETHRUX_NODISCARD size_t dethrux_nul_offset(const void *utf16, size_t len);
+
+/**
  * Swaps the two bytes of each code unit in place: UTF-16 in the other byte order.
  *
  * An odd byte at the end stays.
@@ -1105,6 +1118,7 @@ DETHRUX_TWO(size_t, find, (DETHRUX_FROM, const void *other, size_t most),
     (order, from, len, other, most))
 DETHRUX_TWO(size_t, rfind, (DETHRUX_FROM, const void *other, size_t most),
     (order, from, len, other, most))
+DETHRUX_READ(size_t, nul_offset, (const void *from, size_t len), (from, len), len)
 DETHRUX_TWO(int32_t, compare,
     (DETHRUX_FROM, dethrux_byte_order other_order, const void *other, size_t most),
     (order, from, len, other_order, other, most))
@@ -1508,6 +1522,15 @@ DETHRUX_U16_RESULT size_t dethrux_u16_rfind(
     size_t found =
         dethrux_rfind(DETHRUX_U16_TEXT(utf16, len), DETHRUX_U16_BYTES(pattern), pattern_len * 2);
     return found == DETHRUX_NOT_FOUND ? found : found / 2;
+}
+
+/**
+ * Does what dethrux_nul_offset does, on code units.
+ *
+ * @return an offset in code units, or `len`
+ */
+DETHRUX_U16_RESULT size_t dethrux_u16_nul_offset(const dethrux_unit *utf16, size_t len) {
+    return dethrux_nul_offset(DETHRUX_U16_BYTES(utf16), len * 2) / 2;
 }
 
 /** Does what dethrux_swap_byte_order does, on code units. */

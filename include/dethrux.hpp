@@ -637,6 +637,25 @@ inline std::size_t in_units(std::size_t found) noexcept {
         DETHRUX_NATIVE_ENDIAN, text.data(), text.size() * 2, pattern.data(), pattern.size() * 2));
 }
 
+/**
+ * Returns the offset of the first NUL, or the size if there is none: dethrux_nul_offset. So it is
+ * the size of a string in a buffer of fixed size.
+ */
+[[nodiscard]] inline std::size_t nul_offset(bytes text) noexcept {
+    return dethrux_nul_offset(text.data(), text.size());
+}
+
+/** Does the same for code units. */
+[[nodiscard]] inline std::size_t nul_offset(units text) noexcept {
+    return dethrux_nul_offset(text.data(), text.size() * 2) / 2;
+}
+
+/** Does the same for an array of code units, which need not have a NUL. */
+template <class Unit, std::size_t Size, std::enable_if_t<detail::is_element<2, Unit>, int> = 0>
+[[nodiscard]] inline std::size_t nul_offset(const Unit (&text)[Size]) noexcept {
+    return nul_offset(units(text, Size));
+}
+
 /** What a text is. */
 struct inspection {
     /** The first error, or nothing if the input is UTF-16. */

@@ -47,6 +47,7 @@ export const CALLS = {
     shard_offset: ["offsets", "offset"],
     find: ["utf16Search", "place"],
     rfind: ["utf16Search", "place"],
+    nul_offset: ["inAnyOrder", "size"],
     swap_byte_order: ["swapped", "nothing"],
     make_well_formed: ["repaired", "size"],
     compare: ["utf16Pair", "number"],

@@ -222,6 +222,8 @@ export interface Dethrux {
     find: SearchOfUtf16;
     /** Returns the greatest offset at which a pattern occurs as `find` says, or -1. */
     rfind: SearchOfUtf16;
+    /** Returns the offset of the first NUL, or the length if there is none. */
+    nulOffset(utf16: Uint8Array | Uint16Array): number;
     /** Returns the BOM at the start of a stream. Without one the byte order is `otherwise`. */
     detectBom(bytes: Uint8Array, otherwise?: ByteOrder): Bom;
 

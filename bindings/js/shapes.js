@@ -49,6 +49,13 @@ function takeUtf16(words) {
     throw new TypeError(`dethrux: give a Uint8Array or a Uint16Array, not ${shown(array)}`);
 }
 
+/** Takes UTF-16 of which the byte order does not matter, as bytes. */
+function takeAnyOrder(words) {
+    return isArray(words[0], "Uint16Array")
+        ? { array: bytesOf(words.shift()), width: 2 }
+        : { array: takeArray(words, "Uint8Array"), width: 1 };
+}
+
 /** Takes what UTF-16 is written as: bytes in a byte order, or without one code units. */
 export function takeForm(words) {
     if (words[0] === undefined) {
@@ -219,11 +226,14 @@ export const SHAPES = {
         return isBig ? result : Number(result);
     },
     swapped(call, words) {
-        const array = isArray(words[0], "Uint16Array")
-            ? bytesOf(words.shift())
-            : takeArray(words, "Uint8Array");
+        const { array } = takeAnyOrder(words);
         end(words);
         array.set(call([input(array)]).bytes(0, array.length));
+    },
+    inAnyOrder(call, words) {
+        const { array, width } = takeAnyOrder(words);
+        end(words);
+        return call([input(array)]).result / width;
     },
     repaired(call, words) {
         const array = words[0];

@@ -704,15 +704,16 @@ static void ask_is_ascii(dethrux_byte_order order, const text *raw, text *answer
     add_word(answer, dethrux_is_ascii(order, raw->bytes, raw->len) ? "true" : "false");
 }
 
-/* A number that UTF-8 has in either byte order. */
-#define NUMBER_OF_UTF8(name, call) \
+/* A number that bytes have in either byte order. */
+#define NUMBER_OF_BYTES(name, call) \
     static void name(dethrux_byte_order order, const text *raw, text *answer) { \
         (void)order; \
         add_number(answer, call(raw->bytes, raw->len)); \
     }
-NUMBER_OF_UTF8(ask_utf16_size, dethrux_from_utf8_len)
-NUMBER_OF_UTF8(ask_utf16_marked_size, dethrux_from_utf8_lossy_len)
-NUMBER_OF_UTF8(ask_utf8_replacements, dethrux_from_utf8_replacements)
+NUMBER_OF_BYTES(ask_utf16_size, dethrux_from_utf8_len)
+NUMBER_OF_BYTES(ask_utf16_marked_size, dethrux_from_utf8_lossy_len)
+NUMBER_OF_BYTES(ask_utf8_replacements, dethrux_from_utf8_replacements)
+NUMBER_OF_BYTES(ask_nul_offset, dethrux_nul_offset)
 
 /* The error's fields, or what is written if there is no error. */
 static void add_validity(dethrux_byte_order order, const text *raw, const char *none, text *answer) {
@@ -1122,6 +1123,7 @@ static struct {
     {.name = "validate_utf32", .ask = ask_validate_utf32},
     {.name = "inspect", .ask = ask_inspect},
     {.name = "is_ascii", .ask = ask_is_ascii},
+    {.name = "nul_offset", .ask = ask_nul_offset},
     {.name = "from_utf8_len", .ask = ask_utf16_size},
     {.name = "from_utf8_lossy_len", .ask = ask_utf16_marked_size},
     {.name = "from_utf8_replacements", .ask = ask_utf8_replacements},
@@ -1607,6 +1609,7 @@ static bool is_empty_fine(void) {
         && dethrux_find(little, NULL, 0, NULL, 0) == 0 && dethrux_find(big, letter, 1, NULL, 0) == 0
         && dethrux_rfind(little, NULL, 0, NULL, 0) == 0 && dethrux_rfind(big, letter, 1, NULL, 0) == 1
         && dethrux_find(big, NULL, 0, letter, 1) == DETHRUX_NOT_FOUND && dethrux_rfind(little, NULL, 0, letter, 1) == DETHRUX_NOT_FOUND
+        && dethrux_nul_offset(NULL, 0) == 0
         && dethrux_make_well_formed(big, NULL, 0) == 0 && dethrux_compare(big, NULL, 0, little, NULL, 0) == 0
         && dethrux_detect_bom(big, NULL, 0).status == DETHRUX_BOM_UNDECIDED;
 }

@@ -165,6 +165,7 @@ PLAIN = {
     "from_utf8_lossy_len": "bytes",
     "from_utf8_replacements": "bytes",
     "is_ascii": "bytes order",
+    "nul_offset": "bytes",
     "search::find": "bytes bytes order",
     "search::rfind": "bytes bytes order",
     "shard_offset": "number number number",

@@ -575,6 +575,31 @@ static void search(void) {
     }
 }
 
+/* A text, and the code unit at which its first NUL is, or its length. */
+static const struct {
+    const char *name;
+    size_t len;
+    uint16_t units[MOST];
+    size_t nul;
+} nuls[] = {
+    {"nothing", 0, {0}, 0},
+    {"none", 3, {0x61, 0x62, 0x63}, 3},
+    {"only one", 1, {0}, 0},
+    {"the first unit", 3, {0, 0x61, 0x62}, 0},
+    {"the last unit", 3, {0x61, 0x62, 0}, 2},
+    {"two", 5, {0x61, 0, 0x62, 0, 0x63}, 1},
+    {"two in a row", 4, {0x61, 0x62, 0, 0}, 2},
+    {"zero bytes of two units", 4, {0x0100, 0x0061, 0x6100, 0x0001}, 4},
+};
+
+static void first_nul(void) {
+    for (size_t i = 0; i < sizeof nuls / sizeof *nuls; i++) {
+        const uint16_t *units = nuls[i].len == 0 ? NULL : nuls[i].units;
+        check("nul_offset", nuls[i].name,
+            dethrux_u16_nul_offset(units, nuls[i].len) == nuls[i].nul);
+    }
+}
+
 /* The other type of code units. */
 static void other_type(void) {
     static const char16_t text[] = u"a\U0001F600";
@@ -582,6 +607,7 @@ static void other_type(void) {
     dethrux_progress found = dethrux_u16_from_utf8("ab", 2, to, 2);
     check("count_chars", "char16_t", dethrux_u16_count_chars(text, 3) == 2);
     check("find", "char16_t", dethrux_u16_find(text, 3, text + 1, 2) == 1);
+    check("nul_offset", "char16_t", dethrux_u16_nul_offset(text, 4) == 3);
     check("from_utf8", "char16_t", found.written == 2 && to[0] == u'a' && to[1] == u'b');
 }
 
@@ -620,6 +646,7 @@ int main(void) {
     ends_of_wtf8();
     compare();
     search();
+    first_nul();
     other_type();
     capacities();
     printf("%d passed, %d failed\n", passed, failed);

@@ -633,6 +633,25 @@ static void search_nothing() {
     check("a search without elements", is);
 }
 
+// The first NUL, which is a code unit, and the length without one.
+static void first_nul() {
+    const dethrux::bytes bytes;
+    const dethrux::units units;
+    check("nul_offset of bytes",
+        dethrux::nul_offset(bytes) == 0 && dethrux::nul_offset("a\0\0\1"sv) == 4
+            && dethrux::nul_offset("a\0\0"sv) == 3 && dethrux::nul_offset("a\0\0\0b\0"sv) == 2
+            && dethrux::nul_offset("\0a\0\0\0\0"sv) == 2);
+    check("nul_offset of code units",
+        dethrux::nul_offset(units) == 0 && dethrux::nul_offset(u"ab"sv) == 2
+            && dethrux::nul_offset(u"a\0b\0"sv) == 1 && dethrux::nul_offset(u"\0"sv) == 0
+            && dethrux::nul_offset(u"\u0100a"sv) == 2);
+    const char16_t name[] = {u'a', u'b'};
+    const std::uint16_t numbers[] = {0x61, 0, 0x62};
+    check("nul_offset of an array", dethrux::nul_offset(name) == 2
+                                        && dethrux::nul_offset(numbers) == 1
+                                        && dethrux::nul_offset(u"abc") == 3);
+}
+
 // Parts of a file, and the operators of an error.
 static void others() {
     const auto around = "\xD8\x3D\xDE\0"sv;
@@ -929,6 +948,8 @@ static void types() {
     static_assert(noexcept(dethrux::find(wide, wide)));
     static_assert(noexcept(dethrux::rfind(order, text, text)));
     static_assert(noexcept(dethrux::rfind(wide, wide)));
+    static_assert(noexcept(dethrux::nul_offset(text)) &&noexcept(dethrux::nul_offset(wide)));
+    static_assert(noexcept(dethrux::nul_offset(u"")));
     static_assert(noexcept(dethrux::swap_byte_order(changed)));
     static_assert(noexcept(dethrux::swap_byte_order(changed_wide)));
     static_assert(noexcept(dethrux::make_well_formed(order, changed)));
@@ -1432,6 +1453,7 @@ int main() {
     with_each(pairs, compare);
     with_each(searches, search);
     search_nothing();
+    first_nul();
     others();
     results();
     views();

@@ -25,6 +25,9 @@ void ignore(dethrux::bytes bytes, dethrux::units units, dethrux::points points,
     dethrux::find(units, units);
     dethrux::rfind(by, bytes, bytes);
     dethrux::rfind(units, units);
+    dethrux::nul_offset(bytes);
+    dethrux::nul_offset(units);
+    dethrux::nul_offset(u"");
     dethrux::to_utf8(by, bytes);
     dethrux::to_utf8(units);
     dethrux::to_utf8_lossy(by, bytes);

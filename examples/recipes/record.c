@@ -12,10 +12,8 @@ typedef struct {
 
 /* Prints the name up to its first NUL, if it has one. Returns whether it is well formed. */
 static bool print_name(const record *from) {
-    static const uint8_t nul[2] = {0, 0};
     dethrux_byte_order order = from->is_big ? DETHRUX_BIG_ENDIAN : DETHRUX_LITTLE_ENDIAN;
-    size_t len = dethrux_find(order, from->name, sizeof from->name, nul, sizeof nul);
-    len = len == DETHRUX_NOT_FOUND ? sizeof from->name : len;
+    size_t len = dethrux_nul_offset(from->name, sizeof from->name);
     uint8_t utf8[DETHRUX_UTF8_MAX(sizeof from->name)];
     dethrux_progress name = dethrux_to_utf8(order, from->name, len, utf8, sizeof utf8);
     printf("%.*s\n", (int)name.written, (const char *)utf8);

@@ -21,10 +21,8 @@ static size_t bytes_of(const char *hex, uint8_t *to) {
 
 /* Prints the strings up to an empty one. A NUL ends each, but may be missing after the last. */
 static void print_strings(const uint8_t *utf16, size_t len) {
-    static const uint8_t nul[2] = {0, 0};
-    for (size_t at = 0, end; at < len; at = end + sizeof nul) {
-        end = dethrux_find(DETHRUX_LITTLE_ENDIAN, utf16 + at, len - at, nul, sizeof nul);
-        end = end == DETHRUX_NOT_FOUND ? len : at + end;
+    for (size_t at = 0, end; at < len; at = end + 2) {
+        end = at + dethrux_nul_offset(utf16 + at, len - at);
         if (end == at) {
             return;
         }

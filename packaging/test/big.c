@@ -97,6 +97,7 @@ static void test_lengths(const uint8_t *utf16, const uint8_t *utf8) {
     require(dethrux_to_utf8_lossy_len(ORDER, utf16, len) == len, "dethrux_to_utf8_lossy_len");
     require(dethrux_from_utf8_len(utf8, len) == len, "dethrux_from_utf8_len");
     require(dethrux_from_utf8_lossy_len(utf8, len) == len, "dethrux_from_utf8_lossy_len");
+    require(dethrux_nul_offset(utf16, len) == len, "dethrux_nul_offset");
     require(dethrux_to_utf8_replacements(ORDER, utf16, len) == 0, "dethrux_to_utf8_replacements");
     require(dethrux_from_utf8_replacements(utf8, len) == 0, "dethrux_from_utf8_replacements");
     require(dethrux_floor_char_boundary(ORDER, utf16, len, len - 1) == len - 2,

@@ -176,6 +176,14 @@ test("searches: a surrogate pair and a code unit are not cut, and an odd byte is
     assert.equal(dethrux.rfind(units, units.subarray(3)), 3);
 });
 
+test("the first NUL is a code unit, and its offset counts elements of the array", () => {
+    assert.equal(dethrux.nulOffset(unitsOf("ab\0c\0")), 2);
+    assert.equal(dethrux.nulOffset(unitsOf("\u0100a")), 2);
+    assert.equal(dethrux.nulOffset(Uint8Array.of(0x61, 0, 0, 1)), 4);
+    assert.equal(dethrux.nulOffset(Uint8Array.of(0x61, 0, 0)), 3);
+    assert.equal(dethrux.nulOffset(le("ab\0c\0")), 4);
+});
+
 test("an error says where it is, in elements of the array", () => {
     const text = "Gr\u00fc\udc00";
     assert.deepEqual(dethrux.validate(le(text), "le"), { validUpTo: 6, status: "ill-formed", errorLen: 2 });
@@ -255,6 +263,8 @@ test("wrong arguments are refused", () => {
         () => dethrux.rfind(unitsOf("a"), bytes),
         () => dethrux.rfind(unitsOf("a"), "le", unitsOf("a")),
         () => dethrux.rfind(bytes, "le", bytes, 1),
+        () => dethrux.nulOffset(bytes, "le"),
+        () => dethrux.nulOffset("a"),
         () => dethrux.detectBom(bytes, "bom"),
         () => dethrux.version(1),
         () => dethrux.isCharBoundary(bytes, "le", 0, 1),

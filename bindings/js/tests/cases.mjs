@@ -215,6 +215,17 @@ const CALLS = {
     "bytes::compare": compared,
     "search::find": searched("find"),
     "search::rfind": searched("rfind"),
+    nul_offset: (_order, [source]) => {
+        const utf16 = bytes(source);
+        const found = dethrux.nulOffset(utf16);
+        if (utf16.length % 2 === 0) {
+            const units = dethrux.nulOffset(new Uint16Array(utf16.slice().buffer));
+            if (units * 2 !== found) {
+                throw new Error(`on code units: ${units}`);
+            }
+        }
+        return [found];
+    },
     every_chunking: (order, [source]) => cutAnywhere(bytes(source), dethrux.decoder, order).map(text),
     "AnyLossy::every_chunking": (order, [source]) =>
         cutAnywhere(bytes(source), dethrux.decoder, "bom").map(text),

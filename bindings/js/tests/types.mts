@@ -14,6 +14,7 @@ const points: Uint32Array = dethrux.toUtf32(bytes, "be").output;
 const isBoundary: boolean = dethrux.isCharBoundary(units, 1);
 const place: number = dethrux.find(bytes, "le", bytes);
 dethrux.rfind(units, units);
+const nul: number = dethrux.nulOffset(bytes);
 const bom: Bom = dethrux.detectBom(bytes);
 const part: number = dethrux.shardOffset(8, 2, 1);
 const largePart: bigint = dethrux.shardOffset(8n, 2n, 1n);
@@ -41,4 +42,4 @@ dethrux.toUtf7(bytes);
 // @ts-expect-error: there is no such status
 validity.status = "valid";
 
-export { bom, isBoundary, largePart, part, pending, place, points, raw, text, utf8, words };
+export { bom, isBoundary, largePart, nul, part, pending, place, points, raw, text, utf8, words };

@@ -69,6 +69,7 @@ READERS = {
     "from_utf8_len": lambda data, order: dethrux.from_utf8_len(data),
     "from_utf8_lossy_len": lambda data, order: dethrux.from_utf8_lossy_len(data),
     "from_utf8_replacements": lambda data, order: dethrux.from_utf8_replacements(data),
+    "nul_offset": lambda data, order: dethrux.nul_offset(data),
     "detect_bom": lambda data, order: dethrux.detect_bom(data, order),
     "utf_16_le_decode": lambda data, order: _codecs.utf_16_le_decode(data),
     "utf_16_be_decode": lambda data, order: _codecs.utf_16_be_decode(data),
@@ -267,6 +268,15 @@ class Functions(unittest.TestCase):
                 ):
                     expected = -1 if at < 0 else len(text[:at].encode(codec))
                     self.assertEqual(call(raw, sought, order), expected, (text, pattern))
+
+    def test_nul_offset(self):
+        samples = {raw for order in ORDERS for raw in utf16(order)}
+        samples |= {b"", b"\0", b"\0\0", b"a\0\0", b"a\0\0\1", b"a\0\0\0b\0\0\0"}
+        samples |= {b"a\0" * at + b"\0\0" + b"\0b" * 40 for at in range(80)}
+        for raw in samples:
+            units = [raw[at : at + 2] for at in range(0, len(raw), 2)]
+            expected = 2 * units.index(b"\0\0") if b"\0\0" in units else len(raw)
+            self.assertEqual(dethrux.nul_offset(raw), expected, raw)
 
     def test_detect_bom(self):
         little = ("little", 2, BomStatus.PRESENT)

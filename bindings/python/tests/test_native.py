@@ -583,6 +583,7 @@ uint64_t dethrux_shard_offset(uint64_t len, uint64_t count, uint64_t index) { HE
 int32_t dethrux_compare(P, dethrux_byte_order o, const void *b, size_t n) { HELD; return 0; }
 size_t dethrux_find(P, const void *pattern, size_t n) { HELD; return 0; }
 size_t dethrux_rfind(P, const void *pattern, size_t n) { HELD; return 0; }
+size_t dethrux_nul_offset(const void *b, size_t len) { HELD; return len; }
 """
 # Prints each call that does not give up the GIL if it should, or gives it up if it should not.
 ASKS_GIL = r"""

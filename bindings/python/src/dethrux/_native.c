@@ -80,7 +80,7 @@
       "one also has an odd byte at the end. For an index that is not below the\n" \
       "count it is the length. It may be inside a surrogate pair:\n" \
       "``floor_char_boundary_around`` moves it to a boundary.") \
-    X(swap_byte_order, 1, WRITABLE, "utf16", \
+    X(swap_byte_order, 1, ANY_ORDER, "utf16", \
       "Swap the two bytes of each code unit in place; an odd byte at the end stays.") \
     X(make_well_formed, 2, UTF16, "utf16, byteorder", \
       "Replace each unpaired surrogate by U+FFFD in place, and return how many there were.") \
@@ -97,6 +97,9 @@
       "pair. Both buffers are in this byte order, and may be ill formed.") \
     X(rfind, 3, SEARCH, "utf16, pattern, byteorder", \
       "Return the greatest offset at which a pattern occurs as in ``find``, or -1.") \
+    X(nul_offset, 1, ANY_ORDER, "utf16", \
+      "Return the offset of the first NUL, or the length if there is none.\n\n" \
+      "It is two zero bytes at an even offset, in either byte order.") \
     X(detect_bom, 1, BOM, "data, default='big'", \
       "Return the BOM at the start of a stream and the byte order, the default without one.\n\n" \
       "The status is ``BomStatus.UNDECIDED`` for fewer than two bytes.") \
@@ -155,7 +158,7 @@ static const parameters COMPARE = {"first", "first_byteorder", "second", "second
 static const parameters SEARCH = {"utf16", "pattern", "byteorder"};
 static const parameters BOM = {"data", "default"};
 static const parameters ORDER = {"byteorder"};
-static const parameters WRITABLE = {"utf16"};
+static const parameters ANY_ORDER = {"utf16"};
 static const parameters STATE = {"state", "order"};
 static const parameters FEED = {"state", "order", "chunk", "capacity"};
 static const parameters DATA = {"data", "byteorder", "errors"};

@@ -287,27 +287,28 @@ static PyObject *is_ascii(const native *it, arguments given) {
     return PyBool_FromLong(found);
 }
 
-/* Returns a number that a call has for UTF-8. */
-static PyObject *number_of_utf8(arguments given, size_t (*number)(const void *, size_t)) {
-    input utf8;
-    if (!hold(given[0], &utf8)) {
+/* Returns a number that a call has for bytes without a byte order. */
+static PyObject *number_of_bytes(arguments given, size_t (*number)(const void *, size_t)) {
+    input data;
+    if (!hold(given[0], &data)) {
         return NULL;
     }
-    PyThreadState *saved = without_gil(utf8.without_gil);
-    size_t found = number(utf8.bytes, utf8.len);
+    PyThreadState *saved = without_gil(data.without_gil);
+    size_t found = number(data.bytes, data.len);
     with_gil(saved);
-    release(&utf8);
+    release(&data);
     return PyLong_FromSize_t(found);
 }
 
-#define NUMBER_OF_UTF8(name) \
+#define NUMBER_OF_BYTES(name) \
     static PyObject *name(const native *it, arguments given) { \
         (void) it; \
-        return number_of_utf8(given, dethrux_##name); \
+        return number_of_bytes(given, dethrux_##name); \
     }
-NUMBER_OF_UTF8(from_utf8_len)
-NUMBER_OF_UTF8(from_utf8_lossy_len)
-NUMBER_OF_UTF8(from_utf8_replacements)
+NUMBER_OF_BYTES(from_utf8_len)
+NUMBER_OF_BYTES(from_utf8_lossy_len)
+NUMBER_OF_BYTES(from_utf8_replacements)
+NUMBER_OF_BYTES(nul_offset)
 
 /* Bytes to bytes. */
 

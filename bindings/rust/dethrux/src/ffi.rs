@@ -116,6 +116,7 @@ calls! {
         (order: ByteOrder, utf16: *const u8, len: usize) -> usize;
     dethrux_from_utf8_len dethrux_from_utf8_lossy_len dethrux_from_utf8_replacements:
         (utf8: *const u8, len: usize) -> usize;
+    dethrux_nul_offset: (utf16: *const u8, len: usize) -> usize;
     dethrux_find dethrux_rfind:
         (order: ByteOrder, utf16: *const u8, len: usize, pattern: *const u8, pattern_len: usize)
         -> usize;

@@ -253,6 +253,24 @@ pub fn rfind(order: ByteOrder, utf16: &[u8], pattern: &[u8]) -> Option<usize> {
     })
 }
 
+/// Returns the offset of the first NUL (U+0000), or the length if there is none. So
+/// `&utf16[..nul_offset(utf16)]` is the string in a buffer of fixed size, in either byte order.
+///
+/// A NUL is two zero bytes at an even offset. An odd byte at the end is not part of one.
+///
+/// ```
+/// use dethrux::nul_offset;
+///
+/// assert_eq!(nul_offset(b"a\0b\0\0\0\0\0"), 4);
+/// // U+0061 and U+0100: the zero bytes are of two code units.
+/// assert_eq!(nul_offset(b"a\0\0\x01"), 4);
+/// ```
+#[must_use]
+pub fn nul_offset(utf16: &[u8]) -> usize {
+    // SAFETY: the pointer and the length come from a slice.
+    unsafe { ffi::dethrux_nul_offset(utf16.as_ptr(), utf16.len()) }
+}
+
 /// The offset that a search returned.
 fn offset(found: usize) -> Option<usize> {
     (found != ffi::NOT_FOUND).then_some(found)

@@ -83,8 +83,8 @@ pub use display::{display, Display};
 pub use error::Utf16Error;
 pub use inspect::{
     compare, count_chars, find, floor_char_boundary, floor_char_boundary_around, from_utf8_len,
-    from_utf8_lossy_len, from_utf8_replacements, is_ascii, is_char_boundary, rfind, shard_offset,
-    to_utf8_lossy_len, to_utf8_replacements, validate,
+    from_utf8_lossy_len, from_utf8_replacements, is_ascii, is_char_boundary, nul_offset, rfind,
+    shard_offset, to_utf8_lossy_len, to_utf8_replacements, validate,
 };
 pub use order::ByteOrder;
 pub use stream::{Decoder, Encoder};

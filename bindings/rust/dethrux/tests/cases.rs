@@ -71,7 +71,7 @@ enum Call {
 use Call::{Any, Raw, RawAndRaw, RawAndWord, ToBytes, ToText, WordAndRaw};
 
 #[rustfmt::skip]
-const CALLS: [(&str, Call); 42] = [
+const CALLS: [(&str, Call); 43] = [
     ("to_utf8", ToText(to_utf8)),
     ("to_utf8_partial", ToText(to_utf8_partial)),
     ("to_utf8_lossy", ToText(to_utf8_lossy)),
@@ -104,6 +104,7 @@ const CALLS: [(&str, Call); 42] = [
     ("WString::cmp", RawAndRaw(compared)),
     ("search::find", RawAndRaw(|order, utf16, pattern| one(or_none(find(order, utf16, pattern))))),
     ("search::rfind", RawAndRaw(|order, utf16, pattern| one(or_none(rfind(order, utf16, pattern))))),
+    ("nul_offset", Raw(|_, utf16| one(nul_offset(utf16)))),
     ("bytes::is_char_boundary", RawAndWord(is_boundary)),
     ("WStr::is_char_boundary", RawAndWord(is_boundary)),
     ("WString::is_char_boundary", RawAndWord(is_boundary)),

@@ -384,6 +384,9 @@ fn reading_calls_are_of_the_items() {
         let is_counted = |unit: &&u16| !matches!(unit, 0xDC00..=0xDFFF);
         let counted = code_units(order, utf16).iter().filter(is_counted).count();
         assert_eq!(count_chars(order, utf16), counted);
+        let units = code_units(order, utf16);
+        let nul = units.iter().position(|unit| *unit == 0);
+        assert_eq!(nul_offset(utf16), nul.map_or(utf16.len(), |at| 2 * at));
 
         assert_eq!(
             decode(order, utf16).map_err(fields),
