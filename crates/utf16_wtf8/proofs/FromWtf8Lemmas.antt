@@ -215,7 +215,7 @@ module _ (big : Bool) (wtf8 to : List ℕ) (start n written left : ℕ) (leading
   there : drop n (rest_from wtf8 start) ≡ drop (start + n) wtf8
   there = ap (drop n) (take_rest wtf8 start) ∙ drop-drop n start wtf8
 
-  ill_formed_text : (error_len : Option ℕ) → IsIllFormedUtf8 (rest_from wtf8 start) n error_len → IsIllFormedWtf8 wtf8 (start + n) error_len
+  pub ill_formed_text : (error_len : Option ℕ) → IsIllFormedUtf8 (rest_from wtf8 start) n error_len → IsIllFormedWtf8 wtf8 (start + n) error_len
   ill_formed_text error_len here =
       let short = here.0.short in
       let size = ap length (take_rest wtf8 start) ∙ length-drop start wtf8 in

@@ -3,6 +3,7 @@ pub mod ToWtf8Lemmas
 pub mod DecodeLemmas
 pub mod CodeLemmas
 pub mod LenLemmas
+pub mod FromLenLemmas
 pub mod UnitsLemmas
 pub mod ScalarLemmas
 pub mod MaximalLemmas

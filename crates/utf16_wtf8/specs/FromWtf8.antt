@@ -1,10 +1,11 @@
 -- WTF-8 that is written in UTF-16: what a call wrote, and why it stopped.
-use Rattle.std.specs.Prelude.{◌≡◌, ℕ, ◌+◌, ◌<◌, ◌≤◌, ◌⊎◌, Bool, true, false, ◌&&◌, List, ◌++◌, Option, None, Some, length, take, drop, nat_lt, ◌==◌, slice_index, if◌then◌else◌}
+use Rattle.std.specs.Prelude.{◌≡◌, ◌≢◌, ℕ, ◌+◌, ◌-◌, ◌<◌, ◌≤◌, ◌⊎◌, Bool, true, false, ◌&&◌, List, ◌++◌, Option, None, Some, length, take, drop, nat_lt, ◌==◌, slice_index, if◌then◌else◌}
 use Rattle.std.specs.Int.{is_in_range}
 use Rattle.std.specs.List.{flat_map}
 use Rattle.std.specs.Str.Lossy.{utf8_error_len}
-use Rattle.utf16_units.specs.Encoding.{char_bytes}
+use Rattle.utf16_units.specs.Encoding.{char_bytes, size}
 use Rattle.utf16_units.specs.Unit.{IsLeading, IsTrailing}
+use Rattle.utf16_transcode.specs.Wrote.{Wrote}
 use Rattle.utf16_transcode.specs.declared.progress.Stop.{Stop}
 use Rattle.utf16_transcode.specs.declared.progress.Stop.TheVariants.{Incomplete, Done, IllFormed, NoSpace}
 use Rattle.utf16_wtf8.specs.Wtf8.{IsCodePoint, IsWtf8, SpellsWtf8, ends_leading, generalized_utf8}
@@ -109,3 +110,20 @@ StopsFromWtf8Partial big bytes read left (IllFormed len) = IsIllFormedWtf8 bytes
 StopsFromWtf8Partial big bytes read left Incomplete =
     (IsIllFormedWtf8 bytes read None × EndsLeading (take read bytes) false) ⊎ LeavesLeading bytes read
 StopsFromWtf8Partial big bytes read left NoSpace = NextPointDoesNotFit big bytes read left
+
+-- the length of the UTF-16, in either byte order, of the code points of the longest prefix that is
+-- WTF-8: of all of the bytes, if they are WTF-8
+pub record HasUtf16Len (wtf8 : List ℕ) (len : ℕ) : Type 0 where
+  pub read : ℕ
+  pub within : read ≤ length wtf8
+  pub points : List ℕ
+  pub spells : SpellsWtf8 points (take read wtf8)
+  pub longest : (read ≡ length wtf8) ⊎ IsWtf8ValidUpTo wtf8 read
+  pub is : len ≡ size points
+
+-- whatever buffer `from_wtf8` is given, it writes this many bytes, or stops with `NoSpace` because
+-- the buffer is shorter
+abbrev pub IsWrittenIfItFits : List ℕ → ℕ → Type 0
+IsWrittenIfItFits wtf8 len =
+    (big : Bool) (to : List ℕ) (read written : ℕ) (stop : Stop) → Wrote (TranscodesFromWtf8 big) wtf8 to read written
+    → StopsFromWtf8 big wtf8 read (length to - written) stop → (stop ≢ NoSpace → written ≡ len) × (stop ≡ NoSpace → length to < len)

@@ -10,10 +10,10 @@ use utf16_transcode::{Progress, Stop, from_utf8, put};
 use utf16_units::{Utf16Order, is_leading_surrogate, is_trailing_surrogate};
 
 // The length in bytes of a surrogate in WTF-8.
-const SURROGATE_LEN: usize = 3;
+pub(crate) const SURROGATE_LEN: usize = 3;
 
 // The length in bytes of a code unit.
-const UNIT_LEN: usize = 2;
+pub(crate) const UNIT_LEN: usize = 2;
 
 /// Writes WTF-8 in UTF-16 to the start of a buffer, with each surrogate as one code unit, up to the
 /// first ill-formed sequence or as far as whole characters fit. Any bytes are allowed. The three
@@ -115,7 +115,7 @@ fn transcode_wtf8<E: Utf16Order>(wtf8: &[u8], to: &mut [u8]) -> (Progress, bool)
 }
 
 // Whether the bytes begin with the first two bytes of a surrogate.
-fn begins_surrogate(rest: &[u8]) -> bool
+pub(crate) fn begins_surrogate(rest: &[u8]) -> bool
     ensures { result ≡ surrogate_begins rest.now }
 {
     rest.len() >= 2 && rest[0] == 0xED && (0xA0..=0xBF).contains(&rest[1])
@@ -123,7 +123,7 @@ fn begins_surrogate(rest: &[u8]) -> bool
 
 // Returns the surrogate at the start of the bytes, or why a call stops before it: it is truncated,
 // or its third byte is missing, or it makes a pair with the leading surrogate before it.
-fn first_surrogate(rest: &[u8], after_leading: bool) -> Result<u16, Stop>
+pub(crate) fn first_surrogate(rest: &[u8], after_leading: bool) -> Result<u16, Stop>
     requires { surrogate_begins rest.now ≡ true }
     ensures surrogate { IfOk result (BeginsWithSurrogate after_leading rest.now) }
     ensures stop { IfErr result (StopsAfter after_leading rest.now) }

@@ -15,5 +15,5 @@ mod stream;
 pub use crate::decode::{finish_wtf8, to_wtf8, to_wtf8_partial};
 pub use crate::direction::ToWtf8;
 pub use crate::encode::{from_wtf8, from_wtf8_partial};
-pub use crate::sizes::to_wtf8_len;
+pub use crate::sizes::{from_wtf8_len, to_wtf8_len};
 pub use crate::stream::Wtf8Stream;
