@@ -174,12 +174,14 @@ module _ (bytes : List ℕ) (at n k : ℕ) (block : List ℕ) (here : block ≡ 
       (sym (units_of-next false bytes at k to.even to.within ∙ ap (λ bs. units_of false (take at bytes) ++ units_of false bs) (sym next_units)))
       (All-append IsOther _ _ to.lacks next.before)
 
-  pub LacksNulTo-next : n ≤ k → n % 2 ≡ 0 → LacksNulTo bytes (at + k)
-  LacksNulTo-next all even = record {
-    within = omega (arith, next-few, room);
-    even = omega (arith, to.even, even, all, next-few);
-    lacks = lacks_next;
-  }
+  pub LacksNulTo-next : n ≤ k → n % 2 ≡ 0 → LacksNulTo bytes (at + n)
+  LacksNulTo-next all even =
+      let same : k ≡ n = omega (arith, all, next-few) in
+      record {
+        within = room;
+        even = omega (arith, to.even, even);
+        lacks = subst (λ m. All IsOther (units_of false (take (at + m) bytes))) same lacks_next;
+      }
 
   pub nul-next : (at + k < length bytes → k < n) → IsNulOffset false bytes (at + k)
   nul-next stops = record {

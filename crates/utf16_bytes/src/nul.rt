@@ -52,7 +52,8 @@ fn nul_in_units(units: &[u8]) -> usize
     }
 }
 
-// The offset of the first NUL of sixteen bytes or more of whole code units, or their length.
+// The offset of the first NUL of sixteen bytes or more of whole code units, or their length. A
+// block's offset does not depend on what the block before it holds, so that its read does not wait.
 fn nul_in_blocks(units: &[u8]) -> usize
     requires even { length units.now % 2 ≡ 0 }
     requires many { SMALL_BLOCK ≤ length units.now }
@@ -61,17 +62,17 @@ fn nul_in_blocks(units: &[u8]) -> usize
     let mut at = 0;
     while units.len() - at >= BLOCK {
         let nul = nul_in_block(&units[at..]);
-        at += nul;
         if nul < BLOCK {
-            return at;
+            return at + nul;
         }
+        at += BLOCK;
     }
     while units.len() - at > SMALL_BLOCK {
         let nul = nul_in_small_block(&units[at..]);
-        at += nul;
         if nul < SMALL_BLOCK {
-            return at;
+            return at + nul;
         }
+        at += SMALL_BLOCK;
     }
     let last = units.len() - SMALL_BLOCK;
     last + nul_in_small_block(&units[last..])

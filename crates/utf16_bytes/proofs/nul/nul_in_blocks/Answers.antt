@@ -1,18 +1,10 @@
 use Rattle.std.proofs.Common.{◌-◌, length, drop, arith}
 use Rattle.std.proofs.lemmas.List.{take-take}
-use Rattle.utf16_bytes.proofs.NulLemmas.{LacksNulTo-front, LacksNulTo-next, LacksNulTo-none, next-few, nul-next}
+use Rattle.utf16_bytes.proofs.NulLemmas.{LacksNulTo-front, LacksNulTo-next, LacksNulTo-none, nul-next}
 use Rattle.utf16_bytes.proofs.nul.nul_in_blocks.Goals as goal
 
 pub loop-at-init : goal.loop-at-init
 loop-at-init c = LacksNulTo-none c.args.units.now
-
-pub overflow_add-at : goal.overflow_add-at
-overflow_add-at c =
-    let units = c.args.units.now in
-    let at = c.loop-at.at in
-    let to = c.loop-at.invariant in
-    let few = next-few units at 64 c.nul_in_block-nul.result _ (take-take 64 (length units - at) (drop at units) c.loop-at-test.true) to (omega (arith, c.loop-at-test.true, to.within)) c.nul_in_block-nul.ensures in
-    record { fits = omega (arith, few, c.loop-at-test.true, c.loop-at.auto.at-fits) }
 
 pub returns-then-nul-lt-BLOCK : goal.returns-then-nul-lt-BLOCK
 returns-then-nul-lt-BLOCK c =
