@@ -607,6 +607,11 @@ static void check_from_wtf8(void) {
     check_conversion(dethrux_from_wtf8, &from_wtf8, STRICT, DETHRUX_UTF16_MAX(in.len));
 }
 
+static void check_from_wtf8_len(void) {
+    size_t len = expected_progress(&from_wtf8, STRICT, from_wtf8.out_len).written;
+    check_number_of_utf8("length", dethrux_from_wtf8_len, len);
+}
+
 /* Returns whether the last item before an offset is a leading surrogate. */
 static bool is_after_leading(size_t offset) {
     uint32_t last = 0;
@@ -1200,6 +1205,7 @@ const check CHECKS[] = {
     {"dethrux_decoder_feed_wtf8", check_decoder_feed_wtf8},
     {"dethrux_decoder_finish_wtf8", check_decoder_finish_wtf8},
     {"dethrux_from_wtf8", check_from_wtf8},
+    {"dethrux_from_wtf8_len", check_from_wtf8_len},
     {"dethrux_from_wtf8_partial", check_from_wtf8_partial},
     {"dethrux_wtf8_encoder_feed", check_wtf8_encoder_feed},
     {"WTF-8 and back", check_wtf8_and_back},

@@ -727,6 +727,16 @@ DETHRUX_NODISCARD dethrux_progress dethrux_from_wtf8(
     dethrux_byte_order byte_order, const void *wtf8, size_t len, void *to, size_t capacity);
 
 /**
+ * Returns the length of what dethrux_from_wtf8 writes for the longest well-formed prefix.
+ *
+ * The length is the same in either byte order.
+ *
+ * @return at most DETHRUX_UTF16_MAX(len)
+ * @ingroup dethrux_wtf8
+ */
+DETHRUX_NODISCARD size_t dethrux_from_wtf8_len(const void *wtf8, size_t len);
+
+/**
  * Converts the next chunk of a stream of WTF-8, cut anywhere, to UTF-16.
  *
  * This is like dethrux_from_wtf8, but does not read what more bytes could change at the end: a
@@ -1091,6 +1101,7 @@ DETHRUX_EACH(DETHRUX_SIZE, count_chars, to_utf8_lossy_len, to_utf8_replacements,
 DETHRUX_UTF8(from_utf8_len)
 DETHRUX_UTF8(from_utf8_lossy_len)
 DETHRUX_UTF8(from_utf8_replacements)
+DETHRUX_UTF8(from_wtf8_len)
 DETHRUX_UTF32(dethrux_validity, validate_utf32)
 DETHRUX_UTF32(size_t, from_utf32_lossy_len)
 DETHRUX_EACH(DETHRUX_BYTES, to_utf8, to_utf8_lossy, to_utf8_partial, from_utf8, from_utf8_lossy)

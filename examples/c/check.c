@@ -365,6 +365,7 @@ static size_t size_of(const conversion *by, dethrux_byte_order order, const text
     case TO_UTF8: return dethrux_to_utf8_lossy_len(order, from->bytes, from->len);
     case FROM_UTF8: return dethrux_from_utf8_lossy_len(from->bytes, from->len);
     case TO_WTF8: return dethrux_to_wtf8_len(order, from->bytes, from->len);
+    case FROM_WTF8: return dethrux_from_wtf8_len(from->bytes, from->len);
     default: return DETHRUX_UTF16_MAX(from->len);
     }
 }
@@ -627,7 +628,8 @@ static const char *contradicted(const conversion *by, dethrux_byte_order order, 
         }
     }
     if ((by->make == dethrux_from_utf8 && dethrux_from_utf8_len(from->bytes, from->len) != found.written)
-        || (by->make == dethrux_to_wtf8 && dethrux_to_wtf8_len(order, from->bytes, from->len) != found.written)) {
+        || (by->make == dethrux_to_wtf8 && dethrux_to_wtf8_len(order, from->bytes, from->len) != found.written)
+        || (by->make == dethrux_from_wtf8 && dethrux_from_wtf8_len(from->bytes, from->len) != found.written)) {
         return "size";
     }
     if (found.written > most(by, from->len)) {
@@ -714,6 +716,7 @@ NUMBER_OF_BYTES(ask_utf16_size, dethrux_from_utf8_len)
 NUMBER_OF_BYTES(ask_utf16_marked_size, dethrux_from_utf8_lossy_len)
 NUMBER_OF_BYTES(ask_utf8_replacements, dethrux_from_utf8_replacements)
 NUMBER_OF_BYTES(ask_nul_offset, dethrux_nul_offset)
+NUMBER_OF_BYTES(ask_size_from_wtf8, dethrux_from_wtf8_len)
 
 /* The error's fields, or what is written if there is no error. */
 static void add_validity(dethrux_byte_order order, const text *raw, const char *none, text *answer) {
@@ -1127,6 +1130,7 @@ static struct {
     {.name = "from_utf8_len", .ask = ask_utf16_size},
     {.name = "from_utf8_lossy_len", .ask = ask_utf16_marked_size},
     {.name = "from_utf8_replacements", .ask = ask_utf8_replacements},
+    {.name = "from_wtf8_len", .ask = ask_size_from_wtf8},
     {.name = "validate_raw_utf16", .ask = ask_validate},
     {.name = "WStr::from_utf16", .ask = ask_from_utf16},
     {.name = "every_chunking", .ask = ask_every_chunking},
@@ -1380,6 +1384,7 @@ static bool is_bound_reached(size_t len) {
         && dethrux_to_wtf8_len(DETHRUX_BIG_ENDIAN, lone.bytes, len) == DETHRUX_WTF8_MAX(len)
         && needs(dethrux_from_wtf8, &ascii, DETHRUX_UTF16_MAX(len), DETHRUX_DONE)
         && needs(dethrux_from_wtf8_partial, &ascii, DETHRUX_UTF16_MAX(len), DETHRUX_DONE)
+        && dethrux_from_wtf8_len(ascii.bytes, len) == DETHRUX_UTF16_MAX(len)
         && needs(dethrux_from_utf8, &ascii, DETHRUX_UTF16_MAX(len), DETHRUX_DONE)
         && needs(dethrux_from_utf8_lossy, &ascii, DETHRUX_UTF16_MAX(len), DETHRUX_DONE)
         && needs(dethrux_from_utf8_lossy, &never, DETHRUX_UTF16_MAX(len), DETHRUX_DONE)
@@ -1603,7 +1608,7 @@ static bool is_empty_fine(void) {
         && feed(&from_wtf8, NULL, 0, NULL, 0).status == DETHRUX_DONE && finish(&from_wtf8, NULL, 0).status == DETHRUX_DONE
         && dethrux_validate(little, NULL, 0).status == DETHRUX_DONE && dethrux_is_ascii(big, NULL, 0)
         && dethrux_from_utf8_len(NULL, 0) == 0 && dethrux_from_utf8_lossy_len(NULL, 0) == 0
-        && dethrux_from_utf8_replacements(NULL, 0) == 0
+        && dethrux_from_utf8_replacements(NULL, 0) == 0 && dethrux_from_wtf8_len(NULL, 0) == 0
         && dethrux_is_char_boundary(little, NULL, 0, 0) && !dethrux_is_char_boundary(big, NULL, 0, 1)
         && dethrux_floor_char_boundary(little, NULL, 0, 1) == 0 && dethrux_floor_char_boundary_around(big, NULL, 0, 0) == 0
         && dethrux_find(little, NULL, 0, NULL, 0) == 0 && dethrux_find(big, letter, 1, NULL, 0) == 0

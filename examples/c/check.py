@@ -164,6 +164,7 @@ PLAIN = {
     "from_utf8_len": "bytes",
     "from_utf8_lossy_len": "bytes",
     "from_utf8_replacements": "bytes",
+    "from_wtf8_len": "bytes",
     "is_ascii": "bytes order",
     "nul_offset": "bytes",
     "search::find": "bytes bytes order",

@@ -467,6 +467,7 @@ static void to_wtf8(const any_units *row) {
 
 static void from_wtf8(const any_units *row) {
     size_t len = strlen(row->wtf8);
+    check("from_wtf8_len", row->name, dethrux_from_wtf8_len(row->wtf8, len) == row->len * 2);
     for (size_t i = 0; i < sizeof calls_from_wtf8 / sizeof *calls_from_wtf8; i++) {
         bool is = true;
         for (size_t capacity = 0; capacity <= len; capacity++) {

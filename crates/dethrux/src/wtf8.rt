@@ -7,7 +7,7 @@ ghost use Rattle.utf16_transcode.specs.Shown.{ShowsWhole};
 ghost use Rattle.utf16_transcode.specs.Stream.{FeedsAs, StopsFeedingAs, stream_pending};
 ghost use Rattle.utf16_transcode.specs.Wrote.{Wrote};
 ghost use Rattle.utf16_transcode.specs.declared.progress.Stop.TheVariants.{Done, Incomplete, NoSpace};
-ghost use Rattle.utf16_wtf8.specs.FromWtf8.{LeavesLeading, StopsFromWtf8, StopsFromWtf8Partial, TranscodesFromWtf8};
+ghost use Rattle.utf16_wtf8.specs.FromWtf8.{HasUtf16Len, IsWrittenIfItFits, LeavesLeading, StopsFromWtf8, StopsFromWtf8Partial, TranscodesFromWtf8};
 ghost use Rattle.utf16_wtf8.specs.ToWtf8.{DecodesToWtf8, StopsBeforeTail, StopsToWtf8, points_of, tail_points, wtf8_parts};
 ghost use Rattle.utf16_wtf8.specs.Wtf8.{generalized_utf8};
 ghost use Rattle.dethrux.specs.Numbers.{AreNumbers, is_big, stop_of};
@@ -17,7 +17,8 @@ use crate::decoder::bytes_law;
 use crate::results::{Progress, progress_of};
 use utf16_transcode::Stream;
 use utf16_wtf8::{
-    ToWtf8, finish_wtf8, from_wtf8, from_wtf8_partial, to_wtf8, to_wtf8_len, to_wtf8_partial,
+    ToWtf8, finish_wtf8, from_wtf8, from_wtf8_len, from_wtf8_partial, to_wtf8, to_wtf8_len,
+    to_wtf8_partial,
 };
 
 /// Converts all code units of UTF-16 to WTF-8, with each unpaired surrogate as itself, as far as
@@ -151,6 +152,17 @@ pub extern "C" fn dethrux_from_wtf8(byte_order: u32, wtf8: &[u8], to: &mut [u8])
     ensures numbers { AreNumbers result.status result.error_len }
 {
     progress_of(in_order!(byte_order, from_wtf8(wtf8, to)))
+}
+
+/// Returns the length in bytes of what `dethrux_from_wtf8` writes for the longest prefix that is
+/// WTF-8, in either byte order: at most two for each byte. Two passes.
+#[unsafe(no_mangle)]
+pub extern "C" fn dethrux_from_wtf8_len(wtf8: &[u8]) -> usize
+    ensures len { HasUtf16Len wtf8.now result }
+    ensures written { IsWrittenIfItFits wtf8.now result }
+    ensures most { result ≤ 2 * length wtf8.now }
+{
+    from_wtf8_len(wtf8)
 }
 
 /// Converts the next chunk of a stream of WTF-8 like `dethrux_from_wtf8`, but does not read what

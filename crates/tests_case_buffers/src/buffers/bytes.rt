@@ -10,7 +10,7 @@ use utf16_transcode::{
 };
 use utf16_units::text::{has_ascii_units, trailing_units};
 use utf16_units::{Utf16Order, first_char_len};
-use utf16_wtf8::to_wtf8_len;
+use utf16_wtf8::{from_wtf8_len, to_wtf8_len};
 
 /// Makes a call on only bytes.
 pub fn call<E: Utf16Order>(run: &mut Run, name: &str) -> bool {
@@ -34,6 +34,7 @@ enum MeasureCall {
     FromUtf8Len,
     FromUtf8LossyLen,
     FromUtf8Replacements,
+    FromWtf8Len,
     HasAsciiUnits,
     IsAscii,
     NulOffset,
@@ -52,6 +53,7 @@ impl MeasureCall {
             "from_utf8_len" => Some(MeasureCall::FromUtf8Len),
             "from_utf8_lossy_len" => Some(MeasureCall::FromUtf8LossyLen),
             "from_utf8_replacements" => Some(MeasureCall::FromUtf8Replacements),
+            "from_wtf8_len" => Some(MeasureCall::FromWtf8Len),
             "has_ascii_units" => Some(MeasureCall::HasAsciiUnits),
             "is_ascii" => Some(MeasureCall::IsAscii),
             "nul_offset" => Some(MeasureCall::NulOffset),
@@ -73,6 +75,7 @@ fn measured<E: Utf16Order>(run: &mut Run, call: MeasureCall) {
         MeasureCall::FromUtf8Len => answer.number(from_utf8_len(&bytes)),
         MeasureCall::FromUtf8LossyLen => answer.number(from_utf8_lossy_len(&bytes)),
         MeasureCall::FromUtf8Replacements => answer.number(from_utf8_replacements(&bytes)),
+        MeasureCall::FromWtf8Len => answer.number(from_wtf8_len(&bytes)),
         MeasureCall::HasAsciiUnits => answer.truth(has_ascii_units::<E>(&bytes)),
         MeasureCall::IsAscii => answer.truth(is_ascii::<E>(&bytes)),
         MeasureCall::NulOffset => answer.number(nul_offset(&bytes)),
