@@ -34,6 +34,7 @@ export const CALLS = {
     decoder_feed_wtf8: ["stream", "progress"],
     decoder_finish_wtf8: ["stream", "progress"],
     from_wtf8: ["bytesToUtf16", "progress"],
+    from_wtf8_len: ["bytesForUtf16", "size"],
     from_wtf8_partial: ["bytesToUtf16", "progress"],
     wtf8_encoder_feed: ["stream", "progress"],
     wtf8_encoder_finish: ["stream", "progress"],

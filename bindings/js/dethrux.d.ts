@@ -159,6 +159,8 @@ export interface Dethrux {
     toWtf8Len: OfUtf16<number>;
     /** Converts WTF-8 to UTF-16, up to the first ill-formed sequence. */
     fromWtf8: ToUtf16<Uint8Array>;
+    /** Returns the length of what `fromWtf8` writes. */
+    fromWtf8Len: ForUtf16<Uint8Array>;
     /** Converts a chunk like `fromWtf8`, but does not read what more bytes could change. */
     fromWtf8Partial: ToUtf16<Uint8Array>;
 

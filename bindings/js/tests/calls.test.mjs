@@ -144,6 +144,8 @@ test("WTF-8: the bytes of each code point, which give the strings back", () => {
         assert.deepEqual(output, Uint8Array.from([...text].flatMap(generalizedUtf8)));
         assert.equal(stringOf(dethrux.fromWtf8(output).output), text);
         assert.deepEqual(dethrux.fromWtf8(output, "be").output, be(text));
+        assert.equal(dethrux.fromWtf8Len(output), units.length);
+        assert.equal(dethrux.fromWtf8Len(output, "be"), 2 * units.length);
     }
 });
 

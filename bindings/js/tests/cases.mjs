@@ -198,6 +198,7 @@ const CALLS = {
     to_wtf8_partial: fromUtf16("toWtf8Partial", wtf8Size, hex),
     to_wtf8_len: asked("toWtf8Len", [], number),
     from_wtf8: toUtf16("fromWtf8"),
+    from_wtf8_len: (order, [source]) => [dethrux.fromWtf8Len(bytes(source), order)],
     from_wtf8_partial: toUtf16("fromWtf8Partial"),
     from_utf8: toUtf16("fromUtf8", "fromUtf8LossyLen"),
     from_utf8_lossy: fromUtf8Lossy,

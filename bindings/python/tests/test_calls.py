@@ -70,6 +70,7 @@ READERS = {
     "from_utf8_lossy_len": lambda data, order: dethrux.from_utf8_lossy_len(data),
     "from_utf8_replacements": lambda data, order: dethrux.from_utf8_replacements(data),
     "nul_offset": lambda data, order: dethrux.nul_offset(data),
+    "from_wtf8_len": lambda data, order: dethrux.from_wtf8_len(data),
     "detect_bom": lambda data, order: dethrux.detect_bom(data, order),
     "utf_16_le_decode": lambda data, order: _codecs.utf_16_le_decode(data),
     "utf_16_be_decode": lambda data, order: _codecs.utf_16_be_decode(data),

@@ -553,6 +553,7 @@ bool dethrux_is_ascii(P) { HELD; return len; }
 size_t dethrux_from_utf8_len(const void *b, size_t len) { HELD; return len; }
 size_t dethrux_from_utf8_lossy_len(const void *b, size_t len) { HELD; return len; }
 size_t dethrux_from_utf8_replacements(const void *b, size_t len) { HELD; return len; }
+size_t dethrux_from_wtf8_len(const void *b, size_t len) { HELD; return len; }
 #define PROGRESS(name) dethrux_progress dethrux_##name(P, TO) { return p(len, capacity); }
 PROGRESS(to_utf8) PROGRESS(to_utf8_lossy) PROGRESS(to_utf8_partial)
 PROGRESS(from_utf8) PROGRESS(from_utf8_lossy) PROGRESS(to_latin1) PROGRESS(from_latin1)

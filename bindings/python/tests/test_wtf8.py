@@ -55,6 +55,7 @@ class Wtf8(unittest.TestCase):
                 self.assertEqual(dethrux.decode_to_wtf8(raw, order), wtf8)
                 self.assertEqual(dethrux.encode_from_wtf8(wtf8, order), raw)
                 self.assertEqual(dethrux.to_wtf8_len(raw, order), len(wtf8))
+                self.assertEqual(dethrux.from_wtf8_len(wtf8), len(raw))
                 done = (Status.DONE, 0)
                 self.assertEqual(dethrux.to_wtf8(raw, order), (wtf8, len(raw), *done))
                 self.assertEqual(dethrux.from_wtf8(wtf8, order), (raw, len(wtf8), *done))
@@ -90,6 +91,7 @@ class Wtf8(unittest.TestCase):
                     self.assertEqual(found.status != Status.DONE, refused)
                     front = dethrux.from_wtf8(data[: found.read], order)
                     self.assertEqual((front.output, front.status), (found.output, Status.DONE))
+                    self.assertEqual(dethrux.from_wtf8_len(data), len(found.output))
 
     def test_odd_bytes(self):
         for order, codec, raw, wtf8 in each_input():

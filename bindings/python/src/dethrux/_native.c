@@ -60,6 +60,8 @@
       "Convert WTF-8 to UTF-16, up to the first ill-formed sequence.\n\n" \
       "A trailing surrogate directly after a leading one is ill formed: the WTF-8\n" \
       "of a pair is the four bytes of its character.") \
+    X(from_wtf8_len, 1, WTF8, "wtf8", \
+      "Return the length of what ``from_wtf8`` returns for the longest well-formed prefix.") \
     X(from_wtf8_partial, 2, WTF8_CAPACITY, "wtf8, byteorder, capacity=None", \
       "Convert a chunk like ``from_wtf8``, but leave what more bytes could change unread.\n\n" \
       "The status is then ``Status.INCOMPLETE``, and the at most six bytes after\n" \
@@ -151,6 +153,7 @@ static const parameters UTF16_ERRORS = {"utf16", "byteorder", "errors"};
 static const parameters UTF8 = {"utf8"};
 static const parameters UTF8_CAPACITY = {"utf8", "byteorder", "capacity"};
 static const parameters UTF8_ERRORS = {"utf8", "byteorder", "errors"};
+static const parameters WTF8 = {"wtf8"};
 static const parameters WTF8_CAPACITY = {"wtf8", "byteorder", "capacity"};
 static const parameters AROUND = {"around", "byteorder", "at"};
 static const parameters SHARDS = {"length", "count", "index"};

@@ -309,6 +309,7 @@ NUMBER_OF_BYTES(from_utf8_len)
 NUMBER_OF_BYTES(from_utf8_lossy_len)
 NUMBER_OF_BYTES(from_utf8_replacements)
 NUMBER_OF_BYTES(nul_offset)
+NUMBER_OF_BYTES(from_wtf8_len)
 
 /* Bytes to bytes. */
 

@@ -114,7 +114,8 @@ macro_rules! calls {
 calls! {
     dethrux_count_chars dethrux_to_utf8_lossy_len dethrux_to_utf8_replacements dethrux_to_wtf8_len:
         (order: ByteOrder, utf16: *const u8, len: usize) -> usize;
-    dethrux_from_utf8_len dethrux_from_utf8_lossy_len dethrux_from_utf8_replacements:
+    dethrux_from_utf8_len dethrux_from_utf8_lossy_len dethrux_from_utf8_replacements
+    dethrux_from_wtf8_len:
         (utf8: *const u8, len: usize) -> usize;
     dethrux_nul_offset: (utf16: *const u8, len: usize) -> usize;
     dethrux_find dethrux_rfind:

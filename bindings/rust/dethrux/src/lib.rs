@@ -96,7 +96,8 @@ pub use units::{units_as_bytes, units_as_bytes_mut, validate_units, UnitsError};
 #[cfg(feature = "alloc")]
 pub use wtf8::{decode_to_wtf8, encode_from_wtf8, units_from_wtf8, units_to_wtf8};
 pub use wtf8::{
-    from_wtf8, from_wtf8_partial, to_wtf8, to_wtf8_len, to_wtf8_max_len, to_wtf8_partial, Wtf8Error,
+    from_wtf8, from_wtf8_len, from_wtf8_partial, to_wtf8, to_wtf8_len, to_wtf8_max_len,
+    to_wtf8_partial, Wtf8Error,
 };
 #[cfg(all(feature = "std", any(unix, windows)))]
 pub use wtf8::{os_string_from_units, units_from_os_str};

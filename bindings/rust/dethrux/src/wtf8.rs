@@ -65,6 +65,14 @@ pub fn to_wtf8_len(order: ByteOrder, utf16: &[u8]) -> usize {
     unsafe { ffi::dethrux_to_wtf8_len(order, utf16.as_ptr(), utf16.len()) }
 }
 
+/// Returns the length of what [`from_wtf8`] writes for the longest well-formed prefix, in either
+/// byte order.
+#[must_use]
+pub fn from_wtf8_len(wtf8: &[u8]) -> usize {
+    // SAFETY: the pointer and the length come from a slice.
+    unsafe { ffi::dethrux_from_wtf8_len(wtf8.as_ptr(), wtf8.len()) }
+}
+
 /// Returns a capacity in bytes that suffices for the WTF-8 of every input of `len` bytes of UTF-16,
 /// and that some input needs.
 #[must_use]

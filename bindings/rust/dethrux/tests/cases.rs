@@ -90,6 +90,7 @@ const CALLS: [(&str, Call); 43] = [
     ("to_wtf8_len", Raw(|order, utf16| one(to_wtf8_len(order, utf16)))),
     ("from_utf8_len", Raw(|_, utf8| one(from_utf8_len(utf8)))),
     ("from_utf8_lossy_len", Raw(|_, utf8| one(from_utf8_lossy_len(utf8)))),
+    ("from_wtf8_len", Raw(|_, wtf8| one(from_wtf8_len(wtf8)))),
     ("from_utf8_replacements", Raw(|_, utf8| one(from_utf8_replacements(utf8)))),
     ("validate_raw_utf16", Raw(|order, utf16| validity(order, utf16, "done"))),
     ("WStr::from_utf16", Raw(|order, utf16| validity(order, utf16, &hex(utf16)))),

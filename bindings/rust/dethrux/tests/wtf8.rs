@@ -81,6 +81,7 @@ fn both_ways_lose_nothing() {
             units
         );
         assert_eq!(to_wtf8_len(order, utf16), wtf8.len());
+        assert_eq!(from_wtf8_len(wtf8), utf16.len());
     });
     #[cfg(unix)]
     {
