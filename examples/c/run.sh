@@ -4,8 +4,9 @@
 # valgrind. A missing tool is a failure. The last line is 'N passed, M failed'. With --over-ci the
 # library is built over the libraries that rt ci has just proved, and with --library FILE it is not
 # built: FILE is tested. With --headers c it is not built either, and only what tests the headers
-# runs, up to the first failure, or with --headers c++ what tests the one for C++: examples/slips
-# runs this for a wrong line in a header that no shorter test finds.
+# runs, up to the first failure, or with --headers c++ what tests the one for C++, and with --headers
+# alloc dethrux_alloc.h: examples/slips runs this for a wrong line in a header that no shorter test
+# finds.
 set -uo pipefail
 here=$(cd "$(dirname "$0")" && pwd)
 top=$here/../..
@@ -134,28 +135,29 @@ warns() {
 }
 
 # The functions whose result may be ignored, and the ones that only the header uses.
-no_result='(swap_byte_order|make_well_formed|u16_bytes|checked_[a-z]+)\('
+no_result='(swap_byte_order|make_well_formed|u16_bytes|checked_[a-z]+|inner_[a-z0-9_]+)\('
 
 # The names of the other functions that a file calls or declares.
 names() {
     grep -oE "$1[a-z0-9_]+\(" "$2" | sort -u | grep -vE "$no_result"
 }
 
-# Writes a call of each function of the header into a line, with arguments by the types of its
-# parameters, and a program for C99 and C++ that ignores the results.
+# Writes a call of each function of a header into a line, with arguments by the types of its
+# parameters, and a program for C99 and C++ that ignores the results, into a folder.
 write_ignored() {
     local parameters='dethrux_byte_order by, uint8_t *bytes, uint16_t *units, uint32_t *points,'
     parameters+=' size_t len, dethrux_decoder *decoder, dethrux_encoder *encoder,'
     parameters+=' dethrux_wtf8_encoder *wtf8_encoder'
-    gcc -fsyntax-only -aux-info "$room/prototypes" -x c "$top/include/dethrux.h" || return
-    sed -nE 's/.*dethrux\.h:.*[ *](dethrux_[a-z0-9_]+) (\([^()]*\);).*/    \1\2/p' "$room/prototypes" |
+    mkdir -p "$2"
+    gcc -fsyntax-only -aux-info "$room/prototypes" -x c "$top/include/$1.h" || return
+    sed -nE 's/.*'"$1"'\.h:.*[ *](dethrux_[a-z0-9_]+) (\([^()]*\);).*/    \1\2/p' "$room/prototypes" |
         sed -E 's/const //g; s/\(void\)/()/; s/dethrux_((wtf8_)?(decoder|encoder)) \*\w*/\1/g
             s/void \*\w*, size_t( \w+)?/bytes, len/g; s/dethrux_unit \*\w*, size_t( \w+)?/units, len/g
-            s/uint32_t \*\w*, size_t( \w+)?/points, len/g; s/dethrux_byte_order( \w+)?/by/g
-            s/(size_t|uint64_t)( \w+)?/0/g' > "$room/calls.inc"
-    { printf '#include "dethrux.h"\nvoid ignore(%s);\nvoid ignore(%s) {\n' "$parameters" "$parameters"
-        grep -vE "$no_result" "$room/calls.inc"
-        echo '}'; } > "$room/ignored.c"
+            s/dethrux_unit \*\w*/units/g; s/uint32_t \*\w*, size_t( \w+)?/points, len/g
+            s/dethrux_byte_order( \w+)?/by/g; s/(size_t|uint64_t)( \w+)?/0/g' > "$2/calls.inc"
+    { printf '#include "%s.h"\nvoid ignore(%s);\nvoid ignore(%s) {\n' "$1" "$parameters" "$parameters"
+        grep -vE "$no_result" "$2/calls.inc"
+        echo '}'; } > "$2/ignored.c"
 }
 
 # Compiles a file of this folder with sanitizers, and runs a command if that passes.
@@ -197,10 +199,10 @@ checks_all() {
     [ -s "$room/declared" ] && diff /dev/null "$room/missing"
 }
 
-# Whether the program that ignores results calls each function of the header.
-ignores_all() {
-    names dethrux_ "$top/include/dethrux.h" > "$room/declared"
-    names dethrux_ "$room/ignored.c" | diff "$room/declared" -
+# Whether a program calls each function of a header whose result may not be ignored.
+calls_all() {
+    names dethrux_ "$top/include/$1.h" > "$room/declared"
+    names dethrux_ "$2" | grep -xFf "$room/declared" | diff "$room/declared" -
 }
 
 # Whether C++ refuses code units of another size, in text that is read and in text that is changed.
@@ -303,11 +305,11 @@ test_c() {
     count 'the check of UTF-32' in_c fixed c11 && count 'UTF-32 and Latin-1 in C' "$room/fixed"
     count 'the first program in C' in_c first && count 'the page for C' prints_page first C
     count 'the program of the README' in_c resume && count 'resuming' resumes
-    count 'a program that ignores results' write_ignored
+    count 'a program that ignores results' write_ignored dethrux "$room"
     count 'ignored results in C' warns "$room/ignored.c" cc -std=c99
     count 'ignored results in C23' warns "$room/ignored.c" clang "${c23[@]}"
     count 'ignored results in C23 by its attribute' warns_by_standard "${c23[@]}"
-    count 'all results are ignored' ignores_all
+    count 'all results are ignored' calls_all dethrux "$room/ignored.c"
     count 'all functions are checked' checks_all
     count 'two files in C' in_two_files cc -std=c99 -include dethrux.h "$here/first.c" "$room/ignored.c"
     count 'enums of one byte' refuses_short_enums
@@ -322,6 +324,8 @@ memory_in_c() {
     count 'the check in C under valgrind' is_clean check "$room/cases"
     count 'code units under valgrind' is_clean units /dev/null
     count 'UTF-32 under valgrind' is_clean fixed /dev/null
+    count 'memory under valgrind' is_clean alloc /dev/null
+    count 'a field under valgrind' is_clean field /dev/null
     head -c -1 "$room/cut" > "$room/whole"
     count 'the program of the README under valgrind' is_clean resume "$room/whole"
     count 'the first program under valgrind' is_clean first /dev/null
@@ -332,6 +336,7 @@ test_sanitizers() {
     local with
     for with in 'gcc address,undefined' 'gcc thread' 'clang address,undefined' 'clang memory'; do
         count "the cases by $with" sanitized $with check check_c sanitized
+        count "memory by $with" sanitized $with alloc "$room/sanitized"
     done
     count 'what calls write, by MemorySanitizer' sanitized clang memory resume resumes sanitized
     count 'what decoders write, by MemorySanitizer' sanitized clang memory decode decodes sanitized
@@ -354,6 +359,49 @@ test_c_in_cxx() {
     count 'code units of another size in C++' refuses_other_sizes
     count 'the check of code units in C++' c_in_cxx units && count 'code units in C++' "$room/units_cxx"
     count 'the check of UTF-32 in C++' c_in_cxx fixed && count 'UTF-32 in C++' "$room/fixed_cxx"
+}
+
+# Whether a header gives no warning, in each standard.
+has_no_warning() {
+    local compiler standard words
+    printf '#include "dethrux_alloc.h"\n' > "$room/header.c"
+    for standard in c99 c11 c17 c++{11,14,17,20}; do
+        words='c -Wc++-compat'
+        [[ $standard == c1* || $standard == c99 ]] || words='c++ -Wold-style-cast'
+        for compiler in gcc clang; do
+            $compiler -std=$standard -x $words -Wall -Wextra -Wpedantic -Wconversion -Wsign-conversion \
+                -Wshadow -Werror "-I$top/include" -fsyntax-only "$room/header.c" "$here/alloc.c" || return
+        done
+    done
+}
+
+# Whether an allocator that lacks one or two functions is refused.
+refuses_allocators() {
+    local words malloc=-DDETHRUX_MALLOC realloc=-DDETHRUX_REALLOC free=-DDETHRUX_FREE
+    for words in $malloc $realloc $free "$malloc $realloc" "$malloc $free" "$realloc $free"; do
+        ! cc -std=c99 $words "-I$top/include" -fsyntax-only "$room/header.c" 2> "$room/refused" &&
+            grep -q 'or none of them' "$room/refused" || return
+    done
+}
+
+# The program of docs/C.md with a field, which uses malloc.
+prints_field() {
+    diff <(printf 'B\xC3\xA4r, 4 bytes\nB..\n') <("$room/field")
+}
+
+# dethrux_alloc.h, in C and in C++.
+test_alloc() {
+    local ignored=$room/alloc_calls/ignored.c
+    count 'the check of memory' in_c alloc && count 'memory in C' "$room/alloc"
+    count 'the check of memory in C++' c_in_cxx alloc && count 'memory in C++' "$room/alloc_cxx"
+    count 'the program with a field' in_c field && count 'a field' prints_field
+    count 'no warnings of memory' has_no_warning && count 'half an allocator' refuses_allocators
+    count 'a program that ignores memory' write_ignored dethrux_alloc "${ignored%/*}"
+    count 'ignored memory in C' warns "$ignored" cc -std=c99
+    count 'ignored memory in C++' warns "$ignored" c++ -std=c++17 -x c++
+    count 'all memory is ignored' calls_all dethrux_alloc "$ignored"
+    count 'all calls of memory are checked' calls_all dethrux_alloc "$here/alloc.c"
+    count 'memory in two files' in_two_files cc -std=c99 -include dethrux_alloc.h "$here/field.c" "$ignored"
 }
 
 test_cxx() {
@@ -395,9 +443,11 @@ if ! has cc 'C' || ! has c++ 'C++'; then
     result
     exit
 fi
-[ "$headers" = c++ ] || test_c
-[ "$headers" = c++ ] || test_c_in_cxx
-test_cxx
+case $headers in
+    '' | c) test_c; test_c_in_cxx ;;&
+    '' | alloc) test_alloc ;;&
+    '' | c | c++) test_cxx ;;
+esac
 if [ -z "$headers" ]; then
     has valgrind 'memory in C and C++' && memory_in_c && memory_in_cxx
     test_sanitizers
