@@ -109,12 +109,12 @@ programs_run() {
         printf '\xAC\x20\x3D\xD8\x00\xDE' | "${@:2}" "$1/utf16_check" le
 }
 
-# Prints the functions that the header in a folder declares with these words, according to the
-# compiler.
+# Prints the functions that a header in a folder, dethrux.h or another one, declares with these
+# words, according to the compiler.
 declared() {
-    gcc -fsyntax-only -aux-info "$room/prototypes" -x c "$1/dethrux.h" &&
-        sed -nE "s/.*dethrux\.h:.* ($2) .*[ *](dethrux_[a-z0-9_]+) \(.*/\2/p" "$room/prototypes" |
-        sort
+    gcc -fsyntax-only -aux-info "$room/prototypes" -x c "$1/${3-dethrux}.h" &&
+        sed -nE "/dethrux_inner_/d; s/.*${3-dethrux}\.h:.* ($2) .*[ *](dethrux_[a-z0-9_]+) \(.*/\2/p" \
+            "$room/prototypes" | sort
 }
 
 # Tests that the symbols that this command lists are the functions of the header.

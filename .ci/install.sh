@@ -34,16 +34,18 @@ says() {
     [ $found = "$status" ] && [ "$(wc -l < "$room/line")" = 1 ] && grep -qF -- "$words" "$room/line"
 }
 
-# Tests that the library and each function of the header have a page, and that one page declares all
-# functions on code units.
+# Tests that the library and each function of the headers have a page, that one page declares all
+# functions on code units, and another one all of dethrux_alloc.h.
 has_pages() {
     local pages=$prefix/share/man/man3
-    declared "$prefix/include" 'extern|static' > "$room/declared" || return
+    declared "$prefix/include" 'extern|static' > "$room/declared" &&
+        declared "$prefix/include" static dethrux_alloc > "$room/alloc" || return
     (cd "$pages" && printf '%s\n' *.3) | sed 's/\.3$//' | sort |
-        diff <(printf '%s\n' dethrux{,_u16} | sort - "$room/declared") - &&
+        diff <(printf '%s\n' dethrux{,_u16,_alloc} | sort - "$room"/{declared,alloc}) - &&
         grep '^dethrux_u16_' "$room/declared" > "$room/units" &&
         sed -n 's/^\.Fo //p' "$pages/dethrux_u16.3" | sort | diff "$room/units" - &&
-        cmp "$pages"/dethrux_u16{,_find}.3
+        sed -n 's/^\.Fo //p' "$pages/dethrux_alloc.3" | sort | diff "$room/alloc" - &&
+        cmp "$pages"/dethrux_u16{,_find}.3 && cmp "$pages"/dethrux_alloc.3 "$pages"/dethrux_u16_strlen.3
 }
 
 config() {

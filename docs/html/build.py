@@ -30,7 +30,7 @@ WORDS = {
     "see": "The proved decoder on your bytes, in a page that you can also open without a network.",
     "tree": "Guides to the library, what it promises and why, and how to change it.",
     "rattle": "The crates: each public item with its contract, and links to the definitions.",
-    "c": "The headers <code>dethrux.h</code> and <code>dethrux.hpp</code>.",
+    "c": "The headers <code>dethrux.h</code>, <code>dethrux_alloc.h</code> and <code>dethrux.hpp</code>.",
     "python": "The package <code>dethrux</code>.",
     "rust": "The crates <code>dethrux</code> and <code>utf16string</code>.",
     "man": "The programs <code>utf16_cat</code>, <code>utf16_enc</code> and <code>utf16_check</code>, and each call for C.",

@@ -25,9 +25,10 @@ NAME = re.compile(r"<(a|h[12]|title)\b.*?</\1>|<[^>]*>|\b((?:dethrux|DETHRUX)_\w
 HEADERS = """# C and C++
 
 - [`dethrux.h`](dethrux_8h.html): the calls between buffers that you own.
+- [`dethrux_alloc.h`](dethrux__alloc_8h.html): texts that end with a NUL, in new memory.
 - [`dethrux.hpp`](dethrux_8hpp.html): functions over strings, for C++17.
-- [The calls of both by subject](modules.html).
-- [The types of both](annotated.html).
+- [The calls of all by subject](modules.html).
+- [The types of all](annotated.html).
 
 [C](../tree/docs/C.html) and [CPP](../tree/docs/CPP.html) are the guides.
 """
