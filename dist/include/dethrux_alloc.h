@@ -22,8 +22,9 @@
  * write to your buffer what fits, cut between characters.
  *
  * To convert a text up to its NUL, pass the length that strlen, wcslen or dethrux_u16_strlen
- * returns. A field of a fixed size may lack a NUL: pass what a call with `strnlen` in its name
- * returns, the offset of the first NUL or the size of the field, whichever is less.
+ * returns. A field of a fixed size may lack a NUL: pass what dethrux_nul_offset,
+ * dethrux_u16_nul_offset or dethrux_utf8_strnlen returns, the offset of the first NUL or the size
+ * of the field, whichever is less.
  *
  * The calls with `u16` in their names take and return UTF-16 in the machine's byte order, and count
  * its code units, as the dethrux_u16 calls of dethrux.h do.
@@ -146,22 +147,6 @@ DETHRUX_INLINE_U16 size_t dethrux_u16_strlen(const dethrux_unit *utf16) {
         at++;
     }
     return at;
-}
-
-/** Returns the number of bytes before the first NUL of UTF-16, or `max` if none is before it. */
-DETHRUX_INLINE size_t dethrux_utf16_strnlen(const void *utf16, size_t max) {
-    /* The only search for a NUL in UTF-16 of a known size. */
-    const char *bytes = DETHRUX_CAST(const char *, utf16);
-    size_t at = 0;
-    while (max - at >= 2 && (bytes[at] != 0 || bytes[at + 1] != 0)) {
-        at += 2;
-    }
-    return max - at >= 2 ? at : max;
-}
-
-/** Returns the number of code units before the first NUL, or `max` if none is before it. */
-DETHRUX_INLINE_U16 size_t dethrux_u16_strnlen(const dethrux_unit *utf16, size_t max) {
-    return dethrux_utf16_strnlen(DETHRUX_U16_BYTES(utf16), dethrux_inner_bytes(max)) / 2;
 }
 
 /** Returns the number of bytes before the first NUL of UTF-8, or `max` if none is before it. */

@@ -5,7 +5,7 @@
 
 int main(void) {
     const uint8_t field[12] = {'B', 0, 0xE4, 0, 'r', 0, 0, 0, '?', 0, '?', 0};
-    size_t len = dethrux_utf16_strnlen(field, sizeof field);
+    size_t len = dethrux_nul_offset(field, sizeof field);
 
     dethrux_utf8_text name = dethrux_to_utf8_alloc(DETHRUX_LITTLE_ENDIAN, field, len);
     if (name.status != DETHRUX_DONE) {
