@@ -10,7 +10,7 @@ sources=$top/packaging/test
 version=$(< "$top/VERSION")
 soname=libdethrux.so.${version%.*}
 with_avx2=glibc-hwcaps/x86-64-v3
-packages=(libdethrux0.2 libdethrux-dev dethrux-tools)
+packages=(libdethrux0.2 libdethrux-dev dethrux-tools dethrux-iconv)
 sanitizers=(address undefined leak thread)
 room=$(mktemp -d)
 purge=false
@@ -180,7 +180,7 @@ makes_same_release() {
         "$top/packaging/release.sh" "$room/second" && diff -r "$room/first" "$room/second" &&
         diff <(printf '%s\n' SHA256SUMS "dethrux-$version"{,-{dist,{x86_64,aarch64}-linux-gnu}}.tar.gz \
             "dethrux-$version"{.crate,.tgz,-x86_64-windows.zip} \
-            {dethrux-tools,libdethrux{-dev,0.2}}"_${version}_"{amd,arm}64.deb | sort) \
+            {dethrux-{iconv,tools},libdethrux{-dev,0.2}}"_${version}_"{amd,arm}64.deb | sort) \
             <(cd "$room/first" && printf '%s\n' * | grep -v "^dethrux-$version-.*\.whl$" | sort) &&
         (cd "$room/first" && sha256sum -c SHA256SUMS)
 }
@@ -215,12 +215,19 @@ builds_sources() {
         "${make[@]}" install PREFIX="$room/built" && diff -r "$room/built" "$prefix"
 }
 
+# Tests that iconv takes the module: from this folder, or without one from the system.
+takes_module() {
+    printf 'x\0' | LD_DEBUG=files LD_LIBRARY_PATH=$1 env ${1:+GCONV_PATH="$1/gconv"} \
+        iconv -f UTF-16LE -t UTF-8 2>&1 | grep -a 'calling init: .*/DETHRUX\.so$'
+}
+
 # Compiles and runs programs with the packages below a folder.
 packages_run() {
     local lib=$1/usr/lib/x86_64-linux-gnu
     [ -e "$lib/$with_avx2/$soname" ] &&
         compile "$(PKG_CONFIG_PATH=$lib/pkgconfig pkg-config --cflags --libs dethrux)" &&
-        LD_LIBRARY_PATH=$lib "$room/program" && by_cmake "$1/usr" && programs_run "$1/usr/bin"
+        LD_LIBRARY_PATH=$lib "$room/program" && by_cmake "$1/usr" && programs_run "$1/usr/bin" &&
+        takes_module "${1:+$lib}"
 }
 
 packages_run_unpacked() {
@@ -239,7 +246,7 @@ apt_get() {
 packages_run_installed() {
     purge=true
     apt_get install "$room"/first/*_amd64.deb && packages_run '' &&
-        apt_get purge "${packages[@]}" && purge=false
+        apt_get purge "${packages[@]}" && purge=false && ! takes_module ''
 }
 
 need "${for_arm64[@]}" x86_64-w64-mingw32-gcc:gcc-mingw-w64-x86-64 gcc:gcc g++:g++ clang:clang \
