@@ -172,7 +172,7 @@ int gconv(struct __gconv_step *step, struct __gconv_step_data *data, const unsig
     int consume_incomplete) {
     (void)consume_incomplete;
     if ((data->__flags & __GCONV_IS_LAST) == 0) {
-        /* Only glibc can call the next step. The costs in dethrux.conf leave none after this one. */
+        /* Only glibc can call the next step. By the costs in dethrux.conf there is none. */
         return __GCONV_ILLEGAL_DESCRIPTOR;
     }
     int *state = &data->__statep->__count;

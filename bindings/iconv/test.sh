@@ -97,8 +97,8 @@ takes_its_own() {
 
 # == a program that nobody changed
 
-# Adds files in two forms of UTF-16 to a repository of git and takes them out again, with the module,
-# and compares the number of bytes that the library read.
+# Adds files in two forms of UTF-16 to a repository of git and takes them out again, with the
+# module, and compares the number of bytes that the library read.
 in_git() {
     local big utf8 expected
     big=$(stat -c %s "$room/texts/long.UTF-16LE")
@@ -130,13 +130,13 @@ is_refused() {
 
 # Tests this with a library that is missing, and with one whose version is too old.
 without_library() {
-    local alone=$room/alone call
+    local alone=$room/alone
     mkdir "$alone" && cp "$here/dethrux.conf" "$alone/gconv-modules" &&
         make -s -C "$here" CC="${CC:-cc}" BUILD="$room/built" "$room/built/system/DETHRUX.so" &&
         cp "$room/built/system/DETHRUX.so" "$alone" && GCONV_PATH=$alone is_refused || return
-    for call in $(nm -D --undefined-only "$alone/DETHRUX.so" | sed -n 's/.* U \(dethrux_\)/\1/p'); do
-        echo "int $call(void) { return 1; }"
-    done | "${CC:-cc}" -shared -fPIC -x c - -Wl,-soname,libdethrux.so.0.2 \
+    nm -D --undefined-only "$alone/DETHRUX.so" |
+        sed -n 's/.* U \(dethrux_.*\)/int \1(void) { return 1; }/p' |
+        "${CC:-cc}" -shared -fPIC -x c - -Wl,-soname,libdethrux.so.0.2 \
         -o "$alone/libdethrux.so.0.2" &&
         LD_LIBRARY_PATH=$alone GCONV_PATH=$alone is_refused &&
         LD_LIBRARY_PATH=$library GCONV_PATH=$alone iconv -f UTF-16LE "$room/texts/short.UTF-16LE" |
@@ -161,7 +161,7 @@ list() {
     (cd "$system" && find . -type f -exec sha256sum {} + | sort && find . -type d | sort)
 }
 
-# Makes a system of iconv, its modules and the libraries, installs the module in it, and takes it out.
+# Makes a system of iconv, its modules and the libraries, and installs the module there for a while.
 installation() {
     local file words=(make -s -C "$here" "CC=${CC:-cc}" "DESTDIR=$system")
     for file in $(ldd "$(command -v iconv)" | grep -o '/[^ ]*') "$(command -v iconv)"; do
@@ -189,7 +189,7 @@ need make:make git:git iconv:libc-bin iconvconfig:libc-bin nm:binutils || finish
 check 'make' make -s -C "$here" CC="${CC:-cc}" || finish
 folder=$(make -s -C "$here" CC="${CC:-cc}" folder)
 library=$(make -s -C "$top/dist" CC="${CC:-cc}" folder)
-gconv=$(dirname "$(find /usr/lib/*/gconv /usr/lib64/gconv -name UTF-16.so 2> /dev/null | head -n 1)")
+gconv=$(dirname "$(find /usr/lib/{*/,}gconv -name UTF-16.so 2> "$room/said" | head -n 1)")
 system=$room/system
 mkdir "$room/private"
 cp "$folder/DETHRUX.so" "$room/private"

@@ -1,7 +1,7 @@
 /* SPDX-License-Identifier: MIT OR Apache-2.0 */
 
-/* Is preloaded, and counts what a program converts through the library: at its end it adds a line to
- * the file COUNTED, with the number of calls and of the bytes that they read. */
+/* Is preloaded, and counts what a program converts through the library: at its end it adds a line
+ * to the file COUNTED, with the number of calls and of the bytes that they read. */
 #include <dethrux.h>
 
 #include <dlfcn.h>
