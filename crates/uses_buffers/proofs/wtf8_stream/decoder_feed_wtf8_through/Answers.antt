@@ -43,8 +43,7 @@ returns-clause-odd g c =
     let fed = c.in_ok-all in
     let room : 4 ≤ length call.new.to = omega arith in
     let fits = end_fits (wtf8_parts g.E.Utf16Order.BIG) generalized_utf8 (wtf8_chunks g.E.Utf16Order.BIG) utf8_short (stream_pending fed.stream) in
-    let not_full : call.result.stop ≢ NoSpace = (λ full. omega (arith, call.ensures.no_space.0 full, fits, room)) in
-    (
+    let not_full : call.result.stop ≢ NoSpace = (λ full. omega (arith, call.ensures.no_space.0 full, fits, room)) in (
       (λ yes. absurd (cc)),
       (λ odd. absurd (c.in_default.not-Incomplete (call.ensures.incomplete.1 (not_full, omega (arith, odd, ap length fed.ensures.pending))))),
     )
