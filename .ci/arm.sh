@@ -27,7 +27,7 @@ tables() {
     make -s -C "$top/dist" CC="$1" check > "$room/tables"
     local status=$?
     cat "$room/tables"
-    [ $status = 0 ] && [ "$(grep -cxE '[0-9]+ passed, 0 failed' "$room/tables")" = 5 ]
+    [ $status = 0 ] && [ "$(grep -cxE '[0-9]+ passed, 0 failed' "$room/tables")" = 6 ]
 }
 
 # Tests that the shared library has its name, needs only libc, and only what glibc 2.17 has, the

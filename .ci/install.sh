@@ -211,7 +211,7 @@ installs_for_arm64() {
 builds_sources() {
     local make=(make -C "$room/dethrux-$version-dist/dist")
     unpacks dist && "${make[@]}" check > "$room/checked" &&
-        [ "$(grep -cE '^[1-9][0-9]* passed, 0 failed$' "$room/checked")" = 5 ] &&
+        [ "$(grep -cE '^[1-9][0-9]* passed, 0 failed$' "$room/checked")" = 6 ] &&
         "${make[@]}" install PREFIX="$room/built" && diff -r "$room/built" "$prefix"
 }
 

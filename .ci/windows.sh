@@ -89,7 +89,7 @@ build_and_check() {
     make -C "$dist" "BUILD=$folder" "RUN=$wine" "$@" check | tr -d '\r' > "$room/tables"
     local status=${PIPESTATUS[0]}
     cat "$room/tables"
-    [ "$status" = 0 ] && [ "$(grep -cxE '[0-9]{3,} passed, 0 failed' "$room/tables")" = 5 ]
+    [ "$status" = 0 ] && [ "$(grep -cxE '[0-9]{3,} passed, 0 failed' "$room/tables")" = 6 ]
 }
 
 # Compiles a program and compares all that it prints with the block of text of a page. Windows ends
