@@ -71,7 +71,7 @@ enum Call {
 use Call::{Any, Raw, RawAndRaw, RawAndWord, ToBytes, ToText, WordAndRaw};
 
 #[rustfmt::skip]
-const CALLS: [(&str, Call); 43] = [
+const CALLS: [(&str, Call); 44] = [
     ("to_utf8", ToText(to_utf8)),
     ("to_utf8_partial", ToText(to_utf8_partial)),
     ("to_utf8_lossy", ToText(to_utf8_lossy)),
