@@ -399,7 +399,7 @@ has_files() {
     (cd "$1" && find . -type f -printf '%P\n' | sort) | diff <(printf '%s\n' CHANGELOG.md \
         LICENSE-{APACHE,MIT} README.md SHA256SUMS THIRD-PARTY.md VERSION \
         bin/{dethrux.dll,utf16_{cat,check,enc}.exe} docs/{C,CPP,INSTALL}.md \
-        include/dethrux.{h,hpp} \
+        include/dethrux{.h,.hpp,_alloc.h} \
         lib/{cmake/dethrux/dethruxConfig{,Version}.cmake,dethrux.def,libdethrux.{a,dll.a}} \
         lib/pkgconfig/dethrux.pc | sort) -
 }
