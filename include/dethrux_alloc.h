@@ -43,7 +43,7 @@
 #error "define DETHRUX_MALLOC, DETHRUX_REALLOC and DETHRUX_FREE, or none of them"
 #endif
 
-/** The status if there is no memory. Every dethrux_status is less. */
+/** The status after a failed allocation, greater than every dethrux_status. */
 #define DETHRUX_NO_MEMORY 256u
 
 /** A text in UTF-8 in new memory, or the reason why there is none. */
@@ -165,7 +165,7 @@ DETHRUX_INLINE size_t dethrux_utf8_strnlen(const void *utf8, size_t max) {
  * @return the text, or none with one of these statuses:
  * - DETHRUX_ILL_FORMED: an unpaired surrogate follows `read`
  * - DETHRUX_INCOMPLETE: the input ends inside a character, which follows `read`
- * - DETHRUX_NO_MEMORY: there is no memory, and `read` is 0
+ * - DETHRUX_NO_MEMORY: the allocation failed, and `read` is 0
  */
 DETHRUX_INLINE dethrux_utf8_text dethrux_to_utf8_alloc(
     dethrux_byte_order byte_order, const void *utf16, size_t len) {
@@ -196,7 +196,7 @@ DETHRUX_INLINE_U16 dethrux_utf8_text dethrux_u16_to_utf8_lossy_alloc(
  * @return the text, or none with one of these statuses:
  * - DETHRUX_ILL_FORMED: an ill-formed sequence follows `read`
  * - DETHRUX_INCOMPLETE: the input ends inside a character, which follows `read`
- * - DETHRUX_NO_MEMORY: there is no memory, and `read` is 0
+ * - DETHRUX_NO_MEMORY: the allocation failed, and `read` is 0
  */
 DETHRUX_INLINE dethrux_utf16_text dethrux_from_utf8_alloc(
     dethrux_byte_order byte_order, const void *utf8, size_t len) {

@@ -4,9 +4,9 @@
 # valgrind. A missing tool is a failure. The last line is 'N passed, M failed'. With --over-ci the
 # library is built over the libraries that rt ci has just proved, and with --library FILE it is not
 # built: FILE is tested. With --headers c it is not built either, and only what tests the headers
-# runs, up to the first failure, or with --headers c++ what tests the one for C++, and with --headers
-# alloc dethrux_alloc.h: examples/slips runs this for a wrong line in a header that no shorter test
-# finds.
+# runs, up to the first failure, or with --headers c++ what tests the one for C++, and with
+# --headers alloc what tests dethrux_alloc.h: examples/slips runs this for a wrong line in a header
+# that no shorter test finds.
 set -uo pipefail
 here=$(cd "$(dirname "$0")" && pwd)
 top=$here/../..

@@ -8,7 +8,8 @@
  *
  *     GCONV_PATH=FOLDER calls [CALLS [SEED]]
  *
- * The last line is 'N passed, M failed', which counts pairs of forms with a suffix, and refusals. */
+ * The last line is 'N passed, M failed', which counts pairs of forms with a suffix, and
+ * refusals. */
 #include <errno.h>
 #include <iconv.h>
 #include <stdbool.h>
