@@ -138,11 +138,14 @@ impl<E: Utf16Order> LossyDirection for FromUtf8<E> {
 ///
 /// # Complexity
 ///
-/// Two passes.
+/// Two passes, or three if the bytes are not UTF-8.
 pub fn from_utf8_lossy_len(text: &[u8]) -> usize
     ensures size { result ≡ size (text_of_utf8 text.now) }
     ensures most { result ≤ 2 * length text.now }
 {
+    if let Ok(text) = simdutf8::basic::from_utf8(text) {
+        return utf16_len(text);
+    }
     let mut size = 0;
     for chunk in text.utf8_chunks() {
         size += utf16_len(chunk.valid());

@@ -43,11 +43,11 @@ pub fn to_utf8_lossy_len<E: Utf16Order>(raw: &[u8]) -> usize
 ///
 /// # Complexity
 ///
-/// Two passes.
+/// Two passes, or three if the bytes are not UTF-8.
 pub fn from_utf8_len(text: &[u8]) -> usize
     ensures { result ≡ size (chars (take (utf8_valid_len text.now) text.now)) }
 {
-    match str::from_utf8(text) {
+    match simdutf8::compat::from_utf8(text) {
         Ok(text) => utf16_len(text),
         Err(error) => {
             utf16_len(unsafe { str::from_utf8_unchecked(&text[..error.valid_up_to()]) })

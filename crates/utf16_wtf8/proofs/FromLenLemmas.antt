@@ -1,5 +1,5 @@
 -- The length of the UTF-16 of WTF-8: what was read so far, and that it is what a call writes.
-use Rattle.std.proofs.Common.{◌≡◌, ◌≢◌, ◌⊎◌, inl, inr, ℕ, ◌+◌, ◌-◌, ◌*◌, ◌<◌, ◌≤◌, Bool, true, false, List, [], ◌∷◌, ◌++◌, flat_map, length, take, drop, refl, sym, ap, ap₂, ◌∙◌, subst, ⊎_elim, arith, append-nil, length-append, length-drop, length-take-le, take-add, take_all, take_at}
+use Rattle.std.proofs.Common.{◌≡◌, ◌≢◌, ◌⊎◌, inl, inr, ℕ, ◌+◌, ◌-◌, ◌*◌, ◌<◌, ◌≤◌, Bool, true, false, List, [], ◌∷◌, ◌++◌, flat_map, length, take, drop, refl, sym, ap, ap₂, ◌∙◌, subst, ⊎_elim, arith, eqb, eq-eqb, ne_eqb, append-nil, length-append, length-drop, length-take-le, take-add, take_all, take_at}
 use borrow.Rule.Slice.PartMut.{put_mid}
 use Rattle.std.proofs.lemmas.Bool.{cases_lt}
 use Rattle.std.proofs.lemmas.List.{take_rest}
@@ -111,6 +111,15 @@ module _ (wtf8 text : List ℕ) (read len : ℕ) (leading : Bool) (counts : Coun
     subst (λ n. ReadsWtf8 false wtf8 new (read + length text) (len + n) leads) (length-encode false (chars text))
         (Reads-text false wtf8 (front ++ part) part read len (length text) (length part) leading longer encoded (omega (arith, length-append front part, front_len)) leads nothing some),
   )
+
+  -- after a leading surrogate, if there is one and the text is empty
+  pub Counts-next : (leads : Bool) (n : ℕ) → n ≡ size (chars text) → ((leading ≡ true) × (leads ≡ eqb (length text) 0)) ⊎ ((leading ≡ false) × (leads ≡ leading))
+      → Counts wtf8 (read + length text) (len + n) leads
+  Counts-next leads n is how = subst (λ n. Counts wtf8 (read + length text) (len + n) leads) (sym is) (⊎_elim
+      (λ (was : (leading ≡ true) × (leads ≡ eqb (length text) 0)).
+      Counts-text leads (λ none. was.1 ∙ eq-eqb (length text) 0 none ∙ sym was.0) (λ some. was.1 ∙ ne_eqb (length text) 0 (λ none. omega arith)))
+      (λ (wasnt : (leading ≡ false) × (leads ≡ leading)). Counts-text leads (λ none. wasnt.1) (λ some. wasnt.1 ∙ wasnt.0))
+      how)
 
   pub text_fits : len + size (chars text) ≤ 2 * length wtf8
   text_fits = ⊎_elim

@@ -12,7 +12,7 @@ use Rattle.utf16_wtf8.specs.FromWtf8.{EndsLeading, IsIllFormedWtf8, LeavesLeadin
 use Rattle.utf16_wtf8.specs.Stream.{FeedsWtf8, StopsFeedingWtf8, encoded_len}
 use Rattle.utf16_wtf8.specs.Wtf8.{SpellsWtf8, generalized_utf8}
 use Rattle.utf16_wtf8.proofs.FewLemmas.{few_left}
-use Rattle.utf16_wtf8.proofs.LongerLemmas.{IsDecided, Wrote-longer, not_cut, not_done}
+use Rattle.utf16_wtf8.proofs.LongerLemmas.{IsDecided, Wrote-longer, not_cut, not_done, stops_longer}
 use Rattle.utf16_wtf8.proofs.SeamLemmas.{IsSeam, Wrote-behind, fits_behind, stops_behind}
 
 -- the first twelve bytes of pending bytes and a chunk
@@ -33,6 +33,24 @@ all_joined bytes window is few = is ∙ take_all 12 bytes (omega (arith, few, ap
 
 pub window_joined : (bytes window : List ℕ) → window ≡ take 12 bytes → window ++ drop 12 bytes ≡ bytes
 window_joined bytes window is = ap (λ w. w ++ drop 12 bytes) is ∙ take-append-drop 12 bytes
+
+-- what a call for a window that holds not all bytes did, it did for all bytes, unless it read all
+module _ (big : Bool) (pending chunk window : List ℕ) (is : window ≡ take 12 (pending ++ chunk)) where
+  pub Wrote-window : (to : List ℕ) (read written : ℕ) → Wrote (TranscodesFromWtf8 big) window to read written
+      → Wrote (TranscodesFromWtf8 big) (pending ++ chunk) to read written
+  Wrote-window to read written wrote =
+      subst (λ b. Wrote (TranscodesFromWtf8 big) b to read written) (window_joined (pending ++ chunk) window is)
+      (Wrote-longer big window (drop 12 (pending ++ chunk)) to read written wrote)
+
+  pub stops_window : (read room : ℕ) (stop : Stop) → IsDecided stop → StopsFromWtf8Partial big window read room stop
+      → StopsFromWtf8Partial big (pending ++ chunk) read room stop
+  stops_window read room stop decided here =
+      subst (λ b. StopsFromWtf8Partial big b read room stop) (window_joined (pending ++ chunk) window is)
+      (stops_longer big window (drop 12 (pending ++ chunk)) read room stop decided here)
+
+  pub window_within : (read : ℕ) → read ≤ length window → read - length pending ≤ length chunk
+  window_within read within =
+      omega (arith, within, ap length (window_joined (pending ++ chunk) window is), length-append window (drop 12 (pending ++ chunk)), length-append pending chunk)
 
 -- the rest of the chunk, after all pending bytes
 pub behind_pending : (pending chunk : List ℕ) (read : ℕ) → length pending ≤ read → rest_from chunk (read - length pending) ≡ drop read (pending ++ chunk)

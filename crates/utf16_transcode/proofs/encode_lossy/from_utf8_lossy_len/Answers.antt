@@ -1,8 +1,10 @@
-use Rattle.std.proofs.Common.{◌≡◌, ◌+◌, ◌*◌, ◌≤◌, ◌<◌, length, arith, rules, ap, ◌∙◌, subst}
+use Rattle.std.proofs.Common.{◌≡◌, ◌+◌, ◌*◌, ◌≤◌, ◌<◌, length, arith, rules, sym, ap, ◌∙◌, subst}
+use Rattle.std.proofs.lemmas.Str.{utf8_lossy-IsUtf8}
 use Rattle.std.specs.Str.{IsUtf8, chars}
 use Rattle.std.specs.Str.Chunks.{utf8_chunks_rest}
 use Rattle.utf16_units.specs.Encoding.{size}
 use Rattle.utf16_units.proofs.EncodingLemmas.{size-nil}
+use Rattle.utf16_units.proofs.SizeLemmas.{size-le}
 use Rattle.utf16_transcode.proofs.EncodeLossyLemmas.{chunk-most, size-chunk, size-last, text-empty}
 use Rattle.utf16_transcode.proofs.encode_lossy.from_utf8_lossy_len.Goals as goal
 use Rattle.utf16_transcode.proofs.encode_lossy.from_utf8_lossy_len.Goals.{After-utf16_len-size}
@@ -47,3 +49,12 @@ pub returns-clause-size : goal.returns-clause-size
 returns-clause-size c =
     let left = ap size (text-empty _ c.in-None.ensures.steps.0) ∙ size-nil in
     omega (arith, c.loop-chunk.invariant.0)
+
+pub returns-in-Ok-clause-size : goal.returns-in-Ok-clause-size
+returns-in-Ok-clause-size c =
+    c.utf16_len.ensures ∙ ap (λ b. size (chars b)) (c.in-Ok.ensures.0 ∙ sym (utf8_lossy-IsUtf8 c.args.text.now c.in-Ok.ensures.1))
+
+pub returns-in-Ok-clause-most : goal.returns-in-Ok-clause-most
+returns-in-Ok-clause-most c =
+    let is = ap (λ b. size (chars b)) c.in-Ok.ensures.0 in
+    omega (arith, c.utf16_len.ensures, is, size-le c.args.text.now c.in-Ok.ensures.1)

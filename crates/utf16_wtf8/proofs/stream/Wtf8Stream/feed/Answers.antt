@@ -28,8 +28,7 @@ module _ (g : Over) (c : After-joined_start-len g) where
   few = many_read g.E.Utf16Order.BIG _ _ _ c.from_joined-front.result.stop c.in-Done.is c.from_joined-front.ensures.stop
 
   tail : take c.joined_start-len.result.1 c.joined_start-len.result.0 ≡ drop c.from_joined-front.result.read (c.pending-pending.result.now ++ c.args.chunk.now)
-  tail =
-      tail_joined c.pending-pending.result.now c.args.chunk.now _ _ _ c.from_joined-front.result.read c.rest_of.ensures.left c.rest_of.ensures.chunk c.joined_start-len.ensures.bytes few
+  tail = tail_joined c.pending-pending.result.now c.args.chunk.now _ _ _ c.from_joined-front.result.read c.rest_of.ensures.left c.rest_of.ensures.chunk c.joined_start-len.ensures.bytes few
 
 pub holding-requires-in-Done : goal.holding-requires-in-Done
 holding-requires-in-Done g c =
