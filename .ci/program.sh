@@ -24,7 +24,7 @@ case ${RUN-}${OS-} in
 esac
 export WINEDEBUG=-all
 [ -z "$preload" ] ||
-    ${CC:-cc} -O2 -Wall -shared -fPIC -o faults.so "$top/bench/faults.c" -ldl || exit 1
+    ${CC:-cc} -O2 -Wall -shared -fPIC -o faults.so "$top/.ci/faults.c" -ldl || exit 1
 mkdir folder
 # The rows of the table, with a tab between columns.
 sed -E '/^(#|$)/d; s/ {2,}/\t/g' "$top/.ci/program.txt" > rows || exit 1
@@ -64,27 +64,39 @@ with_little_memory() {
 # Descriptor 9 gets a byte if the call is made, and one for each later write to where a write
 # failed.
 with_fault() {
-    FAULT_KIND=$1 FAULT_AT=$2 env "$preload=$PWD/faults.so" "$P" "${@:3}"
+    FAULT_KIND=$1 FAULT_AT=$2 timeout 60 env "$preload=$PWD/faults.so" "$P" "${@:3}"
 }
 
-# Runs $P with these arguments and each allocation failing in turn. Prints once what each such run
-# ends with: its status, the number of bytes that it writes, and its line. Then ends as the run does
-# in which no allocation fails. INPUT names another file than `front` for the standard input.
-with_each_allocation() {
+# Prints how much a run wrote of what a run without a fault writes.
+share_of_whole() {
+    if [ ! -s part ]; then
+        echo nothing
+    elif cmp -s part whole; then
+        echo all
+    else
+        cmp -s part <(head -c "$(stat -c %s part)" whole) && echo part || echo other
+    fi
+}
+
+# Runs $P with these arguments and each call of a kind failing in turn. Prints once what each such
+# run ends with: its status, how much it writes, and its line. Then ends as the run does in which no
+# call fails. INPUT names another file than `front` for the standard input.
+with_each() {
     local at=0 status
+    "$P" "${@:2}" > whole 2> line < "${INPUT-front}"
     while
         at=$((at + 1))
-        with_fault alloc $at "$@" > part 2> line 9> met < "${INPUT-front}"
+        with_fault "$1" $at "${@:2}" > part 2> line 9> met < "${INPUT-front}"
         status=$?
         [ -s met ]
     do
-        echo "$status $(stat -c %s part) $(cat line)"
+        echo "$status $(share_of_whole) $(cat line)"
     done > ends
     sort -u ends
     cat line >&2
     return $status
 }
-export -f letters units with_little_memory with_fault with_each_allocation
+export -f letters units with_little_memory with_fault share_of_whole with_each
 export P W A FRONT BIG preload
 
 # Runs a command over a file, and compares what it does with the output, the status and the message

@@ -91,12 +91,7 @@ runs_all() {
     diff <(printf '%s.py\n' "${modules[@]}") <(cd "$here/tests" && ls test_*.py)
 }
 
-# The tables that C, Rust and JavaScript also check.
-cases() {
-    "$room/venv/bin/python" "$top/examples/c/check.py"
-}
-
-# The same with the extension that every processor runs.
+# The tables of cases with the extension that every processor runs. test_calls has the other one.
 cases_of_the_base() {
     local package
     package=$("$room/venv/bin/python" -c 'import dethrux; print(*dethrux.__path__)') &&
@@ -183,7 +178,6 @@ check 'each module of tests' runs_all
 for module in "${modules[@]}"; do
     unit_tests $module
 done
-check 'the tables of cases' cases
 mkdir "$room/base"
 [ "$(uname -m)" != x86_64 ] || check 'the tables of cases, x86-64-v2' cases_of_the_base
 check 'the warnings of the C compiler' compile_strictly

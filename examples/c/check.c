@@ -277,54 +277,6 @@ static void add_progress(text *answer, dethrux_progress found) {
     add_stop(answer, found.status, found.error_len);
 }
 
-/* What is at an offset: a character, an ill-formed sequence, or an incomplete character at the end.
- * How many bytes it has, and how many it takes in the other encoding. */
-typedef struct {
-    size_t from;
-    size_t to;
-    bool cut;
-} item;
-
-static unsigned unit_at(dethrux_byte_order order, const uint8_t *at) {
-    return order == DETHRUX_BIG_ENDIAN ? (unsigned)(at[0] << 8) + at[1] : (unsigned)(at[1] << 8) + at[0];
-}
-
-/* An unpaired surrogate has as many bytes as any other unit, and U+FFFD as many as any other
- * character from U+0800 on. */
-static item item_of_utf16(dethrux_byte_order order, const uint8_t *at, size_t left) {
-    unsigned unit = left < 2 ? 0 : unit_at(order, at);
-    bool leads = (unit & 0xFC00) == 0xD800;
-    if (left < 2 || (leads && left < 4)) {
-        return (item){left, 3, true};
-    }
-    if (leads && (unit_at(order, at + 2) & 0xFC00) == 0xDC00) {
-        return (item){4, 4, false};
-    }
-    return (item){2, unit < 0x80 ? 1 : unit < 0x800 ? 2 : 3, false};
-}
-
-/* The same in WTF-8: a leading surrogate at the end is an item, and an odd byte is in none. */
-static item item_to_wtf8(dethrux_byte_order order, const uint8_t *at, size_t left) {
-    item found = item_of_utf16(order, at, left);
-    return found.cut ? (item){2, 3, false} : found;
-}
-
-/* As in table 3-7 of the Unicode Standard: an ill-formed sequence is the longest prefix of a
- * character in it, or one byte. WTF-8 also has surrogates, after ED. */
-static item item_of_utf8(const uint8_t *at, size_t left, bool wtf8) {
-    size_t found = 1;
-    uint8_t first = at[0];
-    size_t whole = first < 0x80 ? 1 : first < 0xC2 ? 0 : first < 0xE0 ? 2 : first < 0xF0 ? 3 : first < 0xF5 ? 4 : 0;
-    uint8_t least = first == 0xE0 ? 0xA0 : first == 0xF0 ? 0x90 : 0x80;
-    uint8_t most = first == 0xED && !wtf8 ? 0x9F : first == 0xF4 ? 0x8F : 0xBF;
-    while (found < whole && found < left && at[found] >= least && at[found] <= most) {
-        found++;
-        least = 0x80;
-        most = 0xBF;
-    }
-    return (item){found, found == 4 ? 4 : 2, found < whole && found == left};
-}
-
 typedef dethrux_progress convert(dethrux_byte_order order, const void *from, size_t len, void *to, size_t room);
 
 typedef enum { TO_UTF8, FROM_UTF8, TO_WTF8, FROM_WTF8 } way;
@@ -374,55 +326,6 @@ static size_t size_of(const conversion *by, dethrux_byte_order order, const text
 static size_t most(const conversion *by, size_t len) {
     return is_back(by->way) ? DETHRUX_UTF16_MAX(len) : by->make == dethrux_to_utf8_lossy ? DETHRUX_UTF8_MAX(len)
         : by->way == TO_WTF8 ? DETHRUX_WTF8_MAX(len) : len / 2 * 3;
-}
-
-static item item_at(way by, dethrux_byte_order order, const uint8_t *at, size_t left) {
-    return is_back(by) ? item_of_utf8(at, left, by == FROM_WTF8) : by == TO_WTF8 ? item_to_wtf8(order, at, left) : item_of_utf16(order, at, left);
-}
-
-/* How far a call comes that may read up to an offset, with a buffer of this many bytes: to the
- * offset, or to what does not fit. */
-static dethrux_progress reached(way by, dethrux_byte_order order, const text *from, size_t end, size_t room) {
-    dethrux_progress found = {0, 0, DETHRUX_DONE, 0};
-    while (found.read < end) {
-        const uint8_t *at = from->bytes + found.read;
-        item next = item_at(by, order, at, from->len - found.read);
-        if (next.to > room - found.written) {
-            found.status = DETHRUX_NO_SPACE;
-            break;
-        }
-        found.read += next.from;
-        found.written += next.to;
-    }
-    return found;
-}
-
-/* Whether a whole surrogate of WTF-8 follows what was read. A partial call that has no space for it
- * says so, and with space leaves it. */
-static bool leaves_surrogate(const conversion *by, const text *from, dethrux_progress whole) {
-    return by->make == dethrux_from_wtf8_partial && whole.status == DETHRUX_INCOMPLETE && from->len - whole.read >= 3;
-}
-
-/* Whether a call comes as far in buffers of all sizes, as far as there is capacity, and writes
- * nothing after them. */
-static bool comes_so_far(const conversion *by, dethrux_byte_order order, const text *from, dethrux_progress whole, const uint8_t *written) {
-    bool is = true;
-    for (size_t room = 0; is && room <= 2 * SHORT; room++) {
-        text to = blank(room);
-        dethrux_progress found = by->make(order, from->bytes, from->len, to.bytes, room);
-        dethrux_progress should = reached(by->way, order, from, whole.read, room);
-        if (leaves_surrogate(by, from, whole) && room - should.written < 2) {
-            should.status = DETHRUX_NO_SPACE;
-        } else if (should.status == DETHRUX_DONE) {
-            should.status = whole.status;
-            should.error_len = whole.error_len;
-        }
-        is = found.read == should.read && found.written == should.written && found.status == should.status
-            && found.error_len == should.error_len && found.written <= whole.written
-            && memcmp(to.bytes, written, found.written) == 0 && is_blank(&to, room);
-        free(to.bytes);
-    }
-    return is;
 }
 
 /* A decoder, of UTF-16, of UTF-8 or of WTF-8, and its byte order. */
@@ -523,70 +426,17 @@ static bool in_pieces(way way, dethrux_byte_order order, const text *from, size_
     return is && finish_all(&by, all);
 }
 
-/* The partial call of a direction, the call for its last bytes, and the most that it leaves. */
-typedef struct {
-    convert *partial;
-    convert *last;
-    size_t most;
-} by_partial;
-
-static by_partial partial_of(way by) {
-    switch (by) {
-    case TO_UTF8: return (by_partial){dethrux_to_utf8_partial, dethrux_to_utf8_lossy, DETHRUX_PENDING_MAX};
-    case TO_WTF8: return (by_partial){dethrux_to_wtf8_partial, dethrux_to_wtf8, DETHRUX_PENDING_MAX};
-    case FROM_WTF8: return (by_partial){dethrux_from_wtf8_partial, dethrux_from_wtf8, DETHRUX_WTF8_PENDING_MAX};
-    default: return (by_partial){NULL, NULL, 0};
-    }
-}
-
-/* Decodes in chunks with the partial call: the caller puts the unread bytes before the next
- * chunk. */
-static bool by_hand(by_partial by, dethrux_byte_order order, const text *from, size_t piece, size_t room, text *all) {
-    text waiting = {0};
-    size_t at = 0;
-    bool at_end = false, is = true, done = false;
-    while (is && !done) {
-        text to = blank(room);
-        convert *make = at_end ? by.last : by.partial;
-        dethrux_progress found = make(order, waiting.bytes, waiting.len, to.bytes, room);
-        is = found.read <= waiting.len && found.error_len == 0 && found.written <= room && is_blank(&to, room)
-            && (found.status != DETHRUX_NO_SPACE || found.written > 0)
-            && (found.status != DETHRUX_INCOMPLETE || waiting.len - found.read <= by.most);
-        if (is) {
-            append(all, to.bytes, found.written);
-            waiting.len -= found.read;
-            if (waiting.len > 0) {
-                memmove(waiting.bytes, waiting.bytes + found.read, waiting.len);
-            }
-        }
-        if (found.status != DETHRUX_NO_SPACE) {
-            size_t len = piece < from->len - at ? piece : from->len - at;
-            done = at_end;
-            at_end = at == from->len;
-            append(&waiting, from->len > 0 ? from->bytes + at : NULL, len);
-            at += len;
-        }
-        free(to.bytes);
-    }
-    free(waiting.bytes);
-    return is;
-}
-
 /* Whether every chunking gives this text: in two, in chunks of one length, with buffers of several
  * sizes. */
 static bool is_cut_anywhere(way way, dethrux_byte_order order, const text *from, const text *whole) {
-    by_partial by = partial_of(way);
     bool is = true;
     for (size_t room = 4; is && room <= 9; room++) {
         for (size_t at = 0; is && at <= from->len + 1; at++) {
-            text kept = {0}, pieces = {0}, hand = {0};
-            is = (way == FROM_WTF8
-                     || (in_pieces(way, order, from, at, from->len, room, &kept) && same(&kept, whole)
-                         && in_pieces(way, order, from, at + 1, at + 1, room, &pieces) && same(&pieces, whole)))
-                && (by.partial == NULL || (by_hand(by, order, from, at + 1, room, &hand) && same(&hand, whole)));
+            text kept = {0}, pieces = {0};
+            is = in_pieces(way, order, from, at, from->len, room, &kept) && same(&kept, whole)
+                && in_pieces(way, order, from, at + 1, at + 1, room, &pieces) && same(&pieces, whole);
             free(kept.bytes);
             free(pieces.bytes);
-            free(hand.bytes);
         }
     }
     return is;
@@ -638,11 +488,8 @@ static const char *contradicted(const conversion *by, dethrux_byte_order order, 
     if (from->len > SHORT) {
         return NULL;
     }
-    if (!comes_so_far(by, order, from, found, to->bytes)) {
-        return "rooms";
-    }
     bool lossy = by->make == dethrux_to_utf8_lossy || by->make == dethrux_from_utf8_lossy;
-    bool whole = lossy || (wtf8 && found.status == DETHRUX_DONE);
+    bool whole = lossy || (by->make == dethrux_to_wtf8 && found.status == DETHRUX_DONE);
     if (whole && !is_cut_anywhere(by->way, order, from, &written)) {
         return "pieces";
     }

@@ -109,33 +109,24 @@ static dethrux_progress reached(bool lossy, uint32_t most, size_t capacity, uint
 /* A null pointer for no elements. */
 #define OR_NULL(type, pointer, len) ((len) == 0 ? (type *)NULL : (pointer))
 
-static const char *const names[] = {
-    "to_utf32", "to_utf32_lossy", "to_latin1", "u16_to_utf32", "u16_to_utf32_lossy", "u16_to_latin1"};
+static const char *const names[] = {"to_utf32", "to_utf32_lossy", "to_latin1"};
 
-/* Makes the call of this name, and counts bytes of UTF-16 in its result. */
+/* Makes the call of this name. */
 static dethrux_progress convert(
     size_t call, dethrux_byte_order order, uint32_t *wide, uint8_t *narrow, size_t capacity) {
     const uint8_t *bytes = OR_NULL(const uint8_t, raw, raw_len);
-    const uint16_t *native = OR_NULL(const uint16_t, units, unit_count);
-    dethrux_progress found;
     switch (call) {
     case 0: return dethrux_to_utf32(order, bytes, raw_len, wide, capacity);
     case 1: return dethrux_to_utf32_lossy(order, bytes, raw_len, wide, capacity);
-    case 2: return dethrux_to_latin1(order, bytes, raw_len, narrow, capacity);
-    case 3: found = dethrux_u16_to_utf32(native, unit_count, wide, capacity); break;
-    case 4: found = dethrux_u16_to_utf32_lossy(native, unit_count, wide, capacity); break;
-    default: found = dethrux_u16_to_latin1(native, unit_count, narrow, capacity); break;
+    default: return dethrux_to_latin1(order, bytes, raw_len, narrow, capacity);
     }
-    found.read *= 2;
-    found.error_len *= 2;
-    return found;
 }
 
 /* A call into a buffer with this capacity. */
 static bool converts(size_t call, dethrux_byte_order order, size_t capacity) {
     uint32_t wanted[MOST + 1], wide[MOST + 2];
     uint8_t narrow[MOST + 2];
-    bool is_narrow = call % 3 == 2, is_lossy = call % 3 == 1;
+    bool is_narrow = call == 2, is_lossy = call == 1;
     memset(wide, BLANK, sizeof wide);
     memset(narrow, BLANK, sizeof narrow);
     dethrux_progress found = convert(
@@ -153,14 +144,14 @@ static bool converts(size_t call, dethrux_byte_order order, size_t capacity) {
     return true;
 }
 
-static bool is_inspected(dethrux_inspection found, size_t unit) {
+static bool is_inspected(dethrux_inspection found) {
     uint32_t text[MOST + 1], most = 0;
     dethrux_progress should = reached(false, 0x10FFFF, MOST + 1, text);
     for (size_t i = 0; i < should.written; i++) {
         most = text[i] > most ? text[i] : most;
     }
-    return found.valid_up_to == should.read / unit && found.chars == should.written
-           && found.status == should.status && found.error_len == should.error_len / unit
+    return found.valid_up_to == should.read && found.chars == should.written
+           && found.status == should.status && found.error_len == should.error_len
            && found.repertoire
                   == (most < 0x80      ? DETHRUX_ASCII
                       : most < 0x100   ? DETHRUX_LATIN1
@@ -179,19 +170,13 @@ static void from_utf16(const char *name) {
         size_t len = reached(true, 0x10FFFF, MOST + 1, text).written;
         const size_t capacities[] = {0, 1, len / 2, len == 0 ? 0 : len - 1, len,
             DETHRUX_UTF32_MAX(raw_len)};
-        is = is && is_inspected(dethrux_inspect(orders[i], bytes, raw_len), 1)
+        is = is && is_inspected(dethrux_inspect(orders[i], bytes, raw_len))
              && dethrux_to_utf32_lossy_len(orders[i], bytes, raw_len) == len;
         for (size_t j = 0; j < 6; j++) {
-            for (size_t call = 0; call < (is_odd ? 3 : 6); call++) {
+            for (size_t call = 0; call < 3; call++) {
                 check(names[call], name, unit_count, converts(call, orders[i], capacities[j]));
             }
         }
-    }
-    if (!is_odd) {
-        const uint16_t *native = OR_NULL(const uint16_t, units, unit_count);
-        is = is && is_inspected(dethrux_u16_inspect(native, unit_count), 2)
-             && dethrux_u16_to_utf32_lossy_len(native, unit_count)
-                    == reached(true, 0x10FFFF, MOST + 1, text).written;
     }
     check("inspect and to_utf32_lossy_len", name, unit_count, is);
 }
@@ -237,27 +222,19 @@ static bool spell(dethrux_byte_order order, const uint8_t *bytes, const uint16_t
     return true;
 }
 
-/* A strict or lossy call, and in the machine's byte order the one on code units, into a buffer for
- * this many bytes. */
+/* A strict or lossy call, into a buffer for this many bytes. */
 static bool encodes(bool lossy, dethrux_byte_order order, size_t capacity) {
-    uint16_t wanted[2 * MOST], native[2 * MOST + 8];
+    uint16_t wanted[2 * MOST];
     uint8_t to[ROOM];
     const uint32_t *from = OR_NULL(const uint32_t, points, point_count);
     memset(to, BLANK, sizeof to);
-    memset(native, BLANK, sizeof native);
     uint8_t *at = OR_NULL(uint8_t, to, capacity);
-    uint16_t *units_at = OR_NULL(uint16_t, native, capacity / 2);
     dethrux_progress found = lossy
                                  ? dethrux_from_utf32_lossy(order, from, point_count, at, capacity)
                                  : dethrux_from_utf32(order, from, point_count, at, capacity);
-    dethrux_progress same =
-        lossy ? dethrux_u16_from_utf32_lossy(from, point_count, units_at, capacity / 2)
-              : dethrux_u16_from_utf32(from, point_count, units_at, capacity / 2);
     dethrux_progress should = encoded(lossy, capacity / 2, wanted);
-    bool is = is_same(same, should) && memcmp(native, wanted, 2 * same.written) == 0
-              && is_blank(native, capacity / 2 * 2, sizeof native);
     should.written *= 2;
-    return is && is_same(found, should) && spell(order, to, wanted, found.written / 2)
+    return is_same(found, should) && spell(order, to, wanted, found.written / 2)
            && is_blank(to, capacity, sizeof to);
 }
 
@@ -286,24 +263,18 @@ static void from_utf32(const char *name) {
 /* All bytes of Latin-1, from one on, into a buffer for this many bytes. */
 static bool widens(dethrux_byte_order order, unsigned first, size_t len, size_t capacity) {
     uint8_t latin1[MOST], to[ROOM];
-    uint16_t wanted[MOST], native[MOST + 4];
+    uint16_t wanted[MOST];
     for (size_t i = 0; i < len; i++) {
         latin1[i] = (uint8_t)(first + i);
         wanted[i] = latin1[i];
     }
     memset(to, BLANK, sizeof to);
-    memset(native, BLANK, sizeof native);
     const uint8_t *from = OR_NULL(const uint8_t, latin1, len);
     dethrux_progress found =
         dethrux_from_latin1(order, from, len, OR_NULL(uint8_t, to, capacity), capacity);
-    dethrux_progress same = dethrux_u16_from_latin1(
-        from, len, OR_NULL(uint16_t, native, capacity / 2), capacity / 2);
     size_t most = capacity / 2 < len ? capacity / 2 : len;
-    dethrux_progress should = {most, most, most < len ? DETHRUX_NO_SPACE : DETHRUX_DONE, 0};
-    bool is = is_same(same, should) && memcmp(native, wanted, 2 * most) == 0
-              && is_blank(native, 2 * most, sizeof native);
-    should.written *= 2;
-    return is && is_same(found, should) && spell(order, to, wanted, most)
+    dethrux_progress should = {most, 2 * most, most < len ? DETHRUX_NO_SPACE : DETHRUX_DONE, 0};
+    return is_same(found, should) && spell(order, to, wanted, most)
            && is_blank(to, 2 * most, sizeof to);
 }
 

@@ -1,12 +1,11 @@
 #!/usr/bin/env bash
-# Builds the library libdethrux.a and the examples in C and in C++, and the package for Python, and
-# runs them: the tables of cases, the programs of docs/C.md and docs/CPP.md, and all in C under
-# valgrind. A missing tool is a failure. The last line is 'N passed, M failed'. With --over-ci the
-# library is built over the libraries that rt ci has just proved, and with --library FILE it is not
-# built: FILE is tested. With --headers c it is not built either, and only what tests the headers
-# runs, up to the first failure, or with --headers c++ what tests the one for C++, and with
-# --headers alloc what tests dethrux_alloc.h: examples/slips runs this for a wrong line in a header
-# that no shorter test finds.
+# Builds the library libdethrux.a and the examples in C and in C++, and runs them: the tables of
+# cases, the programs of docs/C.md and docs/CPP.md, and all in C under valgrind. A missing tool is a
+# failure. The last line is 'N passed, M failed'. With --over-ci the library is built over the
+# libraries that rt ci has just proved, and with --library FILE it is not built: FILE is tested.
+# With --headers c it is not built either, and only what tests the headers runs, up to the first
+# failure, or with --headers c++ what tests the one for C++, and with --headers alloc what tests
+# dethrux_alloc.h: examples/slips runs this for a wrong line in a header that no shorter test finds.
 set -uo pipefail
 here=$(cd "$(dirname "$0")" && pwd)
 top=$here/../..
@@ -292,11 +291,6 @@ resumes() {
     [ $? = 1 ] && { printf 'abc%.0s' {1..9}; printf '\xC3\xA4\xF0\x9F\x98\x80'; } | cmp - "$room/found"
 }
 
-check_python() {
-    "$top/bindings/python/build.sh" "$room/package" &&
-        PYTHONDONTWRITEBYTECODE=1 PYTHONPATH=$room/package python3 "$here/check.py"
-}
-
 test_c() {
     count 'the program in C' in_c decode && count 'a file in chunks' decodes && count 'a file by its byte order' decodes_by_word
     count 'the program of the header' in_comment && count 'the program of the header, in chunks' comment_decodes
@@ -451,6 +445,5 @@ esac
 if [ -z "$headers" ]; then
     has valgrind 'memory in C and C++' && memory_in_c && memory_in_cxx
     test_sanitizers
-    has python3 'Python' && count 'the cases in Python' check_python
 fi
 result

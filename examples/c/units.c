@@ -1,13 +1,13 @@
-/* Makes the calls for UTF-16 in the machine's byte order on tables of texts, and compares with
- * results that were worked out by hand. It is C11 and C++17. The last line is 'N passed, M
- * failed'. */
+/* Makes the calls for UTF-16 in the machine's byte order on code units, and compares with the calls
+ * on their bytes, which check.c and fuzz/ test: lengths, offsets and capacities of UTF-16 are half
+ * as large. It is C11 and C++17. The last line is 'N passed, M failed'. */
 #include "dethrux.h"
 
 #include <stdio.h>
 #include <string.h>
 #include <uchar.h>
 
-enum { MOST = 8, BLANK = 0xA5, BUFFER = 64 };
+enum { MOST = 8, ROOM = 32, BLANK = 0xA5 };
 
 static int passed, failed;
 
@@ -20,585 +20,297 @@ static void check(const char *name, const char *of, bool holds) {
     }
 }
 
-static bool is_same(dethrux_progress a, dethrux_progress b) {
-    return a.read == b.read && a.written == b.written && a.status == b.status
-           && a.error_len == b.error_len;
+/* The byte order of this machine, whatever the header says. */
+static dethrux_byte_order native(void) {
+    const uint16_t unit = 1;
+    uint8_t first;
+    memcpy(&first, &unit, 1);
+    return first == 1 ? DETHRUX_LITTLE_ENDIAN : DETHRUX_BIG_ENDIAN;
 }
 
-/* Whether all bytes of a buffer from an offset on are as they were before the call. */
-static bool is_blank(const void *buffer, size_t from) {
-    const uint8_t *bytes = (const uint8_t *)buffer;
-    for (size_t i = from; i < BUFFER; i++) {
-        if (bytes[i] != BLANK) {
-            return false;
-        }
-    }
-    return true;
-}
-
-/* A text, and what the calls find in it. `cuts` has a bar for each offset that is a boundary, and
- * `utf8` and `mended` have U+FFFD for each unpaired surrogate. */
+/* Most are another text in the other byte order: of other characters, or ill formed in one only. */
 typedef struct {
     const char *name;
     size_t len;
     uint16_t units[MOST];
-    dethrux_validity validity;
-    size_t chars;
-    bool is_ascii;
-    const char *utf8;
-    const char *cuts;
-    size_t unpaired;
-    uint16_t mended[MOST];
 } text;
 
-/* Most are another text in the other byte order: of other characters, or ill formed in one only. */
 static const text texts[] = {
-    {"nothing", 0, {0}, {0, DETHRUX_DONE, 0}, 0, true, "", "|", 0, {0}},
-    {"ASCII", 3, {0x61, 0x62, 0x63}, {3, DETHRUX_DONE, 0}, 3, true, "abc", "||||", 0,
-        {0x61, 0x62, 0x63}},
-    {"swapped ASCII", 1, {0x6100}, {1, DETHRUX_DONE, 0}, 1, false, "\xE6\x84\x80", "||", 0,
-        {0x6100}},
-    {"U+FFFD", 1, {0xFFFD}, {1, DETHRUX_DONE, 0}, 1, false, "\xEF\xBF\xBD", "||", 0, {0xFFFD}},
-    {"one to four bytes", 5, {0x61, 0xE9, 0x4E2D, 0xD83D, 0xDE00}, {5, DETHRUX_DONE, 0}, 4, false,
-        "a\xC3\xA9\xE4\xB8\xAD\xF0\x9F\x98\x80", "||||.|", 0, {0x61, 0xE9, 0x4E2D, 0xD83D, 0xDE00}},
-    {"a swapped pair", 2, {0x3DD8, 0x00DE}, {2, DETHRUX_DONE, 0}, 2, false, "\xE3\xB7\x98\xC3\x9E",
-        "|||", 0, {0x3DD8, 0x00DE}},
-    {"two pairs", 4, {0xD83D, 0xDE00, 0xD83D, 0xDE01}, {4, DETHRUX_DONE, 0}, 2, false,
-        "\xF0\x9F\x98\x80\xF0\x9F\x98\x81", "|.|.|", 0, {0xD83D, 0xDE00, 0xD83D, 0xDE01}},
-    {"unpaired surrogates", 4, {0x61, 0xDC00, 0x62, 0xD800}, {1, DETHRUX_ILL_FORMED, 1}, 3, false,
-        "a\xEF\xBF\xBD"
-        "b\xEF\xBF\xBD",
-        "|||||", 2, {0x61, 0xFFFD, 0x62, 0xFFFD}},
-    {"swapped unpaired surrogates", 2, {0x00DC, 0x00D8}, {2, DETHRUX_DONE, 0}, 2, false,
-        "\xC3\x9C\xC3\x98", "|||", 0, {0x00DC, 0x00D8}},
-    {"the first half of a pair", 3, {0x61, 0x62, 0xD83D}, {2, DETHRUX_INCOMPLETE, 0}, 3, false,
-        "ab\xEF\xBF\xBD", "||||", 1, {0x61, 0x62, 0xFFFD}},
-    {"halves of pairs before a pair", 5, {0xDC00, 0xD800, 0xD800, 0xDC00, 0x61},
-        {0, DETHRUX_ILL_FORMED, 1}, 3, false,
-        "\xEF\xBF\xBD\xEF\xBF\xBD\xF0\x90\x80\x80"
-        "a",
-        "|||.||", 2, {0xFFFD, 0xFFFD, 0xD800, 0xDC00, 0x61}},
+    {"nothing", 0, {0}},
+    {"ASCII", 3, {0x61, 0x62, 0x63}},
+    {"ASCII with another end", 3, {0x61, 0x62, 0x64}},
+    {"swapped ASCII", 1, {0x6100}},
+    {"Latin-1", 3, {0x61, 0xE9, 0xFF}},
+    {"U+FFFD", 1, {0xFFFD}},
+    {"a code unit above surrogates", 1, {0xFF5E}},
+    {"one to four bytes", 5, {0x61, 0xE9, 0x4E2D, 0xD83D, 0xDE00}},
+    {"a swapped pair", 2, {0x3DD8, 0x00DE}},
+    {"two pairs", 4, {0xD83D, 0xDE00, 0xD83D, 0xDE01}},
+    {"unpaired surrogates", 4, {0x61, 0xDC00, 0x62, 0xD800}},
+    {"swapped unpaired surrogates", 2, {0x00DC, 0x00D8}},
+    {"the first half of a pair", 3, {0x61, 0x62, 0xD83D}},
+    {"the second half of a pair", 2, {0xDE00, 0x61}},
+    {"halves of pairs before a pair", 5, {0xDC00, 0xD800, 0xD800, 0xDC00, 0x61}},
+    {"places that overlap", 6, {0x62, 0x61, 0x62, 0x61, 0x62, 0x61}},
+    {"two NULs", 5, {0x61, 0, 0x62, 0, 0x63}},
+    {"zero bytes of two units", 4, {0x0100, 0x0061, 0x6100, 0x0001}},
 };
+
+enum { TEXTS = sizeof texts / sizeof *texts };
 
 /* Null if the text is empty. */
 static const uint16_t *units_of(const text *from) {
     return from->len == 0 ? NULL : from->units;
 }
 
+/* Whether a call on code units did what a call on bytes did, which counts `read` and `written` times
+ * as much: 2 for UTF-16, and 1 for the other form. */
+static bool is_same(dethrux_progress found, dethrux_progress bytes, size_t read, size_t written) {
+    return found.read * read == bytes.read && found.written * written == bytes.written
+           && found.status == bytes.status && found.error_len * read == bytes.error_len;
+}
+
+#define NUMBER(of_units, of_bytes) \
+    check(#of_units, from->name, of_units(units, len) == of_bytes(native(), units, len * 2))
+
 static void look(const text *from) {
     const uint16_t *units = units_of(from);
-    dethrux_validity found = dethrux_u16_validate(units, from->len);
+    const size_t len = from->len;
+    NUMBER(dethrux_u16_count_chars, dethrux_count_chars);
+    NUMBER(dethrux_u16_is_ascii, dethrux_is_ascii);
+    NUMBER(dethrux_u16_to_utf8_lossy_len, dethrux_to_utf8_lossy_len);
+    NUMBER(dethrux_u16_to_utf8_replacements, dethrux_to_utf8_replacements);
+    NUMBER(dethrux_u16_to_utf32_lossy_len, dethrux_to_utf32_lossy_len);
+    NUMBER(dethrux_u16_to_wtf8_len, dethrux_to_wtf8_len);
+    check("nul_offset", from->name,
+        dethrux_u16_nul_offset(units, len) * 2 == dethrux_nul_offset(units, len * 2));
+    dethrux_validity found = dethrux_u16_validate(units, len);
+    dethrux_validity wanted = dethrux_validate(native(), units, len * 2);
     check("validate", from->name,
-        found.valid_up_to == from->validity.valid_up_to && found.status == from->validity.status
-            && found.error_len == from->validity.error_len);
-    check("count_chars", from->name, dethrux_u16_count_chars(units, from->len) == from->chars);
-    check("is_ascii", from->name, dethrux_u16_is_ascii(units, from->len) == from->is_ascii);
-    check("to_utf8_lossy_len", from->name,
-        dethrux_u16_to_utf8_lossy_len(units, from->len) == strlen(from->utf8));
-    check("to_utf8_replacements", from->name,
-        dethrux_u16_to_utf8_replacements(units, from->len) == from->unpaired);
+        found.valid_up_to * 2 == wanted.valid_up_to && found.status == wanted.status
+            && found.error_len * 2 == wanted.error_len);
+    dethrux_inspection inspected = dethrux_u16_inspect(units, len);
+    dethrux_inspection should = dethrux_inspect(native(), units, len * 2);
+    check("inspect", from->name,
+        inspected.valid_up_to * 2 == should.valid_up_to && inspected.status == should.status
+            && inspected.error_len * 2 == should.error_len && inspected.chars == should.chars
+            && inspected.repertoire == should.repertoire);
 }
 
 /* At each offset of the text, and after its end: one past, twice as far, and where a multiple of
  * the offset wraps to one that is inside. */
 static void cut(const text *from) {
-    const size_t half = SIZE_MAX / 2 + 1;
-    const size_t after[] = {from->len + 1, 2 * from->len + 1, half, half + 1, half + from->len,
-        half / 2, SIZE_MAX - 1, SIZE_MAX};
+    const size_t half = SIZE_MAX / 2 + 1, len = from->len;
+    const size_t after[] = {len + 1, 2 * len + 1, half, half + 1, half + len, half / 2,
+        SIZE_MAX - 1, SIZE_MAX};
     const uint16_t *units = units_of(from);
     bool is = true;
-    size_t floor = 0;
-    for (size_t at = 0; at <= from->len; at++) {
-        bool is_cut = from->cuts[at] == '|';
-        floor = is_cut ? at : floor;
-        is = is && dethrux_u16_is_char_boundary(units, from->len, at) == is_cut
-             && dethrux_u16_floor_char_boundary(units, from->len, at) == floor;
+    for (size_t at = 0; at <= len; at++) {
+        is = is
+             && dethrux_u16_is_char_boundary(units, len, at)
+                    == dethrux_is_char_boundary(native(), units, len * 2, at * 2)
+             && dethrux_u16_floor_char_boundary(units, len, at) * 2
+                    == dethrux_floor_char_boundary(native(), units, len * 2, at * 2);
     }
     check("boundaries", from->name, is);
     for (size_t i = 0; i < sizeof after / sizeof *after; i++) {
-        is = is && !dethrux_u16_is_char_boundary(units, from->len, after[i])
-             && dethrux_u16_floor_char_boundary(units, from->len, after[i]) == from->len;
+        is = is && !dethrux_u16_is_char_boundary(units, len, after[i])
+             && dethrux_u16_floor_char_boundary(units, len, after[i]) == len;
     }
     check("boundaries after the end", from->name, is);
 }
 
 /* The unit after the text must be unchanged. */
 static void change(const text *from) {
-    uint16_t units[MOST + 1];
+    uint16_t units[MOST + 1], bytes[MOST + 1];
     memset(units, BLANK, sizeof units);
     memcpy(units, from->units, from->len * 2);
+    memcpy(bytes, units, sizeof units);
     uint16_t *at = from->len == 0 ? NULL : units;
+    size_t count = dethrux_make_well_formed(native(), bytes, from->len * 2);
     check("make_well_formed", from->name,
-        dethrux_u16_make_well_formed(at, from->len) == from->unpaired
-            && memcmp(units, from->mended, from->len * 2) == 0);
+        dethrux_u16_make_well_formed(at, from->len) == count
+            && memcmp(units, bytes, sizeof units) == 0);
+    dethrux_swap_byte_order(bytes, from->len * 2);
     dethrux_u16_swap_byte_order(at, from->len);
-    bool is = true;
-    for (size_t i = 0; i < from->len; i++) {
-        is = is && units[i] == (uint16_t)(from->mended[i] << 8 | from->mended[i] >> 8);
-    }
-    check("swap_byte_order", from->name, is && units[from->len] == BLANK * 0x101);
+    check("swap_byte_order", from->name, memcmp(units, bytes, sizeof units) == 0);
 }
 
-/* How a call stops: at the first ill-formed sequence, at the end, before an incomplete character at
- * the end, or after it, if the decoder keeps it. */
-typedef enum { STRICT, LOSSY, PARTIAL, FEED } mode;
+/* The states of streams for the calls on code units, and for those on bytes. */
+static struct {
+    dethrux_decoder decoder;
+    dethrux_encoder encoder;
+    dethrux_wtf8_encoder wtf8_encoder;
+} states[2];
 
-/* How far a call of a mode comes, from how far it came in items and what stops it after them. */
-static dethrux_progress stopped(
-    mode by, dethrux_progress found, size_t len, dethrux_validity validity) {
-    if (found.status == DETHRUX_NO_SPACE) {
-        return found;
-    }
-    if (by == STRICT) {
-        found.status = validity.status;
-        found.error_len = validity.error_len;
-    } else if (by == PARTIAL && found.read < len) {
-        found.status = DETHRUX_INCOMPLETE;
-    } else if (by == FEED) {
-        found.read = len;
-    }
-    return found;
-}
-
-/* The length of the first character of UTF-8. */
-static size_t char_len(const char *utf8) {
-    unsigned first = (unsigned char)*utf8;
-    return first < 0x80 ? 1 : first < 0xE0 ? 2 : first < 0xF0 ? 3 : 4;
-}
-
-/* The offset of the next boundary. */
-static size_t next_cut(const char *cuts, size_t at) {
-    do {
-        at++;
-    } while (cuts[at] != '|');
-    return at;
-}
-
-static dethrux_progress reached(const text *from, mode by, size_t capacity) {
-    bool is_cut = from->len > 0 && (from->units[from->len - 1] & 0xFC00) == 0xD800;
-    size_t end = by == STRICT ? from->validity.valid_up_to : from->len - (is_cut && by != LOSSY);
-    dethrux_progress found = {0, 0, DETHRUX_DONE, 0};
-    while (found.read < end && found.status == DETHRUX_DONE) {
-        size_t len = char_len(from->utf8 + found.written);
-        if (len > capacity - found.written) {
-            found.status = DETHRUX_NO_SPACE;
-        } else {
-            found.read = next_cut(from->cuts, found.read);
-            found.written += len;
-        }
-    }
-    return stopped(by, found, from->len, from->validity);
-}
-
-static dethrux_progress feed_new(const uint16_t *utf16, size_t len, void *to, size_t capacity) {
-    dethrux_decoder decoder = DETHRUX_DECODER_INIT;
-    return dethrux_u16_decoder_feed(&decoder, utf16, len, to, capacity);
-}
-
-static const struct {
-    const char *name;
-    dethrux_progress (*call)(const uint16_t *utf16, size_t len, void *to, size_t capacity);
-    mode by;
-} calls_to_utf8[] = {
-    {"to_utf8", dethrux_u16_to_utf8, STRICT},
-    {"to_utf8_lossy", dethrux_u16_to_utf8_lossy, LOSSY},
-    {"to_utf8_partial", dethrux_u16_to_utf8_partial, PARTIAL},
-    {"decoder_feed", feed_new, FEED},
-};
-
-/* In a buffer of each size, up to the one that the header says suffices. */
-static void to_utf8(const text *from) {
-    for (size_t i = 0; i < sizeof calls_to_utf8 / sizeof *calls_to_utf8; i++) {
-        bool is = true;
-        for (size_t capacity = 0; capacity <= from->len * 3; capacity++) {
-            uint8_t to[BUFFER];
-            memset(to, BLANK, sizeof to);
-            dethrux_progress found = calls_to_utf8[i].call(
-                units_of(from), from->len, capacity == 0 ? NULL : to, capacity);
-            is = is && is_same(found, reached(from, calls_to_utf8[i].by, capacity))
-                 && (capacity < from->len * 3 || found.status != DETHRUX_NO_SPACE)
-                 && memcmp(to, from->utf8, found.written) == 0 && is_blank(to, capacity);
-        }
-        check(calls_to_utf8[i].name, from->name, is);
+/* Begins streams in which this many bytes of a character are pending. */
+static void begin(uint8_t pending) {
+    const dethrux_decoder decoder = {{0x3D, 0xD8, 0x00}, pending};
+    const dethrux_encoder encoder = {{0xF0, 0x9F, 0x98}, pending};
+    const dethrux_wtf8_encoder wtf8_encoder = {{0xED, 0xA0, 0xBD, 0, 0, 0}, pending};
+    for (size_t i = 0; i < 2; i++) {
+        states[i].decoder = decoder;
+        states[i].encoder = encoder;
+        states[i].wtf8_encoder = wtf8_encoder;
     }
 }
 
-/* In two chunks, with the capacity that suffices for each. */
-static void decode(const text *from) {
-    bool is = true;
-    for (size_t at = 0; at <= from->len; at++) {
-        dethrux_decoder decoder = DETHRUX_DECODER_INIT;
-        uint8_t to[BUFFER];
-        size_t rest = from->len - at;
-        dethrux_progress one =
-            dethrux_u16_decoder_feed(&decoder, from->units, at, to, (at + 1) * 3);
-        uint8_t *behind = to + one.written;
-        dethrux_progress two =
-            dethrux_u16_decoder_feed(&decoder, from->units + at, rest, behind, (rest + 1) * 3);
-        behind += two.written;
-        behind += dethrux_decoder_finish(&decoder, behind, DETHRUX_DECODER_FINISH_MAX).written;
-        is = is && one.status == DETHRUX_DONE && two.status == DETHRUX_DONE && one.read == at
-             && two.read == rest && (size_t)(behind - to) == strlen(from->utf8)
-             && memcmp(to, from->utf8, strlen(from->utf8)) == 0;
-    }
-    check("decoder_feed of two chunks", from->name, is);
-}
-
-/* A text in UTF-8, what a strict call stops at, and how many bytes at its end are incomplete.
- * `cuts` has a bar for each offset where a character or an ill-formed sequence ends. */
+/* A call on code units, and the same call on bytes. */
 typedef struct {
     const char *name;
-    const char *utf8;
-    const char *cuts;
-    dethrux_validity validity;
-    size_t pending;
-    size_t written;
-    uint16_t units[MOST];
-} text8;
+    dethrux_progress (*units)(const void *from, size_t len, void *to, size_t capacity);
+    dethrux_progress (*bytes)(const void *from, size_t len, void *to, size_t capacity);
+} call;
 
-static const text8 texts8[] = {
-    {"nothing", "", "|", {0, DETHRUX_DONE, 0}, 0, 0, {0}},
-    {"ASCII", "abc", "||||", {3, DETHRUX_DONE, 0}, 0, 3, {0x61, 0x62, 0x63}},
-    {"one to four bytes", "a\xC3\xA9\xE4\xB8\xAD\xF0\x9F\x98\x80", "||.|..|...|",
-        {10, DETHRUX_DONE, 0}, 0, 5, {0x61, 0xE9, 0x4E2D, 0xD83D, 0xDE00}},
-    {"bytes that UTF-8 never has", "\xFF\xFF\xFF", "||||", {0, DETHRUX_ILL_FORMED, 1}, 0, 3,
-        {0xFFFD, 0xFFFD, 0xFFFD}},
-    {"two bytes of three, and a letter",
-        "a\xE4\xB8"
-        "b",
-        "||.||", {1, DETHRUX_ILL_FORMED, 2}, 0, 3, {0x61, 0xFFFD, 0x62}},
-    {"one byte of two", "\xC3", "||", {0, DETHRUX_INCOMPLETE, 0}, 1, 1, {0xFFFD}},
-    {"two bytes of three", "a\xE4\xB8", "||.|", {1, DETHRUX_INCOMPLETE, 0}, 2, 2, {0x61, 0xFFFD}},
-    {"three bytes of four", "\xF0\x9F\x98", "|..|", {0, DETHRUX_INCOMPLETE, 0}, 3, 1, {0xFFFD}},
-};
-
-static dethrux_progress reached8(const text8 *from, mode by, size_t capacity) {
-    size_t len = strlen(from->utf8), kept = by == LOSSY ? 0 : from->pending;
-    size_t end = by == STRICT ? from->validity.valid_up_to : len - kept;
-    dethrux_progress found = {0, 0, DETHRUX_DONE, 0};
-    while (found.read < end && found.status == DETHRUX_DONE) {
-        size_t units = (from->units[found.written] & 0xFC00) == 0xD800 ? 2 : 1;
-        if (units > capacity - found.written) {
-            found.status = DETHRUX_NO_SPACE;
-        } else {
-            found.read = next_cut(from->cuts, found.read);
-            found.written += units;
-        }
+#define CALL(name, of_units, of_bytes) \
+    static dethrux_progress units_##name( \
+        const void *from, size_t len, void *to, size_t capacity) { \
+        return of_units; \
+    } \
+    static dethrux_progress bytes_##name( \
+        const void *from, size_t len, void *to, size_t capacity) { \
+        return of_bytes; \
     }
-    return stopped(by, found, len, from->validity);
-}
+#define READS(of_units, of_bytes, To) \
+    CALL(of_units, of_units((const uint16_t *)from, len, (To *)to, capacity), \
+        of_bytes(native(), from, len, (To *)to, capacity))
+#define WRITES(of_units, of_bytes, From) \
+    CALL(of_units, of_units((const From *)from, len, (uint16_t *)to, capacity), \
+        of_bytes(native(), (const From *)from, len, to, capacity))
+#define DECODES(of_units, of_bytes) \
+    CALL(of_units, of_units(&states[0].decoder, (const uint16_t *)from, len, to, capacity), \
+        of_bytes(&states[1].decoder, native(), from, len, to, capacity))
+#define ENCODES(of_units, of_bytes, state) \
+    CALL(of_units, of_units(&states[0].state, from, len, (uint16_t *)to, capacity), \
+        of_bytes(&states[1].state, native(), from, len, to, capacity))
+#define FINISHES(of_units, of_bytes, state) \
+    CALL(of_units, \
+        ((void)from, (void)len, of_units(&states[0].state, (uint16_t *)to, capacity)), \
+        ((void)from, (void)len, of_bytes(&states[1].state, native(), to, capacity)))
+#define NAMED(of_units) {#of_units, units_##of_units, bytes_##of_units}
 
-static dethrux_progress feed_new8(const void *utf8, size_t len, uint16_t *to, size_t capacity) {
-    dethrux_encoder decoder = DETHRUX_ENCODER_INIT;
-    return dethrux_u16_encoder_feed(&decoder, utf8, len, to, capacity);
-}
+READS(dethrux_u16_to_utf8, dethrux_to_utf8, void)
+READS(dethrux_u16_to_utf8_lossy, dethrux_to_utf8_lossy, void)
+READS(dethrux_u16_to_utf8_partial, dethrux_to_utf8_partial, void)
+READS(dethrux_u16_to_wtf8, dethrux_to_wtf8, void)
+READS(dethrux_u16_to_wtf8_partial, dethrux_to_wtf8_partial, void)
+READS(dethrux_u16_to_latin1, dethrux_to_latin1, void)
+READS(dethrux_u16_to_utf32, dethrux_to_utf32, uint32_t)
+READS(dethrux_u16_to_utf32_lossy, dethrux_to_utf32_lossy, uint32_t)
+DECODES(dethrux_u16_decoder_feed, dethrux_decoder_feed)
+DECODES(dethrux_u16_decoder_feed_wtf8, dethrux_decoder_feed_wtf8)
+static const call reading[] = {NAMED(dethrux_u16_to_utf8), NAMED(dethrux_u16_to_utf8_lossy),
+    NAMED(dethrux_u16_to_utf8_partial), NAMED(dethrux_u16_to_wtf8),
+    NAMED(dethrux_u16_to_wtf8_partial), NAMED(dethrux_u16_to_latin1), NAMED(dethrux_u16_to_utf32),
+    NAMED(dethrux_u16_to_utf32_lossy), NAMED(dethrux_u16_decoder_feed),
+    NAMED(dethrux_u16_decoder_feed_wtf8)};
 
-static const struct {
-    const char *name;
-    dethrux_progress (*call)(const void *utf8, size_t len, uint16_t *to, size_t capacity);
-    mode by;
-} calls_from_utf8[] = {
-    {"from_utf8", dethrux_u16_from_utf8, STRICT},
-    {"from_utf8_lossy", dethrux_u16_from_utf8_lossy, LOSSY},
-    {"encoder_feed", feed_new8, FEED},
-};
+WRITES(dethrux_u16_from_utf8, dethrux_from_utf8, void)
+WRITES(dethrux_u16_from_utf8_lossy, dethrux_from_utf8_lossy, void)
+WRITES(dethrux_u16_from_wtf8, dethrux_from_wtf8, void)
+WRITES(dethrux_u16_from_wtf8_partial, dethrux_from_wtf8_partial, void)
+WRITES(dethrux_u16_from_latin1, dethrux_from_latin1, void)
+ENCODES(dethrux_u16_encoder_feed, dethrux_encoder_feed, encoder)
+ENCODES(dethrux_u16_wtf8_encoder_feed, dethrux_wtf8_encoder_feed, wtf8_encoder)
+FINISHES(dethrux_u16_encoder_finish, dethrux_encoder_finish, encoder)
+FINISHES(dethrux_u16_wtf8_encoder_finish, dethrux_wtf8_encoder_finish, wtf8_encoder)
+static const call writing[] = {NAMED(dethrux_u16_from_utf8), NAMED(dethrux_u16_from_utf8_lossy),
+    NAMED(dethrux_u16_from_wtf8), NAMED(dethrux_u16_from_wtf8_partial),
+    NAMED(dethrux_u16_from_latin1), NAMED(dethrux_u16_encoder_feed),
+    NAMED(dethrux_u16_wtf8_encoder_feed), NAMED(dethrux_u16_encoder_finish),
+    NAMED(dethrux_u16_wtf8_encoder_finish)};
 
-/* In a buffer of each size, up to the one that the header says suffices. */
-static void from_utf8(const text8 *from) {
-    size_t len = strlen(from->utf8);
-    for (size_t i = 0; i < sizeof calls_from_utf8 / sizeof *calls_from_utf8; i++) {
-        bool is = true;
-        for (size_t capacity = 0; capacity <= len; capacity++) {
-            uint16_t to[BUFFER / 2];
-            memset(to, BLANK, sizeof to);
-            dethrux_progress found = calls_from_utf8[i].call(
-                len == 0 ? NULL : from->utf8, len, capacity == 0 ? NULL : to, capacity);
-            is = is && is_same(found, reached8(from, calls_from_utf8[i].by, capacity))
-                 && (capacity < len || found.status != DETHRUX_NO_SPACE)
-                 && memcmp(to, from->units, found.written * 2) == 0 && is_blank(to, capacity * 2);
-        }
-        check(calls_from_utf8[i].name, from->name, is);
-    }
-}
+WRITES(dethrux_u16_from_utf32, dethrux_from_utf32, uint32_t)
+WRITES(dethrux_u16_from_utf32_lossy, dethrux_from_utf32_lossy, uint32_t)
+static const call writing_utf32[] = {NAMED(dethrux_u16_from_utf32),
+    NAMED(dethrux_u16_from_utf32_lossy)};
 
-/* In two chunks, with the capacity that suffices for each. Then the end of the stream: without
- * space for U+FFFD nothing changes, and with two units one is written. */
-static void decode8(const text8 *from) {
+/* Whether both calls do the same, into buffers of each capacity up to `most`, and if a stream has
+ * pending bytes: of UTF-16 a code unit. */
+static bool agree(const call *by, const void *from, size_t len, size_t most, size_t read) {
+    const size_t written = 3 - read;
     bool is = true;
-    size_t len = strlen(from->utf8);
-    const dethrux_progress full = {0, 0, DETHRUX_NO_SPACE, 0}, end = {0, 0, DETHRUX_DONE, 0};
-    const dethrux_progress marked = {0, 1, DETHRUX_DONE, 0};
-    for (size_t at = 0; at <= len; at++) {
-        dethrux_encoder decoder = DETHRUX_ENCODER_INIT;
-        uint16_t to[BUFFER / 2];
+    for (size_t i = 0; i <= most * 4; i++) {
+        size_t capacity = i / 4;
+        uint32_t to[2][ROOM];
+        begin((uint8_t)(read == 2 ? i % 2 * 2 : i % 4));
         memset(to, BLANK, sizeof to);
-        dethrux_progress one = dethrux_u16_encoder_feed(&decoder, from->utf8, at, to, at + 1);
-        dethrux_progress two = dethrux_u16_encoder_feed(
-            &decoder, from->utf8 + at, len - at, to + one.written, len - at + 1);
-        size_t written = one.written + two.written;
-        is = is && one.status == DETHRUX_DONE && two.status == DETHRUX_DONE && one.read == at
-             && two.read == len - at && decoder.pending_len == from->pending
-             && is_same(dethrux_u16_encoder_finish(&decoder, (uint16_t *)NULL, 0),
-                 from->pending > 0 ? full : end)
-             && decoder.pending_len == from->pending
-             && is_same(dethrux_u16_encoder_finish(&decoder, to + written, 1 + at % 2),
-                 from->pending > 0 ? marked : end)
-             && decoder.pending_len == 0 && memcmp(to, from->units, from->written * 2) == 0
-             && written + (from->pending > 0) == from->written && is_blank(to, from->written * 2);
+        void *at = capacity == 0 ? NULL : to[0];
+        dethrux_progress found = by->units(from, len, at, capacity);
+        dethrux_progress bytes = by->bytes(from, len * read, to[1], capacity * written);
+        is = is && is_same(found, bytes, read, written)
+             && memcmp(to[0], to[1], sizeof to[0]) == 0
+             && memcmp(&states[0], &states[1], sizeof states[0]) == 0;
     }
-    check("encoder_feed of two chunks", from->name, is);
+    return is;
 }
 
-/* Code units and their WTF-8, and whether the last unit is a leading surrogate. */
-typedef struct {
-    const char *name;
-    size_t len;
-    uint16_t units[MOST];
-    const char *wtf8;
-    bool ends_leading;
-} any_units;
+static void read_units(const text *from) {
+    for (size_t i = 0; i < sizeof reading / sizeof *reading; i++) {
+        check(reading[i].name, from->name,
+            agree(&reading[i], units_of(from), from->len, from->len * 3 + 3, 2));
+    }
+}
 
-static const any_units rows_of_wtf8[] = {
-    {"nothing", 0, {0}, "", false},
-    {"a swapped surrogate", 1, {0x00D8}, "\xC3\x98", false},
-    {"one to four bytes", 5, {0x61, 0xE9, 0x4E2D, 0xD83D, 0xDE00},
-        "a\xC3\xA9\xE4\xB8\xAD\xF0\x9F\x98\x80", false},
-    {"unpaired surrogates", 4, {0x61, 0xDC00, 0x62, 0xD800},
-        "a\xED\xB0\x80"
-        "b\xED\xA0\x80",
-        true},
-    {"halves of pairs before a pair", 5, {0xDFFF, 0xDBFF, 0xD800, 0xDC00, 0x61},
-        "\xED\xBF\xBF\xED\xAF\xBF\xF0\x90\x80\x80"
-        "a",
-        false},
-};
+/* UTF-8 and WTF-8, well formed and not, complete and not. They are Latin-1 too. */
+static const char *const bytes8[] = {"", "abc", "a\xC3\xA9\xE4\xB8\xAD\xF0\x9F\x98\x80",
+    "\xFF\xFF\xFF", "a\xE4\xB8z", "\xC3", "a\xE4\xB8", "\xF0\x9F\x98", "\x80z",
+    "a\xED\xB0\x80z\xED\xA0\x80", "\xED\xBF\xBF\xED\xAF\xBF\xF0\x90\x80\x80z",
+    "\xED\xA0\x80\xED\xB0\x80"};
 
-/* How far a call comes, in code units and in bytes. */
-typedef struct {
-    size_t units;
-    size_t bytes;
-    dethrux_status status;
-} reach;
+static const uint32_t points[] = {0x61, 0xE9, 0x4E2D, 0x1F600, 0xD800, 0x62, 0x110000, 0x63};
 
-/* How far a call comes that leaves a leading surrogate at the end or writes it, with space for this
- * many code units, or bytes. A call from WTF-8 needs space also for a surrogate that it leaves. */
-static reach reached_wtf8(const any_units *row, bool leaves, size_t units, size_t bytes) {
-    reach at = {0, 0, DETHRUX_DONE};
-    while (at.units < row->len) {
-        size_t len = char_len(row->wtf8 + at.bytes), count = len == 4 ? 2 : 1;
-        bool is_left = leaves && row->ends_leading && at.units + 1 == row->len;
-        bool needs_space = !is_left || bytes == SIZE_MAX;
-        if (needs_space && (count > units - at.units || len > bytes - at.bytes)) {
-            at.status = DETHRUX_NO_SPACE;
-            return at;
+static void write_units(void) {
+    for (size_t i = 0; i < sizeof bytes8 / sizeof *bytes8; i++) {
+        size_t len = strlen(bytes8[i]);
+        const char *from = len == 0 ? NULL : bytes8[i];
+        for (size_t j = 0; j < sizeof writing / sizeof *writing; j++) {
+            check(writing[j].name, bytes8[i], agree(&writing[j], from, len, len + 3, 1));
         }
-        if (is_left) {
-            at.status = DETHRUX_INCOMPLETE;
-            return at;
+    }
+    for (size_t len = 0; len <= sizeof points / sizeof *points; len++) {
+        const uint32_t *from = len == 0 ? NULL : points;
+        for (size_t j = 0; j < sizeof writing_utf32 / sizeof *writing_utf32; j++) {
+            check(writing_utf32[j].name, "code points",
+                agree(&writing_utf32[j], from, len, len * 2 + 1, 1)
+                    && agree(&writing_utf32[j], points + len, 8 - len, 2 * MOST, 1));
         }
-        at.units += count;
-        at.bytes += len;
     }
-    return at;
 }
 
-static dethrux_progress feed_wtf8(const uint16_t *utf16, size_t len, void *to, size_t capacity) {
-    dethrux_decoder decoder = DETHRUX_DECODER_INIT;
-    dethrux_progress found = dethrux_u16_decoder_feed_wtf8(&decoder, utf16, len, to, capacity);
-    if (decoder.pending_len == 2 && found.status == DETHRUX_DONE && found.read == len) {
-        found.read--;
-        found.status = DETHRUX_INCOMPLETE;
-    }
-    return found;
+static size_t halved(size_t offset) {
+    return offset == DETHRUX_NOT_FOUND ? offset : offset / 2;
 }
 
-/* A stream of one chunk, and its end. */
-static dethrux_progress encode_wtf8(
-    const void *wtf8, size_t len, uint16_t *to, size_t capacity) {
-    dethrux_wtf8_encoder encoder = DETHRUX_WTF8_ENCODER_INIT;
-    dethrux_progress found = dethrux_u16_wtf8_encoder_feed(&encoder, wtf8, len, to, capacity);
-    if (encoder.pending_len > 0) {
-        found.written += dethrux_u16_wtf8_encoder_finish(
-            &encoder, to + found.written, capacity - found.written).written;
-    }
-    return found;
+static bool is_found(
+    const uint16_t *units, size_t len, const uint16_t *pattern, size_t pattern_len) {
+    return dethrux_u16_find(units, len, pattern, pattern_len)
+               == halved(dethrux_find(native(), units, len * 2, pattern, pattern_len * 2))
+           && dethrux_u16_rfind(units, len, pattern, pattern_len)
+                  == halved(dethrux_rfind(native(), units, len * 2, pattern, pattern_len * 2));
 }
 
-static const struct {
-    const char *name;
-    dethrux_progress (*call)(const uint16_t *utf16, size_t len, void *to, size_t capacity);
-    bool leaves;
-} calls_to_wtf8[] = {
-    {"to_wtf8", dethrux_u16_to_wtf8, false},
-    {"to_wtf8_partial", dethrux_u16_to_wtf8_partial, true},
-    {"decoder_feed_wtf8", feed_wtf8, true},
-};
-
-static const struct {
-    const char *name;
-    dethrux_progress (*call)(const void *wtf8, size_t len, uint16_t *to, size_t capacity);
-    bool leaves;
-} calls_from_wtf8[] = {
-    {"from_wtf8", dethrux_u16_from_wtf8, false},
-    {"from_wtf8_partial", dethrux_u16_from_wtf8_partial, true},
-    {"wtf8_encoder_feed", encode_wtf8, false},
-};
-
-/* In a buffer of each size, up to the one that the header says suffices. */
-static void to_wtf8(const any_units *row) {
-    const uint16_t *units = row->len == 0 ? NULL : row->units;
-    check("to_wtf8_len", row->name, dethrux_u16_to_wtf8_len(units, row->len) == strlen(row->wtf8));
-    for (size_t i = 0; i < sizeof calls_to_wtf8 / sizeof *calls_to_wtf8; i++) {
-        bool is = true;
-        for (size_t capacity = 0; capacity <= row->len * 3; capacity++) {
-            uint8_t to[BUFFER];
-            memset(to, BLANK, sizeof to);
-            dethrux_progress found =
-                calls_to_wtf8[i].call(units, row->len, capacity == 0 ? NULL : to, capacity);
-            reach wanted = reached_wtf8(row, calls_to_wtf8[i].leaves, SIZE_MAX, capacity);
-            is = is && found.read == wanted.units && found.written == wanted.bytes
-                 && found.status == wanted.status && found.error_len == 0
-                 && (capacity < row->len * 3 || found.status != DETHRUX_NO_SPACE)
-                 && memcmp(to, row->wtf8, found.written) == 0 && is_blank(to, capacity);
+/* A text with itself and with each other one, and the search for them and for its own parts. */
+static void compare_and_search(const text *from) {
+    const uint16_t *units = units_of(from);
+    const size_t len = from->len;
+    bool is_compared = true, is = true;
+    for (size_t i = 0; i < TEXTS; i++) {
+        const uint16_t *other = units_of(&texts[i]);
+        size_t other_len = texts[i].len;
+        is_compared = is_compared
+                      && dethrux_u16_compare(units, len, other, other_len)
+                             == dethrux_compare(
+                                 native(), units, len * 2, native(), other, other_len * 2);
+        is = is && is_found(units, len, other, other_len);
+    }
+    for (size_t start = 0; start < len; start++) {
+        for (size_t end = start; end <= len; end++) {
+            is = is && is_found(units, len, units + start, end - start);
         }
-        check(calls_to_wtf8[i].name, row->name, is);
     }
-}
-
-static void from_wtf8(const any_units *row) {
-    size_t len = strlen(row->wtf8);
-    check("from_wtf8_len", row->name, dethrux_from_wtf8_len(row->wtf8, len) == row->len * 2);
-    for (size_t i = 0; i < sizeof calls_from_wtf8 / sizeof *calls_from_wtf8; i++) {
-        bool is = true;
-        for (size_t capacity = 0; capacity <= len; capacity++) {
-            uint16_t to[BUFFER / 2];
-            memset(to, BLANK, sizeof to);
-            dethrux_progress found = calls_from_wtf8[i].call(
-                len == 0 ? NULL : row->wtf8, len, capacity == 0 ? NULL : to, capacity);
-            reach wanted = reached_wtf8(row, calls_from_wtf8[i].leaves, capacity, SIZE_MAX);
-            is = is && found.read == wanted.bytes && found.written == wanted.units
-                 && found.status == wanted.status && found.error_len == 0
-                 && (capacity < len || found.status != DETHRUX_NO_SPACE)
-                 && memcmp(to, row->units, found.written * 2) == 0 && is_blank(to, capacity * 2);
-        }
-        check(calls_from_wtf8[i].name, row->name, is);
-    }
-}
-
-/* The length of an ill-formed sequence counts bytes, and the pending surrogate of a stream is
- * written at its end. */
-static void ends_of_wtf8(void) {
-    static const uint8_t pair[] = {0xED, 0xA0, 0x80, 0xED, 0xB0, 0x80};
-    static const uint16_t units[] = {0x61, 0xD83D, 0x62};
-    const dethrux_progress ill_formed = {3, 1, DETHRUX_ILL_FORMED, 3};
-    uint16_t to[6];
-    uint8_t wtf8[12];
-    dethrux_decoder decoder = DETHRUX_DECODER_INIT;
-    check("from_wtf8", "an encoded pair",
-        is_same(dethrux_u16_from_wtf8(pair, 6, to, 6), ill_formed));
-    check("from_wtf8_partial", "an encoded pair",
-        is_same(dethrux_u16_from_wtf8_partial(pair, 6, to, 6), ill_formed)
-            && is_same(encode_wtf8(pair, 6, to, 6), ill_formed));
-    dethrux_progress one = dethrux_u16_decoder_feed_wtf8(&decoder, units, 2, wtf8, 9);
-    dethrux_progress two = dethrux_u16_decoder_feed_wtf8(&decoder, units + 2, 1, wtf8 + 1, 6);
-    check("decoder_feed_wtf8 of two chunks", "a leading surrogate",
-        one.read == 2 && one.written == 1 && two.read == 1 && two.written == 4
-            && memcmp(wtf8, "a\xED\xA0\xBD" "b", 5) == 0);
-}
-
-/* Two texts, and how the first compares with the second. */
-static const struct {
-    const char *name;
-    size_t first_len, second_len;
-    uint16_t first[MOST], second[MOST];
-    int32_t wanted;
-} pairs[] = {
-    {"nothing and nothing", 0, 0, {0}, {0}, 0},
-    {"a text and nothing", 1, 0, {0}, {0}, 1},
-    {"a text and itself", 3, 3, {0x61, 0x4E2D, 0xE9}, {0x61, 0x4E2D, 0xE9}, 0},
-    {"a text and its first half", 4, 2, {0x61, 0x62, 0x63, 0x64}, {0x61, 0x62}, 1},
-    {"texts that differ at the end", 3, 3, {0x61, 0x62, 0x63}, {0x61, 0x62, 0x64}, -1},
-    {"bytes in the other order", 1, 1, {0x0100}, {0x0002}, 1},
-    {"a code unit above surrogates, and a pair", 1, 2, {0xFF5E}, {0xD83D, 0xDE00}, -1},
-    {"an unpaired surrogate and U+FFFD", 1, 1, {0xD800}, {0xFFFD}, 0},
-};
-
-static void compare(void) {
-    for (size_t i = 0; i < sizeof pairs / sizeof *pairs; i++) {
-        size_t first_len = pairs[i].first_len, second_len = pairs[i].second_len;
-        const uint16_t *first = first_len == 0 ? NULL : pairs[i].first;
-        const uint16_t *second = second_len == 0 ? NULL : pairs[i].second;
-        check("compare", pairs[i].name,
-            dethrux_u16_compare(first, first_len, second, second_len) == pairs[i].wanted
-                && dethrux_u16_compare(second, second_len, first, first_len) == -pairs[i].wanted);
-    }
-}
-
-/* A text, a pattern, and the first and the last code unit at which it occurs. */
-static const struct {
-    const char *name;
-    size_t len, pattern_len;
-    uint16_t units[MOST], pattern[MOST];
-    size_t first, last;
-} searches[] = {
-    {"nothing in nothing", 0, 0, {0}, {0}, 0, 0},
-    {"nothing in a text", 3, 0, {0x61, 0x62, 0x63}, {0}, 0, 3},
-    {"a text in nothing", 0, 1, {0}, {0x61}, DETHRUX_NOT_FOUND, DETHRUX_NOT_FOUND},
-    {"a text in itself", 3, 3, {0x61, 0x4E2D, 0xE9}, {0x61, 0x4E2D, 0xE9}, 0, 0},
-    {"a text in its first half", 2, 4, {0x61, 0x62}, {0x61, 0x62, 0x61, 0x62}, DETHRUX_NOT_FOUND,
-        DETHRUX_NOT_FOUND},
-    {"a text in others", 3, 2, {0x61, 0x62, 0x63}, {0x61, 0x63}, DETHRUX_NOT_FOUND,
-        DETHRUX_NOT_FOUND},
-    {"a unit that is there twice", 5, 1, {0x61, 0x62, 0x63, 0x62, 0x61}, {0x62}, 1, 3},
-    {"places that overlap", 6, 3, {0x62, 0x61, 0x62, 0x61, 0x62, 0x61}, {0x61, 0x62, 0x61}, 1, 3},
-    {"the end", 6, 2, {0x61, 0x62, 0x63, 0x61, 0x61, 0x62}, {0x61, 0x62}, 0, 4},
-    {"only the end", 6, 2, {0x61, 0x63, 0x61, 0x63, 0x61, 0x62}, {0x61, 0x62}, 4, 4},
-    {"only the start", 6, 2, {0x61, 0x62, 0x61, 0x63, 0x61, 0x63}, {0x61, 0x62}, 0, 0},
-    {"bytes in the other order", 2, 1, {0x6100, 0x0061}, {0x0061}, 1, 1},
-    {"bytes of two units", 2, 1, {0x4161, 0x6141}, {0x4141}, DETHRUX_NOT_FOUND, DETHRUX_NOT_FOUND},
-    {"a pair", 5, 2, {0xD83D, 0xDE00, 0x61, 0xD83D, 0xDE00}, {0xD83D, 0xDE00}, 0, 3},
-    {"the first half of a pair", 3, 1, {0xD83D, 0xDE00, 0xD83D}, {0xD83D}, 2, 2},
-    {"the second half of a pair", 3, 1, {0xDE00, 0xD83D, 0xDE00}, {0xDE00}, 0, 0},
-    {"only half of a pair", 3, 2, {0x61, 0xD83D, 0xDE00}, {0x61, 0xD83D}, DETHRUX_NOT_FOUND,
-        DETHRUX_NOT_FOUND},
-    {"a swapped pair", 4, 1, {0x00DE, 0x3DD8, 0x00DE, 0x3DD8}, {0x00DE}, 0, 2},
-};
-
-static void search(void) {
-    for (size_t i = 0; i < sizeof searches / sizeof *searches; i++) {
-        size_t len = searches[i].len, pattern_len = searches[i].pattern_len;
-        const uint16_t *units = len == 0 ? NULL : searches[i].units;
-        const uint16_t *pattern = pattern_len == 0 ? NULL : searches[i].pattern;
-        check("find", searches[i].name,
-            dethrux_u16_find(units, len, pattern, pattern_len) == searches[i].first);
-        check("rfind", searches[i].name,
-            dethrux_u16_rfind(units, len, pattern, pattern_len) == searches[i].last);
-    }
-}
-
-/* A text, and the code unit at which its first NUL is, or its length. */
-static const struct {
-    const char *name;
-    size_t len;
-    uint16_t units[MOST];
-    size_t nul;
-} nuls[] = {
-    {"nothing", 0, {0}, 0},
-    {"none", 3, {0x61, 0x62, 0x63}, 3},
-    {"only one", 1, {0}, 0},
-    {"the first unit", 3, {0, 0x61, 0x62}, 0},
-    {"the last unit", 3, {0x61, 0x62, 0}, 2},
-    {"two", 5, {0x61, 0, 0x62, 0, 0x63}, 1},
-    {"two in a row", 4, {0x61, 0x62, 0, 0}, 2},
-    {"zero bytes of two units", 4, {0x0100, 0x0061, 0x6100, 0x0001}, 4},
-};
-
-static void first_nul(void) {
-    for (size_t i = 0; i < sizeof nuls / sizeof *nuls; i++) {
-        const uint16_t *units = nuls[i].len == 0 ? NULL : nuls[i].units;
-        check("nul_offset", nuls[i].name,
-            dethrux_u16_nul_offset(units, nuls[i].len) == nuls[i].nul);
-    }
+    check("compare", from->name, is_compared);
+    check("find and rfind", from->name, is);
 }
 
 /* The other type of code units. */
@@ -623,31 +335,23 @@ static void capacities(void) {
         && DETHRUX_U16_FROM_UTF32_MAX(len) == DETHRUX_FROM_UTF32_MAX((size_t)len) / 2
         && DETHRUX_U16_DECODER_FEED_MAX(len) == DETHRUX_DECODER_FEED_MAX(bytes)
         && DETHRUX_U16_ENCODER_FEED_MAX(len) == DETHRUX_ENCODER_FEED_MAX((size_t)len) / 2
+        && DETHRUX_U16_WTF8_ENCODER_FEED_MAX(len)
+               == DETHRUX_WTF8_ENCODER_FEED_MAX((size_t)len) / 2
         && DETHRUX_U16_TO_UTF8_MAX(1 + 1) == 6 && DETHRUX_U16_FROM_UTF8_MAX(1 + 1) * 2 == 4
         && DETHRUX_U16_FROM_UTF32_MAX(1 + 1) == 4 && DETHRUX_U16_DECODER_FEED_MAX(1 + 1) * 2 == 18
-        && DETHRUX_U16_ENCODER_FEED_MAX(1 + 1) * 2 == 6);
+        && DETHRUX_U16_ENCODER_FEED_MAX(1 + 1) * 2 == 6
+        && DETHRUX_U16_WTF8_ENCODER_FEED_MAX(1 + 1) * 2 == 8);
 }
 
 int main(void) {
-    for (size_t i = 0; i < sizeof texts / sizeof *texts; i++) {
+    for (size_t i = 0; i < TEXTS; i++) {
         look(&texts[i]);
         cut(&texts[i]);
         change(&texts[i]);
-        to_utf8(&texts[i]);
-        decode(&texts[i]);
+        read_units(&texts[i]);
+        compare_and_search(&texts[i]);
     }
-    for (size_t i = 0; i < sizeof texts8 / sizeof *texts8; i++) {
-        from_utf8(&texts8[i]);
-        decode8(&texts8[i]);
-    }
-    for (size_t i = 0; i < sizeof rows_of_wtf8 / sizeof *rows_of_wtf8; i++) {
-        to_wtf8(&rows_of_wtf8[i]);
-        from_wtf8(&rows_of_wtf8[i]);
-    }
-    ends_of_wtf8();
-    compare();
-    search();
-    first_nul();
+    write_units();
     other_type();
     capacities();
     printf("%d passed, %d failed\n", passed, failed);

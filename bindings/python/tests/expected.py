@@ -55,11 +55,6 @@ def utf16(order):
     return [sample + odd for sample in samples for odd in (b"", b"\xd8", b"\x61")]
 
 
-def code_units(raw, order):
-    """Return the whole code units of bytes, as numbers."""
-    return [int.from_bytes(raw[at : at + 2], order) for at in range(0, len(raw) - 1, 2)]
-
-
 class Item(NamedTuple):
     """A character or an ill-formed sequence, which may be an incomplete character at the end."""
 
@@ -84,19 +79,6 @@ def items(raw, codec):
             end = at + error.end
         found += [Item(len(char.encode(codec)), char) for char in text] + ill_formed
         at = end
-    return found
-
-
-def replaced(raw, codec):
-    """Return how many ill-formed sequences bytes have."""
-    return sum(item.char is None for item in items(raw, codec))
-
-
-def boundaries(raw, order):
-    """Return the offsets between the characters and the ill-formed sequences of UTF-16."""
-    found = [0]
-    for item in items(raw, CODECS[order]):
-        found.append(found[-1] + item.length)
     return found
 
 

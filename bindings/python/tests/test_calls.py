@@ -5,9 +5,12 @@ import codecs
 import collections
 import inspect
 import itertools
-import random
+import os
+import subprocess
+import sys
 import typing
 import unittest
+from pathlib import Path
 
 import dethrux
 from dethrux import BomStatus, Status, _codecs
@@ -23,17 +26,15 @@ from expected import (
     UTF8,
     WRITABLE,
     Index,
-    boundaries,
-    code_units,
     items,
     mapped,
     peak,
     progress,
-    replaced,
     utf16,
     without_memory,
 )
 
+TOP = Path(os.environ.get("DETHRUX_TOP") or Path(__file__).resolve().parents[3])
 # The conversions, and the status at which each stops.
 TO_UTF8 = {"to_utf8": "ill-formed", "to_utf8_partial": "incomplete", "to_utf8_lossy": None}
 FROM_UTF8 = {"from_utf8": "ill-formed", "from_utf8_lossy": None}
@@ -120,29 +121,7 @@ def outcome(call, *arguments):
 
 
 class Functions(unittest.TestCase):
-    """The results, compared with CPython's codecs, for each sample in both byte orders."""
-
-    def test_reading(self):
-        for order, raw, codec in each_utf16():
-            with self.subTest(order=order, raw=raw):
-                stopped = progress(raw, codec, codec, "ill-formed", LARGEST)
-                self.assertEqual(dethrux.validate(raw, order), stopped[1:])
-                lossy = raw.decode(codec, "replace")
-                self.assertEqual(dethrux.to_utf8_lossy_len(raw, order), len(lossy.encode()))
-                self.assertEqual(dethrux.to_utf8_replacements(raw, order), replaced(raw, codec))
-                is_ascii = stopped[2] == Status.DONE and lossy.isascii()
-                self.assertIs(dethrux.is_ascii(raw, order), is_ascii)
-                counted = [unit for unit in code_units(raw, order) if not 0xDC00 <= unit <= 0xDFFF]
-                self.assertEqual(dethrux.count_chars(raw, order), len(counted))
-
-    def test_lengths_from_utf8(self):
-        for utf8 in UTF8:
-            with self.subTest(utf8=utf8):
-                strict = progress(utf8, "utf-8", "utf-16-le", "ill-formed", LARGEST)
-                self.assertEqual(dethrux.from_utf8_len(utf8), len(strict[0]))
-                lossy = utf8.decode("utf-8", "replace").encode("utf-16-le")
-                self.assertEqual(dethrux.from_utf8_lossy_len(utf8), len(lossy))
-                self.assertEqual(dethrux.from_utf8_replacements(utf8), replaced(utf8, "utf-8"))
+    """The results, compared with CPython's codecs for each sample in both byte orders."""
 
     def check_conversion(self, name, order, raw, source, target, stops):
         whole = progress(raw, source, target, stops, LARGEST)
@@ -191,93 +170,18 @@ class Functions(unittest.TestCase):
                     lambda it: utf8.decode("utf-8", it).encode(codec, it),
                 )
 
-    def test_boundaries(self):
+    def test_offsets_after_the_end(self):
         for order, raw, _codec in each_utf16():
-            with self.subTest(order=order, raw=raw):
-                among = boundaries(raw, order)
-                past = len(raw) + 1, 2 * len(raw) + 2, 2**63, LARGEST, 2**64, 2**64 + 2, 10**30
-                for at in (*range(len(raw) + 1), *past):
-                    floor = max(each for each in among if each <= at)
-                    self.assertIs(dethrux.is_char_boundary(raw, order, at), at in among, at)
-                    self.assertEqual(dethrux.floor_char_boundary(raw, order, at), floor, at)
-                    if at <= len(raw):
-                        around = raw[max(at // 2 * 2 - 2, 0) :][:4]
-                        found = dethrux.floor_char_boundary_around(around, order, at)
-                        self.assertEqual(found, floor, at)
+            past = len(raw) + 1, 2 * len(raw) + 2, 2**63, LARGEST, 2**64, 2**64 + 2, 10**30
+            for at in past:
+                self.assertIs(dethrux.is_char_boundary(raw, order, at), False, at)
+                self.assertEqual(dethrux.floor_char_boundary(raw, order, at), len(raw), at)
 
-    def test_boundaries_of_a_long_file(self):
-        for order, codec in CODECS.items():
-            around = "\U0001f600".encode(codec)
-            for at, floor in ((2**63, 2**63 - 2), (LARGEST, LARGEST - 3), (2**63 + 2, 2**63)):
-                found = dethrux.floor_char_boundary_around(around, order, at)
-                self.assertEqual(found, floor)
-            text = "\u4e00\u4e01".encode(codec)
-            self.assertEqual(dethrux.floor_char_boundary_around(text, order, 2**63 + 1), 2**63)
-
-    def test_shards(self):
-        numbers = (*range(12), 2**63 - 1, 2**63, LARGEST - 1, LARGEST)
-        counts = (0, 1, 2, 3, 5, 12, 2**63, LARGEST)
-        indices = (*range(6), 2**63, LARGEST - 1, LARGEST)
-        for length, count, index in itertools.product(numbers, counts, indices):
-            expected = length
-            if index < count:
-                each, longer = divmod(length // 2, count)
-                expected = 2 * (each * index + min(index, longer))
-            found = dethrux.shard_offset(length, count, index)
-            self.assertEqual(found, expected, (length, count, index))
-
-    def test_compare(self):
-        samples = [(order, raw) for order in ORDERS for raw in utf16(order)]
-        for (order, raw), (other_order, other) in itertools.product(samples, samples):
-            text = raw.decode(CODECS[order], "replace")
-            other_text = other.decode(CODECS[other_order], "replace")
-            expected = (text > other_text) - (text < other_text)
-            found = dethrux.compare(raw, order, other, other_order)
-            self.assertEqual(found, expected, (order, raw, other_order, other))
-
-    def check_search(self, raw, pattern, order, among):
-        """Compare with the boundaries that have the bytes of the pattern."""
-        found = [at for at in among if raw.startswith(pattern, at) and at + len(pattern) in among]
-        first, last = (found[0], found[-1]) if found else (-1, -1)
-        self.assertEqual(dethrux.find(raw, pattern, order), first, pattern)
-        self.assertEqual(dethrux.rfind(raw, pattern, order), last, pattern)
-
-    def test_search(self):
-        others = {raw for order in ORDERS for raw in utf16(order)}
-        for order, raw, _codec in each_utf16():
-            parts = itertools.combinations_with_replacement(range(len(raw) + 1), 2)
-            patterns = others | {raw[start:end] for start, end in parts}
-            # The odd byte is at the end, or each code unit after it is moved by one.
-            for twice in (raw[: len(raw) // 2 * 2] + raw, raw + raw):
-                with self.subTest(order=order, raw=twice):
-                    among = boundaries(twice, order)
-                    for pattern in patterns:
-                        self.check_search(twice, pattern, order, among)
-
-    def test_search_as_in_a_str(self):
-        numbers = random.Random(1)
-        for _ in range(2000):
-            text = "".join(numbers.choices("aab\u6100\U0001f600", k=numbers.randrange(60)))
-            start = numbers.randrange(len(text) + 1)
-            inside = text[start : start + numbers.randrange(5)]
-            pattern = numbers.choice((inside, "".join(numbers.choices("ab\u6100", k=3))))
-            for order, codec in CODECS.items():
-                raw, sought = text.encode(codec), pattern.encode(codec)
-                for call, at in (
-                    (dethrux.find, text.find(pattern)),
-                    (dethrux.rfind, text.rfind(pattern)),
-                ):
-                    expected = -1 if at < 0 else len(text[:at].encode(codec))
-                    self.assertEqual(call(raw, sought, order), expected, (text, pattern))
-
-    def test_nul_offset(self):
-        samples = {raw for order in ORDERS for raw in utf16(order)}
-        samples |= {b"", b"\0", b"\0\0", b"a\0\0", b"a\0\0\1", b"a\0\0\0b\0\0\0"}
-        samples |= {b"a\0" * at + b"\0\0" + b"\0b" * 40 for at in range(80)}
-        for raw in samples:
-            units = [raw[at : at + 2] for at in range(0, len(raw), 2)]
-            expected = 2 * units.index(b"\0\0") if b"\0\0" in units else len(raw)
-            self.assertEqual(dethrux.nul_offset(raw), expected, raw)
+    def test_cases(self):
+        """The tables that Rattle, C, Rust and JavaScript also check."""
+        command = [sys.executable, TOP / "examples/c/check.py"]
+        run = subprocess.run(command, stdout=subprocess.PIPE, text=True)
+        self.assertEqual(run.returncode, 0, run.stdout[-2000:])
 
     def test_detect_bom(self):
         little = ("little", 2, BomStatus.PRESENT)

@@ -1,10 +1,8 @@
-//! Every call at its edges, in both byte orders, compared with std on the same input, also on
-//! random code units and bytes: each capacity from 0 to what suffices, offsets past the end, odd
-//! lengths, each end of a stream.
+//! Calls at their edges, in both byte orders, compared with std on the same input: each capacity
+//! from 0 to what suffices, odd lengths, each end of a stream. `cases.rs` has the other calls.
 
 use dethrux::ByteOrder::{BigEndian, LittleEndian};
 use dethrux::*;
-use std::cmp::Ordering;
 use std::mem::{self, MaybeUninit};
 use std::str;
 
@@ -42,47 +40,6 @@ const UTF8: &[&[u8]] = &[
     b"\xED\xA0\x80\xC0\x80",
 ];
 
-/// Random numbers from the steps of splitmix64.
-struct Random(u64);
-
-impl Random {
-    fn below(&mut self, end: u64) -> u64 {
-        self.0 = self.0.wrapping_add(0x9E37_79B9_7F4A_7C15);
-        let mixed = (self.0 ^ (self.0 >> 30)).wrapping_mul(0xBF58_476D_1CE4_E5B9);
-        let mixed = (mixed ^ (mixed >> 27)).wrapping_mul(0x94D0_49BB_1331_11EB);
-        (mixed ^ (mixed >> 31)) % end
-    }
-
-    fn list<T>(&mut self, item: fn(&mut Random) -> T) -> Vec<T> {
-        (0..self.below(24)).map(|_| item(self)).collect()
-    }
-}
-
-/// Code units, many of which are surrogates, paired and unpaired.
-fn random_units() -> Vec<Vec<u16>> {
-    let unit = |random: &mut Random| match random.below(6) {
-        0 => 0xD800 + random.below(0x400) as u16,
-        1 => 0xDC00 + random.below(0x400) as u16,
-        2 => random.below(0x10000) as u16,
-        _ => random.below(0x80) as u16,
-    };
-    (0..100).map(|seed| Random(seed).list(unit)).collect()
-}
-
-/// The samples of UTF-8, and random bytes, many of which begin or continue a character.
-fn utf8_samples() -> Vec<Vec<u8>> {
-    let byte = |random: &mut Random| match random.below(4) {
-        0 => 0x80 + random.below(0x40) as u8,
-        1 => 0xC0 + random.below(0x40) as u8,
-        _ => random.below(0x80) as u8,
-    };
-    let random = (0..100).map(|seed| Random(seed).list(byte));
-    UTF8.iter()
-        .map(|utf8| utf8.to_vec())
-        .chain(random)
-        .collect()
-}
-
 /// The bytes of code units.
 fn bytes(order: ByteOrder, units: &[u16]) -> Vec<u8> {
     let unit_bytes = |unit: &u16| match order {
@@ -113,16 +70,12 @@ fn utf16_samples(order: ByteOrder) -> Vec<Vec<u8>> {
     UNITS.iter().flat_map(sample).collect()
 }
 
-/// Calls a test with both byte orders, each sample of UTF-16, and random code units.
+/// Calls a test with both byte orders and each sample of UTF-16.
 fn for_utf16(test: impl Fn(ByteOrder, &[u8])) {
     for order in ORDERS {
-        let random = random_units()
-            .into_iter()
-            .flat_map(|units| with_ends(order, &units));
-        utf16_samples(order)
-            .into_iter()
-            .chain(random)
-            .for_each(|utf16| test(order, &utf16));
+        for utf16 in utf16_samples(order) {
+            test(order, &utf16);
+        }
     }
 }
 
@@ -194,11 +147,6 @@ fn utf8_items(utf8: &[u8]) -> Vec<Item> {
 fn lossy(items: &[Item]) -> String {
     let character = |item: &Item| item.character.unwrap_or(char::REPLACEMENT_CHARACTER);
     items.iter().map(character).collect()
-}
-
-/// How many items U+FFFD replaces.
-fn replaced(items: &[Item]) -> usize {
-    items.iter().filter(|item| item.character.is_none()).count()
 }
 
 fn written(character: char, to: Option<ByteOrder>) -> Vec<u8> {
@@ -301,7 +249,7 @@ fn conversions_fill_each_capacity() {
         }
     });
     for order in ORDERS {
-        for utf8 in &utf8_samples() {
+        for utf8 in UTF8 {
             for call in FROM_UTF8 {
                 fill_each_capacity(call, order, utf8, &utf8_items(utf8), Some(order));
             }
@@ -363,7 +311,7 @@ fn capacities_suffice_and_some_input_needs_them() {
 }
 
 #[test]
-fn reading_calls_are_of_the_items() {
+fn decoding_calls_are_of_the_items() {
     for_utf16(|order, utf16| {
         let items = utf16_items(order, utf16);
         let (progress, _) = expected(&items, None, Stops::IllFormed, usize::MAX);
@@ -375,19 +323,6 @@ fn reading_calls_are_of_the_items() {
         let error = error_len.map(|error_len| (progress.read, error_len));
         let fields = |error: Utf16Error| (error.valid_up_to(), error.error_len());
         assert_eq!(validate(order, utf16).err().map(fields), error);
-        let is_ascii_text = items
-            .iter()
-            .all(|item| matches!(item.character, Some('\0'..='\x7F')));
-        assert_eq!(is_ascii(order, utf16), is_ascii_text);
-        assert_eq!(to_utf8_lossy_len(order, utf16), lossy(&items).len());
-        assert_eq!(to_utf8_replacements(order, utf16), replaced(&items));
-        let is_counted = |unit: &&u16| !matches!(unit, 0xDC00..=0xDFFF);
-        let counted = code_units(order, utf16).iter().filter(is_counted).count();
-        assert_eq!(count_chars(order, utf16), counted);
-        let units = code_units(order, utf16);
-        let nul = units.iter().position(|unit| *unit == 0);
-        assert_eq!(nul_offset(utf16), nul.map_or(utf16.len(), |at| 2 * at));
-
         assert_eq!(
             decode(order, utf16).map_err(fields),
             error.map_or(Ok(lossy(&items)), Err)
@@ -404,19 +339,11 @@ fn reading_calls_are_of_the_items() {
         };
         assert_eq!(text, format!("é{kept}"));
     });
-    for utf8 in &utf8_samples() {
-        let items = utf8_items(utf8);
-        let (_, strict) = expected(&items, Some(BigEndian), Stops::IllFormed, usize::MAX);
-        assert_eq!(from_utf8_len(utf8), strict.len());
-        let (_, all) = expected(&items, Some(BigEndian), Stops::Never, usize::MAX);
-        assert_eq!(from_utf8_lossy_len(utf8), all.len());
-        assert_eq!(from_utf8_replacements(utf8), replaced(&items));
-    }
 }
 
 #[test]
 fn encoding_calls_are_of_the_items() {
-    for utf8 in &utf8_samples() {
+    for utf8 in UTF8 {
         let text = lossy(&utf8_items(utf8));
         let units: Vec<u16> = text.encode_utf16().collect();
         assert_eq!(encode_units(&text), units);
@@ -429,143 +356,6 @@ fn encoding_calls_are_of_the_items() {
             assert_eq!(more, [&b"a"[..], &utf16].concat());
         }
     }
-}
-
-/// The offsets between the parts of UTF-16.
-fn boundaries_of(order: ByteOrder, utf16: &[u8]) -> Vec<usize> {
-    let mut boundaries = vec![0];
-    for item in utf16_items(order, utf16) {
-        boundaries.push(boundaries[boundaries.len() - 1] + item.len);
-    }
-    boundaries
-}
-
-#[test]
-fn boundaries_are_between_the_items() {
-    for_utf16(|order, utf16| {
-        let boundaries = boundaries_of(order, utf16);
-        let len = utf16.len();
-        let past = [len + 1, 2 * len + 2, 1 << 63, usize::MAX - 1, usize::MAX];
-        for at in (0..=len).chain(past) {
-            let floor = *boundaries.iter().rfind(|each| **each <= at).unwrap();
-            assert_eq!(is_char_boundary(order, utf16, at), floor == at);
-            assert_eq!(floor_char_boundary(order, utf16, at), floor);
-            if at <= len {
-                let start = (at / 2 * 2).saturating_sub(2);
-                let around = &utf16[start..len.min(start + 4)];
-                let found = floor_char_boundary_around(order, around, at as u64);
-                assert_eq!(found, floor as u64);
-            }
-        }
-    });
-}
-
-/// Searches for a pattern, and compares with the boundaries that have its bytes.
-fn search(order: ByteOrder, utf16: &[u8], boundaries: &[usize], pattern: &[u8]) {
-    let occurs = |at: &usize| {
-        utf16[*at..].starts_with(pattern) && boundaries.contains(&(at + pattern.len()))
-    };
-    let mut all = boundaries.iter().copied().filter(occurs);
-    let first = all.next();
-    let last = all.next_back().or(first);
-    assert_eq!(find(order, utf16, pattern), first, "{utf16:?} {pattern:?}");
-    assert_eq!(rfind(order, utf16, pattern), last, "{utf16:?} {pattern:?}");
-}
-
-#[test]
-fn occurrences_are_bytes_between_boundaries() {
-    let others: Vec<_> = ORDERS.into_iter().flat_map(utf16_samples).collect();
-    for order in ORDERS {
-        for utf16 in utf16_samples(order) {
-            // The odd byte is at the end, or each code unit after it is moved by one.
-            for end in [utf16.len() / 2 * 2, utf16.len()] {
-                let twice = [&utf16[..end], &utf16].concat();
-                let boundaries = boundaries_of(order, &twice);
-                for start in 0..=twice.len() {
-                    for end in start..=twice.len() {
-                        search(order, &twice, &boundaries, &twice[start..end]);
-                    }
-                }
-                for other in &others {
-                    search(order, &twice, &boundaries, other);
-                }
-            }
-        }
-    }
-}
-
-#[test]
-fn boundaries_of_a_long_file_do_not_wrap() {
-    for order in ORDERS {
-        let pair = bytes(order, &[LEADING, TRAILING]);
-        for (at, floor) in [(1 << 63, (1 << 63) - 2), (u64::MAX, u64::MAX - 3)] {
-            assert_eq!(floor_char_boundary_around(order, &pair, at), floor);
-        }
-        let text = bytes(order, &[0x4E00, 0x4E01]);
-        let found = floor_char_boundary_around(order, &text, (1 << 63) + 1);
-        assert_eq!(found, 1 << 63);
-    }
-}
-
-#[test]
-fn parts_of_a_file_have_about_the_same_length() {
-    let lens = (0..12).chain([u64::MAX / 2, u64::MAX - 1, u64::MAX]);
-    let counts = [0, 1, 2, 3, 5, 12, 1 << 63, u64::MAX];
-    for (len, count) in lens.flat_map(|len| counts.map(|count| (len, count))) {
-        for index in [0, 1, 2, 3, 4, 5, 1 << 63, u64::MAX - 1, u64::MAX] {
-            let expected = if index < count {
-                let (each, longer) = (len / 2 / count, len / 2 % count);
-                2 * (each * index + index.min(longer))
-            } else {
-                len
-            };
-            assert_eq!(
-                shard_offset(len, count, index),
-                expected,
-                "{len} {count} {index}"
-            );
-        }
-    }
-}
-
-#[test]
-fn any_two_texts_are_ordered_as_str() {
-    let samples = ORDERS.map(|order| (order, utf16_samples(order)));
-    let all = samples
-        .iter()
-        .flat_map(|(order, each)| each.iter().map(move |raw| (*order, raw)));
-    for (first_order, first) in all.clone() {
-        for (second_order, second) in all.clone() {
-            let text = lossy(&utf16_items(first_order, first));
-            let other = lossy(&utf16_items(second_order, second));
-            let found = compare(first_order, first, second_order, second);
-            assert_eq!(found, text.cmp(&other), "{first:?} {second:?}");
-        }
-    }
-    let bom: &[u8] = b"\xFE\xFF";
-    assert_eq!(
-        compare(LittleEndian, bom, BigEndian, bom),
-        Ordering::Greater
-    );
-    assert_eq!(compare(BigEndian, bom, LittleEndian, bom), Ordering::Less);
-}
-
-#[test]
-fn in_place_calls_leave_an_odd_byte() {
-    for_utf16(|order, utf16| {
-        let (whole, odd) = utf16.split_at(utf16.len() / 2 * 2);
-        let items = utf16_items(order, whole);
-        let mut mended = utf16.to_vec();
-        let unpaired = items.iter().filter(|item| item.character.is_none()).count();
-        assert_eq!(make_well_formed(order, &mut mended), unpaired);
-        let units: Vec<u16> = lossy(&items).encode_utf16().collect();
-        assert_eq!(mended, [&bytes(order, &units)[..], odd].concat());
-
-        let mut swapped = utf16.to_vec();
-        swap_byte_order(&mut swapped);
-        let reversed = whole.chunks(2).flat_map(|unit| [unit[1], unit[0]]);
-        assert!(swapped.into_iter().eq(reversed.chain(odd.iter().copied())));
-    });
 }
 
 #[test]
@@ -685,7 +475,7 @@ impl Stream for Encoder {
     }
 
     fn samples(_: ByteOrder) -> Vec<Vec<u8>> {
-        utf8_samples()
+        UTF8.iter().map(|utf8| utf8.to_vec()).collect()
     }
 
     fn items(_: ByteOrder, chunk: &[u8]) -> Vec<Item> {
@@ -883,17 +673,16 @@ fn units_are_bytes_in_the_byte_order_of_the_machine() {
 #[test]
 fn errors_of_units_count_units() {
     let fields = |error: UnitsError| (error.valid_up_to(), error.error_len());
-    let samples = UNITS.iter().map(|units| units.to_vec());
-    for units in samples.chain(random_units()) {
-        let items = utf16_items(ByteOrder::NATIVE, &bytes(ByteOrder::NATIVE, &units));
+    for units in UNITS {
+        let items = utf16_items(ByteOrder::NATIVE, &bytes(ByteOrder::NATIVE, units));
         let is_well_formed = |item: &&Item| item.character.is_some();
         let valid = items.iter().take_while(is_well_formed);
         let valid_up_to = valid.map(|item| item.len / 2).sum::<usize>();
         let stop = items.iter().find(|item| item.character.is_none());
         let error = stop.map(|item| (valid_up_to, (!item.is_incomplete).then_some(1)));
-        assert_eq!(validate_units(&units).err().map(fields), error);
+        assert_eq!(validate_units(units).err().map(fields), error);
         assert_eq!(
-            decode_units(&units).map_err(fields),
+            decode_units(units).map_err(fields),
             error.map_or(Ok(lossy(&items)), Err)
         );
     }
