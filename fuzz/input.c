@@ -8,7 +8,9 @@ static size_t two_bytes(const uint8_t *bytes) {
 
 /* Returns a byte order for three of four values, and for the fourth a value that is neither. */
 static dethrux_byte_order order_of(uint8_t byte) {
-    return (byte & 3) == 3   ? (dethrux_byte_order)byte
+    static const uint32_t OTHERS[] = {2,       3,          256,        257,
+                                      0x10000, 0x7FFFFFFF, 0x80000000, 0xFFFFFFFF};
+    return (byte & 3) == 3   ? (dethrux_byte_order)OTHERS[byte >> 5]
            : (byte & 3) == 0 ? DETHRUX_LITTLE_ENDIAN
                              : DETHRUX_BIG_ENDIAN;
 }

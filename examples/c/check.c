@@ -1099,151 +1099,6 @@ static bool is_bom_detected(void) {
     return is;
 }
 
-static bool is_same(dethrux_progress a, const text *a_to, dethrux_progress b, const text *b_to) {
-    return a.read == b.read && a.written == b.written && a.status == b.status && a.error_len == b.error_len
-        && memcmp(a_to->bytes, b_to->bytes, a.written) == 0;
-}
-
-/* Whether a search reads a byte order as little endian: the text has the two halves of a surrogate
- * pair at 10 and at 12, which in big endian are two characters. */
-static bool is_searched_as_little(search *make, dethrux_byte_order order, const text *utf16) {
-    const uint8_t *bytes = utf16->bytes;
-    bool is = make(order, bytes, utf16->len, bytes + 10, 4) == 10;
-    for (size_t at = 10; at < 14; at += 2) {
-        is = is && make(order, bytes, utf16->len, bytes + at, 2) == DETHRUX_NOT_FOUND
-            && make(DETHRUX_BIG_ENDIAN, bytes, utf16->len, bytes + at, 2) == at;
-    }
-    return is;
-}
-
-/* Whether the calls at an offset, and the comparison, read a byte order as little endian. */
-static bool are_cuts_read_as_little(dethrux_byte_order order, const text *utf16) {
-    const dethrux_byte_order little = DETHRUX_LITTLE_ENDIAN;
-    const uint8_t *bytes = utf16->bytes;
-    const size_t len = utf16->len;
-    bool is = dethrux_compare(order, bytes, len, little, bytes, len) == 0
-        && dethrux_compare(little, bytes, len, order, bytes, len) == 0
-        && dethrux_compare(DETHRUX_BIG_ENDIAN, bytes, len, little, bytes, len) != 0;
-    for (size_t at = 0; at <= len; at++) {
-        size_t floor = dethrux_floor_char_boundary(little, bytes, len, at);
-        is = is && dethrux_is_char_boundary(order, bytes, len, at) == dethrux_is_char_boundary(little, bytes, len, at)
-            && dethrux_floor_char_boundary(order, bytes, len, at) == floor && floor_in_file(order, utf16, at) == floor;
-    }
-    return is;
-}
-
-/* The same for the call that changes a text, and for the end of a stream. */
-static bool is_changed_as_little(dethrux_byte_order order, const text *utf16) {
-    text found = {0}, should = {0};
-    append(&found, utf16->bytes, utf16->len);
-    append(&should, utf16->bytes, utf16->len);
-    size_t count = dethrux_make_well_formed(DETHRUX_LITTLE_ENDIAN, should.bytes, should.len);
-    bool is = dethrux_make_well_formed(order, found.bytes, found.len) == count && same(&found, &should);
-    free(found.bytes);
-    free(should.bytes);
-    uint8_t mark[2];
-    dethrux_encoder decoder = {{0xC3, 0, 0}, 1};
-    is = is && dethrux_encoder_finish(&decoder, order, mark, 2).written == 2 && mark[0] == 0xFD && mark[1] == 0xFF;
-    uint8_t lead[3];
-    dethrux_wtf8_encoder back = {{0xED, 0xA0, 0xBD, 0, 0, 0}, 3};
-    is = is && dethrux_wtf8_encoder_finish(&back, order, mark, 2).written == 2 && mark[0] == 0x3D && mark[1] == 0xD8;
-    dethrux_decoder wtf8 = {{0x3D, 0xD8, 0}, 2};
-    return is && dethrux_decoder_finish_wtf8(&wtf8, order, lead, 3).written == 3 && memcmp(lead, "\xED\xA0\xBD", 3) == 0;
-}
-
-/* Whether every call reads a byte order as little endian, on bytes that are another text in big
- * endian. */
-static bool is_read_as_little(dethrux_byte_order order, const text *utf16, const text *utf8) {
-    const dethrux_byte_order little = DETHRUX_LITTLE_ENDIAN;
-    dethrux_validity valid = dethrux_validate(order, utf16->bytes, utf16->len), wanted = dethrux_validate(little, utf16->bytes, utf16->len);
-    bool is = valid.valid_up_to == wanted.valid_up_to && valid.status == wanted.status && valid.error_len == wanted.error_len
-        && dethrux_is_ascii(order, utf16->bytes, 2) && !dethrux_is_ascii(DETHRUX_BIG_ENDIAN, utf16->bytes, 2);
-    for (size_t i = 0; i < CALLS; i++) {
-        measure *size = calls[i].size;
-        is = is && (size == NULL || size(order, utf16->bytes, utf16->len) == size(little, utf16->bytes, utf16->len));
-    }
-    is = is && are_cuts_read_as_little(order, utf16) && is_changed_as_little(order, utf16)
-        && is_searched_as_little(dethrux_find, order, utf16) && is_searched_as_little(dethrux_rfind, order, utf16);
-    for (size_t i = 0; i < sizeof conversions / sizeof *conversions; i++) {
-        const conversion *by = &conversions[i];
-        const text *from = is_back(by->way) ? utf8 : utf16;
-        text to = blank(64), should = blank(64);
-        dethrux_progress found = by->make(order, from->bytes, from->len, to.bytes, 64);
-        is = is && is_same(found, &to, by->make(little, from->bytes, from->len, should.bytes, 64), &should);
-        free(to.bytes);
-        free(should.bytes);
-    }
-    for (int by = TO_UTF8; by <= TO_WTF8; by++) {
-        text from = by == FROM_UTF8 ? *utf8 : *utf16, fed = {0}, should = {0};
-        from.len -= by == TO_WTF8 ? from.len % 2 : 0;
-        is = in_pieces((way)by, order, &from, 1, 3, 4, &fed) && in_pieces((way)by, little, &from, 1, 3, 4, &should) && same(&fed, &should) && is;
-        free(fed.bytes);
-        free(should.bytes);
-    }
-    return is;
-}
-
-/* Values of a byte order that the header does not name. */
-static bool is_any_byte_order_fine(void) {
-    static const uint32_t values[] = {2, 3, 256, 257, 0x10000, 0x7FFFFFFF, 0x80000000, 0xFFFFFFFF};
-    text utf16 = {0}, utf8 = {0};
-    bool is = bytes_of("6100052641DC00D800D83DD800DE61", DETHRUX_LITTLE_ENDIAN, &utf16)
-        && bytes_of("61E29885F09F988061FF", DETHRUX_LITTLE_ENDIAN, &utf8);
-    for (size_t i = 0; is && i < sizeof values / sizeof *values; i++) {
-        is = is_read_as_little((dethrux_byte_order)values[i], &utf16, &utf8);
-    }
-    free(utf16.bytes);
-    free(utf8.bytes);
-    return is;
-}
-
-/* Whether a conversion writes exactly as many bytes as its capacity, and does not come to its end
- * with one byte less. */
-static bool needs(convert *make, const text *from, size_t capacity, dethrux_status status) {
-    text to = blank(capacity);
-    dethrux_progress found = make(DETHRUX_BIG_ENDIAN, from->bytes, from->len, to.bytes, capacity);
-    bool is = found.status == status && found.written == capacity && is_blank(&to, capacity);
-    if (capacity > 0) {
-        is = is && make(DETHRUX_BIG_ENDIAN, from->bytes, from->len, to.bytes, capacity - 1).status == DETHRUX_NO_SPACE;
-    }
-    free(to.bytes);
-    return is;
-}
-
-/* Inputs of this many bytes: characters that take three bytes in UTF-8, unpaired surrogates, ASCII,
- * and a byte that UTF-8 never has. */
-static bool is_bound_reached(size_t len) {
-    text three = {0}, lone = {0}, ascii = {0}, never = {0};
-    for (size_t i = 0; i < len; i++) {
-        append_byte(&three, i % 2 == 0 ? 0x4E : 0x00);
-        append_byte(&lone, i % 2 == 0 ? 0xDC : 0x00);
-        append_byte(&ascii, 'a');
-        append_byte(&never, 0xFF);
-    }
-    dethrux_status end = len % 2 == 0 ? DETHRUX_DONE : DETHRUX_INCOMPLETE;
-    bool is = needs(dethrux_to_utf8, &three, len / 2 * 3, end) && needs(dethrux_to_utf8_partial, &three, len / 2 * 3, end)
-        && needs(dethrux_to_utf8_partial, &lone, len / 2 * 3, end)
-        && needs(dethrux_to_utf8_lossy, &three, DETHRUX_UTF8_MAX(len), DETHRUX_DONE)
-        && needs(dethrux_to_utf8_lossy, &lone, DETHRUX_UTF8_MAX(len), DETHRUX_DONE)
-        && dethrux_to_utf8_lossy_len(DETHRUX_BIG_ENDIAN, lone.bytes, len) == DETHRUX_UTF8_MAX(len)
-        && needs(dethrux_to_wtf8, &three, DETHRUX_WTF8_MAX(len), end) && needs(dethrux_to_wtf8, &lone, DETHRUX_WTF8_MAX(len), end)
-        && needs(dethrux_to_wtf8_partial, &three, DETHRUX_WTF8_MAX(len), end)
-        && dethrux_to_wtf8_len(DETHRUX_BIG_ENDIAN, lone.bytes, len) == DETHRUX_WTF8_MAX(len)
-        && needs(dethrux_from_wtf8, &ascii, DETHRUX_UTF16_MAX(len), DETHRUX_DONE)
-        && needs(dethrux_from_wtf8_partial, &ascii, DETHRUX_UTF16_MAX(len), DETHRUX_DONE)
-        && dethrux_from_wtf8_len(ascii.bytes, len) == DETHRUX_UTF16_MAX(len)
-        && needs(dethrux_from_utf8, &ascii, DETHRUX_UTF16_MAX(len), DETHRUX_DONE)
-        && needs(dethrux_from_utf8_lossy, &ascii, DETHRUX_UTF16_MAX(len), DETHRUX_DONE)
-        && needs(dethrux_from_utf8_lossy, &never, DETHRUX_UTF16_MAX(len), DETHRUX_DONE)
-        && dethrux_from_utf8_len(ascii.bytes, len) == DETHRUX_UTF16_MAX(len)
-        && dethrux_from_utf8_lossy_len(never.bytes, len) == DETHRUX_UTF16_MAX(len);
-    free(three.bytes);
-    free(lone.bytes);
-    free(ascii.bytes);
-    free(never.bytes);
-    return is;
-}
-
 /* Whether a decoder in a state writes exactly as many bytes as its capacity, and does not come to
  * the chunk's end with one byte less. */
 static bool feed_needs(const decoder *state, const text *chunk, size_t capacity) {
@@ -1319,12 +1174,11 @@ static bool is_pending_bound_reached(void) {
     return is && found.valid_up_to == 0 && found.status == DETHRUX_INCOMPLETE && DETHRUX_PENDING_MAX == 3;
 }
 
-/* Each bound that the header states, at inputs that need it. */
+/* Each bound that the header states for streams, at chunks that need it. fuzz/ has the others. */
 static bool are_bounds_reached(void) {
     static const way ways[] = {TO_UTF8, FROM_UTF8, TO_WTF8, FROM_WTF8};
     bool is = is_pending_bound_reached();
     for (size_t len = 0; is && len <= 2 * SHORT + 1; len++) {
-        is = is_bound_reached(len);
         for (size_t i = 0; is && i < sizeof ways / sizeof *ways; i++) {
             is = is_feed_bound_reached(ways[i], len);
         }
@@ -1399,90 +1253,6 @@ static bool is_version_of_parts(void) {
     return DETHRUX_VERSION == 2003004;
 }
 
-/* Feeds a decoder a chunk in little endian: the text that is written, all of the chunk or nothing,
- * and the bytes that are pending afterwards. */
-static bool feeds(decoder *by, const char *chunk, size_t room, dethrux_status status, const char *written, const char *pending) {
-    text from = {0}, should = {0}, left = {0}, to = blank(room);
-    bool is = bytes_of(chunk, DETHRUX_LITTLE_ENDIAN, &from) && bytes_of(written, DETHRUX_LITTLE_ENDIAN, &should)
-        && bytes_of(pending, DETHRUX_LITTLE_ENDIAN, &left);
-    dethrux_progress found = feed(by, from.bytes, from.len, to.bytes, room);
-    is = is && found.status == status && found.read == (status == DETHRUX_DONE ? from.len : 0) && found.error_len == 0
-        && is_blank(&to, room);
-    to.len = found.written;
-    text holds = pending_of(by);
-    is = is && same(&to, &should) && same(&holds, &left);
-    free(from.bytes);
-    free(should.bytes);
-    free(left.bytes);
-    free(to.bytes);
-    return is;
-}
-
-/* A state that no call left: three bytes of two characters, and a length above three. */
-static bool is_any_state_fine(void) {
-    decoder by = new_decoder(TO_UTF8, DETHRUX_LITTLE_ENDIAN), back = new_decoder(FROM_UTF8, DETHRUX_LITTLE_ENDIAN);
-    decoder wtf8 = new_decoder(TO_WTF8, DETHRUX_LITTLE_ENDIAN), any = new_decoder(FROM_WTF8, DETHRUX_LITTLE_ENDIAN);
-    by.utf16 = wtf8.utf16 = (dethrux_decoder){{0x41, 0x00, 0x42}, 200};
-    back.utf8 = (dethrux_encoder){{0x41, 0xE4, 0xB8}, 200};
-    any.wtf8 = (dethrux_wtf8_encoder){{0x41, 0x42, 0xED, 0xA0, 0xBD, 0xF0}, 200};
-    return feeds(&by, "-", 4, DETHRUX_DONE, "41", "42") && feeds(&by, "0043", 0, DETHRUX_NO_SPACE, "-", "42")
-        && feeds(&by, "0043", 4, DETHRUX_DONE, "42", "43") && feeds(&back, "-", 4, DETHRUX_DONE, "4100", "E4B8")
-        && finish(&wtf8, NULL, 0).status == DETHRUX_NO_SPACE && wtf8.utf16.pending_len == 200
-        && feeds(&wtf8, "-", 4, DETHRUX_DONE, "41", "42") && feeds(&wtf8, "0000DC00D8", 4, DETHRUX_DONE, "42EDB080", "00D8")
-        && feeds(&any, "9F", 3, DETHRUX_NO_SPACE, "4100", "42EDA0BDF0") && feeds(&any, "9F", 6, DETHRUX_DONE, "4200", "EDA0BDF09F")
-        && feeds(&back, "80C3", 1, DETHRUX_NO_SPACE, "-", "E4B8") && feeds(&back, "80C3", 4, DETHRUX_DONE, "004E", "C3");
-}
-
-/* Null pointers with length 0. */
-static bool is_empty_fine(void) {
-    dethrux_swap_byte_order(NULL, 0);
-    const dethrux_byte_order little = DETHRUX_LITTLE_ENDIAN, big = DETHRUX_BIG_ENDIAN;
-    const uint8_t letter[] = {'a'};
-    decoder by = new_decoder(TO_UTF8, big), back = new_decoder(FROM_UTF8, big), wtf8 = new_decoder(TO_WTF8, big);
-    decoder from_wtf8 = new_decoder(FROM_WTF8, big);
-    bool is = true;
-    for (size_t i = 0; i < sizeof conversions / sizeof *conversions; i++) {
-        is = is && conversions[i].make(little, NULL, 0, NULL, 0).status == DETHRUX_DONE
-            && conversions[i].make(big, NULL, 0, NULL, 0).status == DETHRUX_DONE;
-    }
-    for (size_t i = 0; i < CALLS; i++) {
-        measure *size = calls[i].size;
-        is = is && (size == NULL || (size(little, NULL, 0) == 0 && size(big, NULL, 0) == 0));
-    }
-    return is && feed(&wtf8, NULL, 0, NULL, 0).status == DETHRUX_DONE && finish(&wtf8, NULL, 0).status == DETHRUX_DONE
-        && feed(&by, NULL, 0, NULL, 0).status == DETHRUX_DONE && finish(&by, NULL, 0).status == DETHRUX_DONE
-        && feed(&back, NULL, 0, NULL, 0).status == DETHRUX_DONE && finish(&back, NULL, 0).status == DETHRUX_DONE
-        && feed(&from_wtf8, NULL, 0, NULL, 0).status == DETHRUX_DONE && finish(&from_wtf8, NULL, 0).status == DETHRUX_DONE
-        && dethrux_validate(little, NULL, 0).status == DETHRUX_DONE && dethrux_is_ascii(big, NULL, 0)
-        && dethrux_from_utf8_len(NULL, 0) == 0 && dethrux_from_utf8_lossy_len(NULL, 0) == 0
-        && dethrux_from_utf8_replacements(NULL, 0) == 0 && dethrux_from_wtf8_len(NULL, 0) == 0
-        && dethrux_is_char_boundary(little, NULL, 0, 0) && !dethrux_is_char_boundary(big, NULL, 0, 1)
-        && dethrux_floor_char_boundary(little, NULL, 0, 1) == 0 && dethrux_floor_char_boundary_around(big, NULL, 0, 0) == 0
-        && dethrux_find(little, NULL, 0, NULL, 0) == 0 && dethrux_find(big, letter, 1, NULL, 0) == 0
-        && dethrux_rfind(little, NULL, 0, NULL, 0) == 0 && dethrux_rfind(big, letter, 1, NULL, 0) == 1
-        && dethrux_find(big, NULL, 0, letter, 1) == DETHRUX_NOT_FOUND && dethrux_rfind(little, NULL, 0, letter, 1) == DETHRUX_NOT_FOUND
-        && dethrux_nul_offset(NULL, 0) == 0
-        && dethrux_make_well_formed(big, NULL, 0) == 0 && dethrux_compare(big, NULL, 0, little, NULL, 0) == 0
-        && dethrux_detect_bom(big, NULL, 0).status == DETHRUX_BOM_UNDECIDED;
-}
-
-/* A null pointer with a capacity of 0, for bytes that need space. */
-static bool is_no_space_fine(void) {
-    static const uint8_t letter[] = {'a', 0};
-    bool is = true;
-    for (size_t i = 0; i < sizeof conversions / sizeof *conversions; i++) {
-        size_t len = is_back(conversions[i].way) ? 1 : 2;
-        dethrux_progress found = conversions[i].make(DETHRUX_LITTLE_ENDIAN, letter, len, NULL, 0);
-        is = is && found.status == DETHRUX_NO_SPACE && found.read == 0 && found.written == 0;
-    }
-    for (int way_of = TO_UTF8; way_of <= FROM_WTF8; way_of++) {
-        decoder by = new_decoder((way)way_of, DETHRUX_LITTLE_ENDIAN);
-        dethrux_progress found = feed(&by, letter, is_back((way)way_of) ? 1 : 2, NULL, 0);
-        is = is && found.status == DETHRUX_NO_SPACE && found.read == 0 && found.written == 0;
-    }
-    return is;
-}
-
 static void run_table(FILE *table) {
     static char line[LINE];
     while (fgets(line, sizeof line, table) != NULL) {
@@ -1509,14 +1279,10 @@ int main(int words, char **names) {
         }
     }
     count(is_bom_detected(), "the BOM and the byte order of first bytes");
-    count(is_any_byte_order_fine(), "values of a byte order that the header does not name");
     count(are_bounds_reached(), "the bounds of the header at inputs that need them");
     count(are_macros_right(), "the macros of the header");
     count(is_version_same(), "the version of the header and of the library");
     count(is_version_of_parts(), "the number of a version");
-    count(is_any_state_fine(), "a state that no call left");
-    count(is_empty_fine(), "null pointers of length 0");
-    count(is_no_space_fine(), "null pointers of capacity 0");
     printf("%u passed, %u failed\n", passed, failed);
     return failed != 0;
 }

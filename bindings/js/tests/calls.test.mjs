@@ -30,21 +30,6 @@ function* strings() {
     }
 }
 
-/** The bytes of a code point, also of a surrogate, by the table of UTF-8 in the Standard. */
-function generalizedUtf8(character) {
-    const point = character.codePointAt(0);
-    const rest = (shift) => 0x80 | ((point >> shift) & 0x3f);
-    if (point < 0x80) {
-        return [point];
-    }
-    if (point < 0x800) {
-        return [0xc0 | (point >> 6), rest(0)];
-    }
-    return point < 0x10000
-        ? [0xe0 | (point >> 12), rest(6), rest(0)]
-        : [0xf0 | (point >> 18), rest(12), rest(6), rest(0)];
-}
-
 /** Random numbers, the same each time. */
 function* random(seed) {
     for (let state = seed; ; state = (Math.imul(state, 1103515245) + 12345) >>> 0) {
@@ -132,39 +117,6 @@ test("UTF-8: TextDecoder, whole and in streams", () => {
         const encoder = dethrux.encoder();
         const parts = [encoder.feed(bytes.subarray(0, cut)), encoder.feed(bytes.subarray(cut)), encoder.finish()];
         assert.equal(parts.map(stringOf).join(""), text);
-    }
-});
-
-test("WTF-8: the bytes of each code point, which give the strings back", () => {
-    for (const text of strings()) {
-        const units = unitsOf(text);
-        const { output, status } = dethrux.toWtf8(units);
-        assert.equal(status, "done");
-        assert.equal(output.length, dethrux.toWtf8Len(units));
-        assert.deepEqual(output, Uint8Array.from([...text].flatMap(generalizedUtf8)));
-        assert.equal(stringOf(dethrux.fromWtf8(output).output), text);
-        assert.deepEqual(dethrux.fromWtf8(output, "be").output, be(text));
-        assert.equal(dethrux.fromWtf8Len(output), units.length);
-        assert.equal(dethrux.fromWtf8Len(output, "be"), 2 * units.length);
-    }
-});
-
-test("searches: indexOf and lastIndexOf on well-formed strings", () => {
-    const numbers = random(9);
-    const letters = ["a", "a", "b", "\u6100", "\u{1f600}"];
-    const made = (len) => Array.from({ length: len }, () => letters[numbers.next().value % 5]);
-    for (let round = 0; round < 3000; round += 1) {
-        const characters = made(numbers.next().value % 40);
-        const start = numbers.next().value % (characters.length + 1);
-        const part = characters.slice(start, start + (numbers.next().value % 5));
-        const text = characters.join("");
-        const pattern = (round % 2 ? part : made(numbers.next().value % 4)).join("");
-        for (const [name, wanted] of [["find", text.indexOf(pattern)], ["rfind", text.lastIndexOf(pattern)]]) {
-            const inBytes = wanted === -1 ? -1 : wanted * 2;
-            assert.equal(dethrux[name](unitsOf(text), unitsOf(pattern)), wanted, `${text} ${pattern}`);
-            assert.equal(dethrux[name](le(text), "le", le(pattern)), inBytes);
-            assert.equal(dethrux[name](be(text), "be", be(pattern)), inBytes);
-        }
     }
 });
 
