@@ -112,7 +112,7 @@ make_windows() {
 
 make_dist() {
     name=dethrux-$version-dist
-    copy install.sh .ci/program.{sh,txt} bench/faults.c cases crates/utf16_{cat,enc,check}/*.1 \
+    copy install.sh .ci/{faults.c,program.{sh,txt}} cases crates/utf16_{cat,enc,check}/*.1 \
         dist docs/{C,CPP}.md examples/c/{alloc,check,decode,first,fixed,units}.c include packaging/man3
     cp "$top/dist/README.md" "$room/$name/"
     pack
