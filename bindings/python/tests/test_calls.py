@@ -522,19 +522,6 @@ class Decoders(unittest.TestCase):
                     self.assertEqual(found.output + rest, whole[0], capacity)
                     self.assertEqual(decoder.pending, raw[whole[1] :])
 
-    def test_small_capacities_reach_the_end(self):
-        for decoder, raw, source, target in each_stream():
-            with self.subTest(raw=raw, target=target):
-                whole = raw.decode(source, "replace").encode(target)
-                parts, rest, status = [], raw, Status.NO_SPACE
-                while status == Status.NO_SPACE:
-                    found = decoder.feed_partial(rest, 4)
-                    parts.append(found.output)
-                    rest, status = rest[found.read :], found.status
-                    self.assertTrue(found.output or status == Status.DONE)
-                self.assertEqual((status, rest), (Status.DONE, b""))
-                self.assertEqual(b"".join(parts) + decoder.finish(), whole)
-
     def test_the_largest_output(self):
         """A chunk of each length, after pending bytes, that needs the capacity that is taken."""
         for order, codec in CODECS.items():
