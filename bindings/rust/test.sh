@@ -82,7 +82,8 @@ test_dynamic() {
         -Wl,--whole-archive "$library" -Wl,--no-whole-archive || return
     DETHRUX_LIB_DIR=$room/shared on_crate dethrux build --features dynamic || return
     DETHRUX_LIB_DIR=$room/shared LD_LIBRARY_PATH=$room/shared \
-        on_crate dethrux test --features dynamic --test std --test adapters --test edges --test cases
+        on_crate dethrux test --features dynamic --test std --test adapters --test edges \
+        --test cases
 }
 
 test_utf16string() {

@@ -63,8 +63,8 @@ static const uint16_t *units_of(const text *from) {
     return from->len == 0 ? NULL : from->units;
 }
 
-/* Whether a call on code units did what a call on bytes did, which counts `read` and `written` times
- * as much: 2 for UTF-16, and 1 for the other form. */
+/* Whether a call on code units did what a call on bytes did, which counts `read` and `written`
+ * times as much: 2 for UTF-16, and 1 for the other form. */
 static bool is_same(dethrux_progress found, dethrux_progress bytes, size_t read, size_t written) {
     return found.read * read == bytes.read && found.written * written == bytes.written
            && found.status == bytes.status && found.error_len * read == bytes.error_len;
@@ -260,6 +260,8 @@ static const char *const bytes8[] = {"", "abc", "a\xC3\xA9\xE4\xB8\xAD\xF0\x9F\x
 
 static const uint32_t points[] = {0x61, 0xE9, 0x4E2D, 0x1F600, 0xD800, 0x62, 0x110000, 0x63};
 
+enum { POINTS = sizeof points / sizeof *points };
+
 static void write_units(void) {
     for (size_t i = 0; i < sizeof bytes8 / sizeof *bytes8; i++) {
         size_t len = strlen(bytes8[i]);
@@ -268,12 +270,12 @@ static void write_units(void) {
             check(writing[j].name, bytes8[i], agree(&writing[j], from, len, len + 3, 1));
         }
     }
-    for (size_t len = 0; len <= sizeof points / sizeof *points; len++) {
+    for (size_t len = 0; len <= POINTS; len++) {
         const uint32_t *from = len == 0 ? NULL : points;
         for (size_t j = 0; j < sizeof writing_utf32 / sizeof *writing_utf32; j++) {
             check(writing_utf32[j].name, "code points",
                 agree(&writing_utf32[j], from, len, len * 2 + 1, 1)
-                    && agree(&writing_utf32[j], points + len, 8 - len, 2 * MOST, 1));
+                    && agree(&writing_utf32[j], points + len, POINTS - len, 2 * POINTS, 1));
         }
     }
 }
