@@ -246,7 +246,8 @@ apt_get() {
 packages_run_installed() {
     purge=true
     apt_get install "$room"/first/*_amd64.deb && packages_run '' &&
-        apt_get purge "${packages[@]}" && purge=false && ! takes_module ''
+        apt_get purge "${packages[@]}" && purge=false && ! takes_module '' &&
+        printf 'x\0' | iconv -f UTF-16LE -t UTF-8 | grep -qx x
 }
 
 need "${for_arm64[@]}" x86_64-w64-mingw32-gcc:gcc-mingw-w64-x86-64 gcc:gcc g++:g++ clang:clang \

@@ -143,6 +143,7 @@ static inline dethrux_utf8_text dethrux_inner_to_utf8(dethrux_inner_call *call, 
 /** Returns the number of code units before the first NUL. */
 DETHRUX_INLINE_U16 size_t dethrux_u16_strlen(const dethrux_unit *utf16) {
     size_t at = 0;
+    (void)DETHRUX_U16_BYTES(utf16); /* In C++ this refuses elements of another size. */
     while (utf16[at] != 0) {
         at++;
     }

@@ -237,8 +237,8 @@ typedef char dethrux_enum_has_four_bytes[sizeof(dethrux_byte_order) == 4 ? 1 : -
  * How far a call came.
  *
  * `read` and `written` end between characters. The bytes of `to` after `written` have no meaning
- * and may have been overwritten. If an ill-formed sequence follows `read`, the status is
- * DETHRUX_ILL_FORMED, even if no space is left.
+ * and may have been overwritten. If a call can return DETHRUX_ILL_FORMED, it does so if an
+ * ill-formed sequence follows `read`, even if no space is left.
  */
 typedef struct dethrux_progress {
     size_t read;           /**< The number of bytes (UTF-32: code units) of the input read. */
@@ -1129,7 +1129,9 @@ DETHRUX_TWO(size_t, find, (DETHRUX_FROM, const void *other, size_t most),
     (order, from, len, other, most))
 DETHRUX_TWO(size_t, rfind, (DETHRUX_FROM, const void *other, size_t most),
     (order, from, len, other, most))
-DETHRUX_READ(size_t, nul_offset, (const void *from, size_t len), (from, len), len)
+/* The bytes after the NUL need no values. */
+DETHRUX_CALL(size_t, nul_offset, (const void *from, size_t len), (from, len),
+    DETHRUX_WRITES(from, len), DETHRUX_READS(from, result + 2 < len ? result + 2 : len))
 DETHRUX_TWO(int32_t, compare,
     (DETHRUX_FROM, dethrux_byte_order other_order, const void *other, size_t most),
     (order, from, len, other_order, other, most))

@@ -253,6 +253,12 @@ static void cut(void) {
                 && found.status == (capacity < 7 ? DETHRUX_NO_SPACE : DETHRUX_DONE)
                 && to[found.written] == (capacity == 0 ? 9 : 0) && to[capacity] == 9);
     }
+#ifndef DETHRUX_READS /* Sanitizers want a buffer of this capacity. */
+    const size_t wraps = SIZE_MAX / 2 + 1;
+    uint16_t to[2];
+    check("a capacity that wraps", dethrux_u16_from_utf8_fit("a", 1, to, wraps).written == 1
+        && dethrux_u16_from_utf8_lossy_fit("a", 1, to, wraps).written == 1);
+#endif
 }
 
 /* Lengths whose capacity wraps, and the longest that does not: nothing is read. */
@@ -287,6 +293,10 @@ static void lengths(void) {
     }
     check("u16_strlen", dethrux_u16_strlen(units) == 3 && dethrux_u16_strlen(units + 3) == 0);
     check("no field", dethrux_utf8_strnlen(NULL, 0) == 0);
+    char *field = AS(char *, malloc(80));
+    memcpy(field, "a\0b\0\0", 6);
+    check("a field that is set up to its NUL", dethrux_nul_offset(field, 80) == 4);
+    free(field);
 }
 
 int main(void) {

@@ -204,14 +204,13 @@ calls_all() {
     names dethrux_ "$2" | grep -xFf "$room/declared" | diff "$room/declared" -
 }
 
-# Whether C++ refuses code units of another size, in text that is read and in text that is changed.
+# Whether C++ refuses code units of another size, with a header and for each of these functions.
 refuses_other_sizes() {
     local line unit
     for unit in char char32_t; do
-        for line in "bool is(const $unit *text) { return dethrux_u16_is_ascii(text, 1); }" \
-            "void swap($unit *text) { dethrux_u16_swap_byte_order(text, 1); }"; do
-            printf '#include "dethrux.h"\n%s\n' "$line" | c++ -std=c++11 "-I$top/include" \
-                -fsyntax-only -x c++ - 2> "$room/refused" && return 1
+        for line in "${@:2}"; do
+            printf '#include "%s"\n%s\n' "$1" "${line/UNIT/$unit}" | c++ -std=c++11 \
+                "-I$top/include" -fsyntax-only -x c++ - 2> "$room/refused" && return 1
             grep -q 'a code unit of UTF-16 has two bytes' "$room/refused" || return
         done
     done
@@ -350,7 +349,9 @@ test_c_in_cxx() {
     count 'the header in C++' header_in_cxx
     count 'ignored results of the header in C++' warns "$room/ignored.c" c++ -std=c++17 -x c++
     count 'ignored results in C++17 by its attribute' warns_by_standard -std=c++17 -x c++
-    count 'code units of another size in C++' refuses_other_sizes
+    count 'code units of another size in C++' refuses_other_sizes dethrux.h \
+        'bool is(const UNIT *text) { return dethrux_u16_is_ascii(text, 1); }' \
+        'void swap(UNIT *text) { dethrux_u16_swap_byte_order(text, 1); }'
     count 'the check of code units in C++' c_in_cxx units && count 'code units in C++' "$room/units_cxx"
     count 'the check of UTF-32 in C++' c_in_cxx fixed && count 'UTF-32 in C++' "$room/fixed_cxx"
 }
@@ -388,6 +389,8 @@ test_alloc() {
     local ignored=$room/alloc_calls/ignored.c
     count 'the check of memory' in_c alloc && count 'memory in C' "$room/alloc"
     count 'the check of memory in C++' c_in_cxx alloc && count 'memory in C++' "$room/alloc_cxx"
+    count 'memory of another size in C++' refuses_other_sizes dethrux_alloc.h \
+        'std::size_t len(const UNIT *text) { return dethrux_u16_strlen(text); }'
     count 'the program with a field' in_c field && count 'a field' prints_field
     count 'no warnings of memory' has_no_warning && count 'half an allocator' refuses_allocators
     count 'a program that ignores memory' write_ignored dethrux_alloc "${ignored%/*}"
