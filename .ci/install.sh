@@ -242,10 +242,21 @@ apt_get() {
     apt-get -o DPkg::Lock::Timeout=600 -y -q "$@"
 }
 
+# Tests that the package refuses a module if iconv converts without it, or not by it.
+refuses_modules() {
+    local does
+    mkdir "$room/iconv" || return
+    for does in 'echo x' 'echo "${LD_DEBUG:+calling init: /DETHRUX.so}"'; do
+        printf '#!/bin/sh\n%s\n' "$does" > "$room/iconv/iconv" && chmod +x "$room/iconv/iconv" &&
+            PATH=$room/iconv:$PATH says 1 'does not run on this processor' \
+                /var/lib/dpkg/info/dethrux-iconv.postinst configure || return
+    done
+}
+
 # Installs the packages on this system, and purges them.
 packages_run_installed() {
     purge=true
-    apt_get install "$room"/first/*_amd64.deb && packages_run '' &&
+    apt_get install "$room"/first/*_amd64.deb && packages_run '' && refuses_modules &&
         apt_get purge "${packages[@]}" && purge=false && ! takes_module '' &&
         printf 'x\0' | iconv -f UTF-16LE -t UTF-8 | grep -qx x
 }

@@ -145,6 +145,14 @@ without_library() {
 
 # == an installation
 
+# Tests what `make install` asks before it leaves the module in place: iconv takes the module of a
+# folder and none of an empty one, and a module that is loaded converts.
+asks_iconv() {
+    local words=(make -s -C "$here" "CC=${CC:-cc}" works)
+    mkdir "$room/none" && "${words[@]}" GCONV="$folder" && ! "${words[@]}" GCONV="$room/none" &&
+        ! LD_LIBRARY_PATH=$room/alone "${words[@]}" GCONV="$room/alone"
+}
+
 # Runs words in the small system, as root or as if this were root.
 inside() {
     if [ $EUID = 0 ]; then chroot "$system" "$@"; else unshare -r chroot "$system" "$@"; fi
@@ -202,6 +210,7 @@ done
 check 'what the module converts' takes_its_own env GCONV_PATH="$folder"
 check 'git' in_git
 check 'without the library' without_library
+check 'what an installation asks' asks_iconv
 check 'an unknown suffix' same_as_glibc UTF-16LE -t UTF-8//UNKNOWN
 check 'an installation' installation
 check 'a folder of a packager' staged

@@ -337,6 +337,8 @@ test_sanitizers() {
     count 'wrong arguments by clang' sanitized clang address misuse reports_misuse 7
     count 'a byte that is not set' reports clang++ memory dethrux.h 'char text[2]; text[0] = 0' \
         'dethrux_is_ascii(DETHRUX_BIG_ENDIAN, text, 2)'
+    count 'a NUL in bytes that are not set' reports clang++ memory dethrux.h \
+        'char text[4]; text[2] = text[3] = 0' 'dethrux_nul_offset(text, 4)'
     count 'a view that is too long' reports g++ address dethrux.hpp 'std::string text(40, 0)' \
         'dethrux::to_utf8_lossy(dethrux::byte_order::big, dethrux::bytes(text.data(), 42)).size()'
     count 'no casts with a sanitizer' casts_nothing -fsanitize=address

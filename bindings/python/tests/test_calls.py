@@ -5,12 +5,8 @@ import codecs
 import collections
 import inspect
 import itertools
-import os
-import subprocess
-import sys
 import typing
 import unittest
-from pathlib import Path
 
 import dethrux
 from dethrux import BomStatus, Status, _codecs
@@ -34,7 +30,6 @@ from expected import (
     without_memory,
 )
 
-TOP = Path(os.environ.get("DETHRUX_TOP") or Path(__file__).resolve().parents[3])
 # The conversions, and the status at which each stops.
 TO_UTF8 = {"to_utf8": "ill-formed", "to_utf8_partial": "incomplete", "to_utf8_lossy": None}
 FROM_UTF8 = {"from_utf8": "ill-formed", "from_utf8_lossy": None}
@@ -176,12 +171,6 @@ class Functions(unittest.TestCase):
             for at in past:
                 self.assertIs(dethrux.is_char_boundary(raw, order, at), False, at)
                 self.assertEqual(dethrux.floor_char_boundary(raw, order, at), len(raw), at)
-
-    def test_cases(self):
-        """The tables that Rattle, C, Rust and JavaScript also check."""
-        command = [sys.executable, TOP / "examples/c/check.py"]
-        run = subprocess.run(command, stdout=subprocess.PIPE, text=True)
-        self.assertEqual(run.returncode, 0, run.stdout[-2000:])
 
     def test_detect_bom(self):
         little = ("little", 2, BomStatus.PRESENT)

@@ -48,9 +48,13 @@ module _ (big : Bool) (pending chunk window : List ℕ) (is : window ≡ take 12
       subst (λ b. StopsFromWtf8Partial big b read room stop) (window_joined (pending ++ chunk) window is)
       (stops_longer big window (drop 12 (pending ++ chunk)) read room stop decided here)
 
-  pub window_within : (read : ℕ) → read ≤ length window → read - length pending ≤ length chunk
-  window_within read within =
-      omega (arith, within, ap length (window_joined (pending ++ chunk) window is), length-append window (drop 12 (pending ++ chunk)), length-append pending chunk)
+-- if the window is shorter, what is stated of it is stated of all bytes
+module _ (big : Bool) (bytes window : List ℕ) (is : window ≡ take 12 bytes) (few : length window < 12) where
+  pub stops_all : (read room : ℕ) (stop : Stop) → StopsFromWtf8Partial big window read room stop → StopsFromWtf8Partial big bytes read room stop
+  stops_all read room stop here = subst (λ b. StopsFromWtf8Partial big b read room stop) (all_joined bytes window is few) here
+
+  pub leaves_all : (read : ℕ) → LeavesLeading bytes read → LeavesLeading window read
+  leaves_all read leaves = subst (λ b. LeavesLeading b read) (sym (all_joined bytes window is few)) leaves
 
 -- the rest of the chunk, after all pending bytes
 pub behind_pending : (pending chunk : List ℕ) (read : ℕ) → length pending ≤ read → rest_from chunk (read - length pending) ≡ drop read (pending ++ chunk)
@@ -80,11 +84,39 @@ module _ (big : Bool) (window : List ℕ) (read room : ℕ) where
       })
       (subst (StopsFromWtf8Partial big window read room) cut here)
 
+-- a first call for a window read it to its end, and so all pending bytes
+pub record ReadStart (big : Bool) (pending chunk to : List ℕ) (read at : ℕ) : Type 0 where
+  pub window : List ℕ
+  pub stop : Stop
+  pub is : window ≡ take 12 (pending ++ chunk)
+  pub wrote : Wrote (TranscodesFromWtf8 big) window to read at
+  pub ended : (stop ≡ Done) ⊎ (stop ≡ Incomplete)
+  pub here : StopsFromWtf8Partial big window read (length to - at) stop
+  pub past : length pending ≤ read
+
+pub read_start : (big : Bool) (pending chunk to : List ℕ) (read at : ℕ) (window : List ℕ) (stop : Stop) → window ≡ take 12 (pending ++ chunk)
+    → Wrote (TranscodesFromWtf8 big) window to read at → (stop ≡ Done) ⊎ (stop ≡ Incomplete) → StopsFromWtf8Partial big window read (length to - at) stop
+    → length pending ≤ 6 → 12 ≤ length window → ReadStart big pending chunk to read at
+read_start big pending chunk to read at window stop is wrote ended here few full = record {
+  window = window;
+  stop = stop;
+  is = is;
+  wrote = wrote;
+  ended = ended;
+  here = here;
+  past = omega (arith, few, full, many_read big window read (length to - at) stop ended here);
+}
+
+pub start_within : (big : Bool) (pending chunk to : List ℕ) (read at : ℕ) → ReadStart big pending chunk to read at → read - length pending ≤ length chunk
+start_within big pending chunk to read at start =
+    omega (arith, start.wrote.within, ap length (window_joined (pending ++ chunk) start.window start.is), length-append start.window (drop 12 (pending ++ chunk)), length-append pending chunk)
+
 -- a second call for the rest of the chunk, after all pending bytes
-module _ (big : Bool) (pending chunk window to part : List ℕ) (read at n w : ℕ) (stop : Stop) (is : window ≡ take 12 (pending ++ chunk))
-    (front : Wrote (TranscodesFromWtf8 big) window to read at) (ended : (stop ≡ Done) ⊎ (stop ≡ Incomplete))
-    (here : StopsFromWtf8Partial big window read (length to - at) stop) (past : length pending ≤ read)
+module _ (big : Bool) (pending chunk to part : List ℕ) (read at n w : ℕ) (start : ReadStart big pending chunk to read at)
     (rest : Wrote (TranscodesFromWtf8 big) (rest_from chunk (read - length pending)) part n w) (long : length part ≡ length to - at) where
+  abbrev window : List ℕ
+  window = start.window
+
   abbrev back : List ℕ
   back = drop 12 (pending ++ chunk)
 
@@ -92,16 +124,16 @@ module _ (big : Bool) (pending chunk window to part : List ℕ) (read at n w : �
   new = put_mid at (length to - at) to part
 
   all : window ++ back ≡ pending ++ chunk
-  all = window_joined (pending ++ chunk) window is
+  all = window_joined (pending ++ chunk) window start.is
 
   behind : rest_from chunk (read - length pending) ≡ drop read (window ++ back)
-  behind = behind_pending pending chunk read past ∙ ap (drop read) (sym all)
+  behind = behind_pending pending chunk read start.past ∙ ap (drop read) (sym all)
 
   abbrev before : Wrote (TranscodesFromWtf8 big) (window ++ back) to read at
-  before = Wrote-longer big window back to read at front
+  before = Wrote-longer big window back to read at start.wrote
 
   seam : IsSeam before.gives.points (drop read (window ++ back))
-  seam = seam_here big window read (length to - at) front.gives.points back front.within front.gives.spells stop ended here
+  seam = seam_here big window read (length to - at) start.wrote.gives.points back start.wrote.within start.wrote.gives.spells start.stop start.ended start.here
 
   after : Wrote (TranscodesFromWtf8 big) (drop read (window ++ back)) part n w
   after = subst (λ b. Wrote (TranscodesFromWtf8 big) b part n w) behind rest
