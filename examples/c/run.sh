@@ -90,16 +90,23 @@ casts_nothing() {
 # C strings where UTF-16 has zero bytes inside.
 refuses_in_cxx() {
     local call
+    mkdir "$room/header" && c++ -std=c++17 -w "$top/include/dethrux.hpp" -o "$room/header/dethrux.hpp.gch" &&
+        compiles 'to_utf8(u"a")' || return
     for call in 'to_utf8<std::u16string>(u"a")' 'write_utf8(u"a", units)' 'write_utf16("a", bytes)' \
         'from_utf8<std::string>("a")' 'from_utf8_lossy<std::string>("a")' 'from_wtf8<std::string>("a")' \
         'append_utf16("a", bytes)' 'append_utf16_lossy("a", bytes)' 'make_well_formed(bytes)' \
         'encoder().feed(bytes, points)' 'swap_byte_order(points)' 'to_utf8(byte_order::big, "a")' \
         'decoder().feed("a", bytes)' 'bom_decoder(byte_order::big).feed("a", bytes)'; do
-        printf '#include "dethrux.hpp"\n%s { (void)dethrux::%s; }\n' 'using namespace dethrux;
-            void call(std::string &bytes, std::u16string &units, std::u32string &points); void call(
-            std::string &bytes, std::u16string &units, std::u32string &points)' "$call" > "$room/call.cpp"
-        ! c++ -std=c++17 -w "-I$top/include" -fsyntax-only "$room/call.cpp" 2> /dev/null || return
+        ! compiles "$call" 2> /dev/null || return
     done
+}
+
+# Whether a call compiles over the header that was compiled before.
+compiles() {
+    printf '#include "dethrux.hpp"\n%s { (void)dethrux::%s; }\n' 'using namespace dethrux;
+        void call(std::string &bytes, std::u16string &units, std::u32string &points); void call(
+        std::string &bytes, std::u16string &units, std::u32string &points)' "$1" > "$room/header/call.cpp"
+    c++ -std=c++17 -w -fsyntax-only "$room/header/call.cpp"
 }
 
 header_in_cxx() {
@@ -337,8 +344,8 @@ test_sanitizers() {
     count 'wrong arguments by clang' sanitized clang address misuse reports_misuse 7
     count 'a byte that is not set' reports clang++ memory dethrux.h 'char text[2]; text[0] = 0' \
         'dethrux_is_ascii(DETHRUX_BIG_ENDIAN, text, 2)'
-    count 'a NUL in bytes that are not set' reports clang++ memory dethrux.h \
-        'char text[4]; text[2] = text[3] = 0' 'dethrux_nul_offset(text, 4)'
+    count 'a NUL whose last byte is not set' reports clang++ memory dethrux.h \
+        'char text[6] = {1}; __msan_poison(text + 3, 1)' 'dethrux_nul_offset(text, 6)'
     count 'a view that is too long' reports g++ address dethrux.hpp 'std::string text(40, 0)' \
         'dethrux::to_utf8_lossy(dethrux::byte_order::big, dethrux::bytes(text.data(), 42)).size()'
     count 'no casts with a sanitizer' casts_nothing -fsanitize=address
@@ -405,6 +412,12 @@ test_alloc() {
 
 test_cxx() {
     local compiler standard
+    count 'no casts in C++' casts_nothing
+    count 'ignored results in C++' warns "$top/examples/cpp/ignored.cpp" c++ -std=c++17
+    count 'the first program in C++' in_cxx c++ c++17 first && count 'the page for C++' prints_page cpp_first CPP
+    count 'two files in C++' in_two_files c++ -std=c++17 -include dethrux.hpp \
+        "$top"/examples/cpp/{first,ignored}.cpp
+    count 'calls that are refused in C++' refuses_in_cxx
     for compiler in "${compilers[@]}"; do
         has "$compiler" "C++ by $compiler" || continue
         for standard in "${standards[@]}"; do
@@ -412,12 +425,6 @@ test_cxx() {
                 count "C++ by $compiler in $standard" "$room/cpp_check"
         done
     done
-    count 'no casts in C++' casts_nothing
-    count 'calls that are refused in C++' refuses_in_cxx
-    count 'ignored results in C++' warns "$top/examples/cpp/ignored.cpp" c++ -std=c++17
-    count 'two files in C++' in_two_files c++ -std=c++17 -include dethrux.hpp \
-        "$top"/examples/cpp/{first,ignored}.cpp
-    count 'the first program in C++' in_cxx c++ c++17 first && count 'the page for C++' prints_page cpp_first CPP
 }
 
 memory_in_cxx() {
