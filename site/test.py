@@ -370,13 +370,13 @@ def looks(page, pictures):
 
 
 def unsupported(page):
-    """An engine without 64-bit memory gets a clear message."""
+    """An engine without vectors gets a clear message."""
     script = page.browser.call(
         "Page.addScriptToEvaluateOnNewDocument", source="WebAssembly.validate = () => false"
     )
     page.browser.open(page.address)
     page.wait("!document.getElementById('trouble').hidden", "the message")
-    page.test("memory64" in page.text("trouble"), page.text("trouble"))
+    page.test("SIMD" in page.text("trouble"), page.text("trouble"))
     page.browser.call("Page.removeScriptToEvaluateOnNewDocument", identifier=script["identifier"])
 
 

@@ -259,7 +259,7 @@ export interface Dethrux {
 
 /**
  * Loads the library: the module of the package, or another one at a URL, as bytes or compiled.
- * Throws an `Error` if the engine has no WebAssembly with 64-bit memory.
+ * Throws an `Error` if the engine has no WebAssembly with vectors of 128 bits.
  */
 export function load(source?: URL | BufferSource | WebAssembly.Module): Promise<Dethrux>;
 

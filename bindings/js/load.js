@@ -7,20 +7,22 @@ import { streams } from "./streams.js";
 
 // The version of the header that has these calls, as dethrux_version returns it.
 const VERSION = 2000;
-// A module with a memory of 64-bit addresses, and nothing else.
-const WITH_MEMORY64 = Uint8Array.of(0, 0x61, 0x73, 0x6d, 1, 0, 0, 0, 5, 3, 1, 4, 1);
+// A module of one function, which returns a vector of 128 bits, and nothing else.
+const WITH_SIMD = Uint8Array.of(
+    ...[0, 0x61, 0x73, 0x6d, 1, 0, 0, 0, 1, 5, 1, 0x60, 0, 1, 0x7b, 3, 2, 1, 0],
+    ...[10, 8, 1, 6, 0, 0x41, 0, 0xfd, 15, 11],
+);
 
 /** Whether this engine can run the module. */
 export function isSupported() {
-    return typeof WebAssembly === "object" && WebAssembly.validate(WITH_MEMORY64);
+    return typeof WebAssembly === "object" && WebAssembly.validate(WITH_SIMD);
 }
 
 /** Makes the functions from a compiled module or its bytes. */
 export async function instantiate(source) {
     if (!isSupported()) {
         throw new Error(
-            "dethrux: this engine has no WebAssembly with 64-bit memory (memory64): use Node 24 or " +
-                "later, Node 20 or 22 with --experimental-wasm-memory64, or a browser that has it",
+            "dethrux: this engine has no WebAssembly with vectors of 128 bits (SIMD): use a later one",
         );
     }
     const isModule = source instanceof WebAssembly.Module;

@@ -112,7 +112,7 @@ export class Machine {
             return;
         }
         try {
-            grow(this.#memory, Math.ceil(missing / PAGE));
+            this.#memory.grow(Math.ceil(missing / PAGE));
         } catch (error) {
             throw new RangeError(`dethrux: no memory for ${end} bytes`, { cause: error });
         }
@@ -139,16 +139,4 @@ function passed(part, at) {
         return [part];
     }
     return part.len === undefined ? [BigInt(at)] : [BigInt(at), BigInt(part.len)];
-}
-
-/** Makes the memory longer. Engines from before the final proposal take a number of pages. */
-function grow(memory, pages) {
-    try {
-        memory.grow(BigInt(pages));
-    } catch (error) {
-        if (!(error instanceof TypeError)) {
-            throw error;
-        }
-        memory.grow(pages);
-    }
 }

@@ -12,21 +12,8 @@ trap 'rm -rf "$room"' EXIT
 . "$top/.ci/checks.sh"
 export DETHRUX_TOP=$top
 
-# Runs Node with 64-bit memory.
 run_node() {
-    (cd "$room" && "$node" "${flags[@]}" "$@")
-}
-
-# Whether this Node is one that the package is for.
-is_new_enough() {
-    "$node" -e 'const [major, minor] = process.versions.node.split(".").map(Number);
-process.exit(major > 22 || (major === 22 && minor >= 3) || (major === 20 && minor >= 16) ? 0 : 1)'
-}
-
-# Whether Node has 64-bit memory with these flags.
-has_memory64() {
-    "$node" "$@" -e 'process.exit(WebAssembly.validate(
-        Uint8Array.of(0, 0x61, 0x73, 0x6d, 1, 0, 0, 0, 5, 3, 1, 4, 1)) ? 0 : 1)'
+    (cd "$room" && "$node" "$@")
 }
 
 # Makes the package twice, with the same bytes.
@@ -38,10 +25,10 @@ make_package() {
     diff -r "$room/022" "$room/077"
 }
 
-# Installs the package.
+# Installs the package, if it is for this Node.
 install_package() {
     local package=$room/022/dethrux-$(< "$top/VERSION").tgz
-    (cd "$room" && npm install --offline --no-audit --no-fund "$package") &&
+    (cd "$room" && npm install --engine-strict --offline --no-audit --no-fund "$package") &&
         [ -s "$room/node_modules/dethrux/dethrux.wasm" ] && cp -R "$here/tests" "$room/"
 }
 
@@ -55,12 +42,12 @@ unit_tests() {
     echo "${BASH_REMATCH[1]} passed, ${BASH_REMATCH[2]} failed"
 }
 
-# Whether `load` says what is missing, if there is no 64-bit memory.
+# Whether `load` says what is missing, if the engine has no vectors.
 says_what_is_missing() {
     ! (cd "$room" && "$node" --input-type=module -e 'import { isSupported, load } from "dethrux";
 WebAssembly.validate = () => false;
 if (isSupported()) process.exit(0);
-await load();') 2> "$room/line" && grep -q 'Error: dethrux: .*memory64' "$room/line"
+await load();') 2> "$room/line" && grep -q 'Error: dethrux: .*SIMD' "$room/line"
 }
 
 # Whether a program prints what its page says, given the bytes that the page makes, and writes the
@@ -102,19 +89,12 @@ builds_page() {
 test_node() {
     node=${NODE:-node}
     need "$node:nodejs" npm:npm tsc:node-typescript python3:python3 || return
-    if ! is_new_enough; then
-        failed=$((failed + 1))
-        echo "failed: Node is $("$node" --version): install nodejs 20 from 20.16, or from 22.3"
-        return
-    fi
-    flags=()
-    has_memory64 || flags=(--experimental-wasm-memory64)
     check 'the package, twice' make_package || return
     check 'its installation' install_package || return
     counts 'the tests of the calls' unit_tests calls.test.mjs
     counts 'the tests of streams' unit_tests streams.test.mjs
     counts 'the tables of cases' run_node tests/cases.mjs
-    check 'an engine without 64-bit memory' says_what_is_missing
+    check 'an engine without vectors' says_what_is_missing
     check 'the first program' first_program
     check 'the page has the first program' page_has_program
     check "the program of the package's page" program_of_package
