@@ -24,10 +24,15 @@ console.log("| Text | to UTF-8 | ratio | from UTF-8 | ratio |\n|---|---:|---:|--
 for (const file of readdirSync(process.argv[2]).filter((it) => it.endsWith(".txt"))) {
     const text = readFileSync(join(process.argv[2], file), "utf8").slice(0, 32768).toWellFormed();
     const [utf8, utf16] = [encoder.encode(text), Buffer.from(text, "utf16le")];
-    const pairs = [
+    const shown = [
         [() => dethrux.toUtf8(utf16, "le"), () => encoder.encode(utf16Decoder.decode(utf16))],
         [() => dethrux.fromUtf8(utf8, "le"), () => Buffer.from(utf8Decoder.decode(utf8), "utf16le")],
-    ].map((calls) => calls.map((it) => speed(utf16.length, it)));
-    const shown = pairs.map(([ours, its]) => `${ours.toFixed(2)} | ${(ours / its).toFixed(2)}`);
+    ].map(([call, other]) => {
+        if (Buffer.compare(call().output, other())) {
+            throw new Error(`${file}: the results differ`);
+        }
+        const [ours, its] = [call, other].map((it) => speed(utf16.length, it));
+        return `${ours.toFixed(2)} | ${(ours / its).toFixed(2)}`;
+    });
     console.log(`| ${file.replace(".txt", "")} | ${shown.join(" | ")} |`);
 }
