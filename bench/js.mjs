@@ -1,13 +1,12 @@
-// Times the package for JavaScript next to Node's own way, on up to 64 KiB of UTF-16 of each text:
-// `node js.mjs TEXTS`, in a folder where the package is installed. TEXTS has a file NAME.txt in
-// UTF-8 for each text. Prints gigabytes of UTF-16 in a second, and the ratio to Node.
+// Times the package next to Node's own way, on up to 64 KiB of UTF-16: `node js.mjs TEXTS`, in a
+// folder where the package is installed. Prints gigabytes of UTF-16 in a second, and the ratio.
 import { readFileSync, readdirSync } from "node:fs";
 import { join } from "node:path";
 import { load } from "dethrux";
 
 const dethrux = await load();
-const [utf16Decoder, utf8Decoder] = [new TextDecoder("utf-16le"), new TextDecoder()];
-const encoder = new TextEncoder();
+const [encoder, utf8Decoder] = [new TextEncoder(), new TextDecoder()];
+const utf16Decoder = new TextDecoder("utf-16le");
 
 /** Returns the speed of the fastest of some calls. */
 function speed(len, call) {

@@ -1225,6 +1225,7 @@ static bool are_macros_right(void) {
         {DETHRUX_ENCODER_FEED_MAX(yes ? 3 : 0), 8},
         {DETHRUX_ENCODER_FEED_MAX(wide), 8589934592},
         {DETHRUX_ENCODER_FEED_MAX(most), UINT64_MAX - 1},
+        {DETHRUX_WTF8_ENCODER_FINISH_MAX, 2},
         {DETHRUX_WTF8_ENCODER_FEED_MAX(yes ? 3 : 0), 10},
         {DETHRUX_WTF8_ENCODER_FEED_MAX(wide), 8589934594},
         {DETHRUX_WTF8_ENCODER_FEED_MAX(most - 1), UINT64_MAX - 1},

@@ -109,10 +109,12 @@ compiles() {
     c++ -std=c++17 -w -fsyntax-only "$room/header/call.cpp"
 }
 
+# Whether C++ takes the header, in which each number is a byte order.
 header_in_cxx() {
     local standard
     for standard in c++11 c++17; do
-        c++ -std=$standard -Wall -Wextra -Wpedantic -Werror "-I$top/include" -x c++ -fsyntax-only "$top/include/dethrux.h" || return
+        printf '#include "dethrux.h"\nconstexpr dethrux_byte_order other = dethrux_byte_order(5);\n' |
+            c++ -std=$standard -Wall -Wextra -Wpedantic -Werror "-I$top/include" -x c++ -fsyntax-only - || return
     done
 }
 
@@ -298,13 +300,6 @@ resumes() {
 }
 
 test_c() {
-    count 'the program in C' in_c decode && count 'a file in chunks' decodes && count 'a file by its byte order' decodes_by_word
-    count 'the program of the header' in_comment && count 'the program of the header, in chunks' comment_decodes
-    count 'the check in C' in_c check && count 'the cases in C' check_c
-    count 'the check of code units' in_c units c11 && count 'code units in C' "$room/units"
-    count 'the check of UTF-32' in_c fixed c11 && count 'UTF-32 and Latin-1 in C' "$room/fixed"
-    count 'the first program in C' in_c first && count 'the page for C' prints_page first C
-    count 'the program of the README' in_c resume && count 'resuming' resumes
     count 'a program that ignores results' write_ignored dethrux "$room"
     count 'ignored results in C' warns "$room/ignored.c" cc -std=c99
     count 'ignored results in C23' warns "$room/ignored.c" clang "${c23[@]}"
@@ -315,6 +310,16 @@ test_c() {
     count 'enums of one byte' refuses_short_enums
     count 'the byte order of a machine' is_native 1234 LITTLE
     count 'the byte order of another machine' is_native 4321 BIG
+    count 'the program in C' in_c decode && count 'a file in chunks' decodes && count 'a file by its byte order' decodes_by_word
+    count 'the program of the header' in_comment && count 'the program of the header, in chunks' comment_decodes
+    count 'the first program in C' in_c first && count 'the page for C' prints_page first C
+    count 'the program of the README' in_c resume && count 'resuming' resumes
+}
+
+check_in_c() {
+    count 'the check in C' in_c check && count 'the cases in C' check_c
+    count 'the check of code units' in_c units c11 && count 'code units in C' "$room/units"
+    count 'the check of UTF-32' in_c fixed c11 && count 'UTF-32 and Latin-1 in C' "$room/fixed"
 }
 
 memory_in_c() {
@@ -442,7 +447,7 @@ c23=(-std=c2x -Wno-builtin-macro-redefined -U__STDC_VERSION__ -D__STDC_VERSION__
 case "${1-}" in
     --over-ci) built=library_over_ci ;;
     --library) archive=$(realpath "$2"); built=true ;;
-    --headers) built=true headers=$2 level=-O0 compilers=(g++) standards=(c++17) ;;
+    --headers) built=true headers=$2 level=-O0 compilers=(g++) standards=(c++2b) ;;
 esac
 ("$built") > "$room/said" 2>&1 || { tail -n 20 "$room/said"; echo "0 passed, 1 failed"; exit 1; }
 if ! has cc 'C' || ! has c++ 'C++'; then
@@ -450,7 +455,7 @@ if ! has cc 'C' || ! has c++ 'C++'; then
     exit
 fi
 case $headers in
-    '' | c) test_c; test_c_in_cxx ;;&
+    '' | c) test_c; test_c_in_cxx; check_in_c ;;&
     '' | alloc) test_alloc ;;&
     '' | c | c++) test_cxx ;;
 esac
