@@ -8,8 +8,8 @@ use Rattle.std.specs.Str.{IsUtf8}
 use lib.Utf8.{low_scalar}
 use Rattle.utf16_units.proofs.FirstChar.{high_scalar}
 use Rattle.utf16_units.proofs.Utf8Lemmas.{three_bytes, two_bytes}
-use Rattle.utf16_from_utf8.specs.Follow.{FollowTo, Follows, IsBlock}
-use Rattle.utf16_from_utf8.proofs.FollowLemmas.{behind, behind-take, follows-at}
+use Rattle.utf16_from_utf8.specs.Follow.{FollowTo, Follows, IsBlock, behind}
+use Rattle.utf16_from_utf8.proofs.FollowLemmas.{behind-take, follows-at}
 use Rattle.utf16_from_utf8.proofs.WellFormedLemmas.{FollowAll, four-utf8, one-utf8, text-follows}
 use Rattle.uses_buffers.specs.Block.{BeginsText}
 

@@ -1,36 +1,110 @@
 -- Characters of one or two units of UTF-16, written as two units of which the first or both count.
-use Rattle.std.proofs.Common.{◌≡◌, ℕ, ◌+◌, ◌/◌, ◌%◌, ◌<◌, ◌≤◌, Bool, true, false, List, [], ◌∷◌, ◌++◌, flat_map, length, slice_index, take, drop-cons, refl, sym, ap, ap₂, ◌∙◌, subst, arith}
-use Rattle.std.proofs.lemmas.List.{take_rest}
+use Rattle.std.proofs.Common.{All, ◌≡◌, ℕ, ◌+◌, ◌-◌, ◌*◌, ◌/◌, ◌%◌, ◌^◌, ◌<◌, ◌≤◌, ◌==◌, Bool, true, false, cond, List, [], ◌∷◌, ◌++◌, flat_map, length, ltb, lt-ltb, le-ltb, map, replicate, append-nil, append_assoc, refl, sym, ap, ap₂, ◌∙◌, ⊎_elim, subst, arith, w16, w32}
+use Rattle.std.proofs.lemmas.Bool.{cases_lt}
+use Rattle.std.proofs.lemmas.List.{length-map}
+use Rattle.std.proofs.lemmas.List.Elements.{All-head, All-tail}
+use Rattle.std.proofs.lemmas.Simd.{mask_l-lt, mask_l-mod, tops_compared, zip2_splat_left}
 use Rattle.std.specs.Char.{IsScalar}
-use Rattle.utf16_units.proofs.IllFormedLemmas.{rest_from}
-use Rattle.utf16_fixed.specs.Utf32.{TranscodesFromUtf32}
-use Rattle.utf16_fixed.proofs.TextLemmas.{utf16_char}
+use lib.Lanes.{mask_l, sel_l, top, zip2}
 use Rattle.std.proofs.str.Utf16.{two_units}
-use Rattle.utf16_units.specs.Encoding.{char_bytes}
+use Rattle.utf16_units.specs.Encoding.{char_bytes, encode}
 use Rattle.utf16_units.specs.Unit.{unit_bytes}
-use Rattle.utf16_units.proofs.CharLemmas.{one_unit_bytes}
+use Rattle.utf16_units.proofs.CharLemmas.{no_surrogate, one_unit_bytes}
+use Rattle.utf16_units.proofs.EncodingLemmas.{encode-cons, encode-nil}
+use Rattle.utf16_from_utf8.specs.Lanes.{kept_pairs}
+use Rattle.utf16_fixed.specs.Pairs.{char_lane, halved, kept_lane, pair_of, pair_offset}
+use Rattle.utf16_fixed.specs.Utf32.{above}
 
--- the bytes of two units are four, and of the first two
-first-two : (big : Bool) (a b : ℕ) → take 2 (unit_bytes big a ++ unit_bytes big b) ≡ unit_bytes big a
-first-two true a b = refl
-first-two false a b = refl
+-- ---- lanes chosen
 
-both : (big : Bool) (a b : ℕ) → take 4 (unit_bytes big a ++ unit_bytes big b) ≡ flat_map (unit_bytes big) (a ∷ b ∷ [])
-both true a b = refl
-both false a b = refl
+-- by a test of the lanes themselves
+pub chosen : (p : ℕ → Bool) (f g : ℕ → ℕ) (v : List ℕ) → sel_l (map p v) (map f v) (map g v) ≡ map (λ x. cond (p x) (f x) (g x)) v
+chosen p f g [] = refl
+chosen p f g (x ∷ v) = ap₂ (λ y ys. y ∷ ys) (refl {a = cond (p x) (f x) (g x)}) (chosen p f g v)
 
-pub one-of_two : (c : ℕ) → c ≤ 0xFFFF → (big : Bool) → take 2 (unit_bytes big c ++ unit_bytes big (0xDC00 + c % 0x400)) ≡ char_bytes big c
-one-of_two c le big = first-two big c (0xDC00 + c % 0x400) ∙ sym (one_unit_bytes big c (omega (arith, le)))
+pub chosen-above : (v : List ℕ) (n limit : ℕ) (f g : ℕ → ℕ) → length v ≡ n
+    → sel_l (map (top 31) (zip2 (λ (a b : ℕ). cond (ltb a b) (2 ^ 32 - 1) 0) (replicate n limit) v)) (map f v) (map g v) ≡ map (λ x. cond (above limit x) (f x) (g x)) v
+chosen-above v n limit f g long = ap (λ ms. sel_l ms (map f v) (map g v)) (tops_compared w32 ltb (replicate n limit) v ∙ zip2_splat_left ltb limit n v long) ∙ chosen (above limit) f g v
 
-pub pair-of_two : (c : ℕ) → 0xFFFF < c → (big : Bool) → take 4 (unit_bytes big (0xD7C0 + c / 0x400) ++ unit_bytes big (0xDC00 + c % 0x400)) ≡ char_bytes big c
-pair-of_two c above big =
-    both big (0xD7C0 + c / 0x400) (0xDC00 + c % 0x400)
-    ∙ ap (flat_map (unit_bytes big)) (ap₂ (λ l t. l ∷ t ∷ []) (omega (arith, above)) (omega (arith, above)) ∙ sym (two_units c (omega (arith, above))))
+pub map-twice : (f g : ℕ → ℕ) (v : List ℕ) → map f (map g v) ≡ map (λ x. f (g x)) v
+map-twice f g [] = refl
+map-twice f g (x ∷ v) = ap (λ xs. f (g x) ∷ xs) (map-twice f g v)
 
--- the next character of UTF-32
-pub char_at : (big : Bool) (units : List ℕ) (read : ℕ) → read < length units → IsScalar (slice_index units read)
-    → TranscodesFromUtf32 big (take 1 (rest_from units read)) (char_bytes big (slice_index units read))
-char_at big units read within scalar =
-    let c = slice_index units read in
-    let first : take 1 (rest_from units read) ≡ c ∷ [] = ap (take 1) (take_rest units read ∙ drop-cons units read 0 within) in
-    subst (λ us. TranscodesFromUtf32 big us (char_bytes big c)) (sym first) (utf16_char big c scalar)
+pub map-same : (v : List ℕ) → v ≡ map (λ x. x) v
+map-same [] = refl
+map-same (x ∷ v) = ap (λ xs. x ∷ xs) (map-same v)
+
+-- halves that are not zero
+pub set-halves : (units : List ℕ) → length units ≡ 16
+    → mask_l (map (top 15) (zip2 (λ (a b : ℕ). cond (ltb a b) (2 ^ 16 - 1) 0) (replicate 16 0) units)) % 2 ^ 64 ≡ mask_l (map (above 0) units)
+set-halves units long =
+    ap (λ ms. mask_l ms % 2 ^ 64) (tops_compared w16 ltb (replicate 16 0) units ∙ zip2_splat_left ltb 0 16 units long)
+    ∙ mask_l-mod (map (above 0) units) 64 (omega (arith, long, length-map units (above 0)))
+
+pub few-halves : (units : List ℕ) → length units ≡ 16 → mask_l (map (above 0) units) < 2 ^ 16
+few-halves units long = subst (λ k. mask_l (map (above 0) units) < 2 ^ k) (length-map units (above 0) ∙ long) (mask_l-lt (map (above 0) units))
+
+pub length-halved : (lanes : List ℕ) → length (halved lanes) ≡ length lanes + length lanes
+unfolding halved
+length-halved [] = refl
+length-halved (lane ∷ lanes) = omega (arith, length-halved lanes)
+
+-- ---- units kept
+
+-- two units, of which the first two bits say which are kept
+two-kept : (big : Bool) (a b bits : ℕ) (more : List ℕ)
+    → kept_pairs bits (unit_bytes big a ++ (unit_bytes big b ++ more)) ≡ cond (bits % 2 == 1) (unit_bytes big a) [] ++ (cond (bits / 2 % 2 == 1) (unit_bytes big b) [] ++ kept_pairs (bits / 2 / 2) more)
+two-kept true a b bits more = refl
+two-kept false a b bits more = refl
+
+kept-by : (big : Bool) (a b bits first second rest : ℕ) (more : List ℕ) → bits % 2 ≡ first → bits / 2 % 2 ≡ second → bits / 2 / 2 ≡ rest
+    → kept_pairs bits (unit_bytes big a ++ (unit_bytes big b ++ more)) ≡ cond (first == 1) (unit_bytes big a) [] ++ (cond (second == 1) (unit_bytes big b) [] ++ kept_pairs rest more)
+kept-by big a b bits first second rest more e f g =
+    two-kept big a b bits more
+    ∙ ap₂ (λ (x y : ℕ). cond (x == 1) (unit_bytes big a) [] ++ (cond (y == 1) (unit_bytes big b) [] ++ kept_pairs (bits / 2 / 2) more)) e f
+    ∙ ap (λ n. cond (first == 1) (unit_bytes big a) [] ++ (cond (second == 1) (unit_bytes big b) [] ++ kept_pairs n more)) g
+
+abbrev pub bits_of : List ℕ → ℕ
+bits_of cs = mask_l (map (above 0) (halved (map kept_lane cs)))
+
+abbrev pub bytes_of : Bool → List ℕ → List ℕ
+bytes_of big cs = flat_map (unit_bytes big) (halved (map char_lane cs))
+
+-- the units of characters that are kept are their UTF-16
+pub kept-chars : (big : Bool) (cs : List ℕ) → All IsScalar cs → kept_pairs (bits_of cs) (bytes_of big cs) ≡ encode big cs
+unfolding halved
+kept-chars big [] scalars = sym (encode-nil big)
+kept-chars big (c ∷ cs) scalars = ⊎_elim
+    (λ (two : 0xFFFF < c).
+    let bits = mask_l (map (above 0) (halved (map kept_lane cs))) in
+    let top : c < 0x11_0000 = ⊎_elim (λ (low : c < 0xD800). omega (arith, two, low)) (λ (high : (0xE000 ≤ c) × (c < 0x11_0000)). high.1) (no_surrogate c (All-head IsScalar c cs scalars)) in
+    ap (λ (t : Bool). kept_pairs (mask_l (map (above 0) (halved (cond t 0x1_0001 1 ∷ map kept_lane cs)))) (flat_map (unit_bytes big) (halved (cond t (pair_of (pair_offset c)) c ∷ map char_lane cs)))) (lt-ltb 0xFFFF c two)
+    ∙ append_assoc' big (pair_of (pair_offset c)) (map char_lane cs) (1 + 2 * (1 + 2 * bits))
+    ∙ kept-by big (pair_of (pair_offset c) % 0x1_0000) (pair_of (pair_offset c) / 0x1_0000) (1 + 2 * (1 + 2 * bits)) 1 1 bits (bytes_of big cs) (omega arith) (omega arith) (omega arith)
+    ∙ ap₂ (λ us more. us ++ more) (ap (unit_bytes big) (lead two top)) (ap₂ (λ us more. us ++ more) (ap (unit_bytes big) (trail two top)) (kept-chars big cs (All-tail IsScalar c cs scalars)))
+    ∙ pair-char two (encode big cs) ∙ sym (encode-cons big c cs))
+    (λ (one : c ≤ 0xFFFF).
+    let bits = mask_l (map (above 0) (halved (map kept_lane cs))) in
+    let low : c % 0x1_0000 ≡ c = omega (arith, one) in
+    ap (λ (t : Bool). kept_pairs (mask_l (map (above 0) (halved (cond t 0x1_0001 1 ∷ map kept_lane cs)))) (flat_map (unit_bytes big) (halved (cond t (pair_of (pair_offset c)) c ∷ map char_lane cs)))) (le-ltb 0xFFFF c one)
+    ∙ append_assoc' big c (map char_lane cs) (1 + 2 * (0 + 2 * bits))
+    ∙ kept-by big (c % 0x1_0000) (c / 0x1_0000) (1 + 2 * (0 + 2 * bits)) 1 0 bits (bytes_of big cs) (omega arith) (omega arith) (omega arith)
+    ∙ ap₂ (λ us more. us ++ more) (ap (unit_bytes big) low ∙ sym (one_unit_bytes big c (omega (arith, one)))) (kept-chars big cs (All-tail IsScalar c cs scalars))
+    ∙ sym (encode-cons big c cs))
+    (cases_lt 0xFFFF c)
+  where
+    append_assoc' : (big : Bool) (lane : ℕ) (lanes : List ℕ) (bits : ℕ)
+        → kept_pairs bits (flat_map (unit_bytes big) (halved (lane ∷ lanes))) ≡ kept_pairs bits (unit_bytes big (lane % 0x1_0000) ++ (unit_bytes big (lane / 0x1_0000) ++ flat_map (unit_bytes big) (halved lanes)))
+    append_assoc' big lane lanes bits = refl
+
+    lead : 0xFFFF < c → c < 0x11_0000 → pair_of (pair_offset c) % 0x1_0000 ≡ 0xD800 + (c - 0x1_0000) / 0x400
+    lead two top = omega (arith, two, top)
+
+    trail : 0xFFFF < c → c < 0x11_0000 → pair_of (pair_offset c) / 0x1_0000 ≡ 0xDC00 + (c - 0x1_0000) % 0x400
+    trail two top = omega (arith, two, top)
+
+    pair-char : 0xFFFF < c → (more : List ℕ) → unit_bytes big (0xD800 + (c - 0x1_0000) / 0x400) ++ (unit_bytes big (0xDC00 + (c - 0x1_0000) % 0x400) ++ more) ≡ char_bytes big c ++ more
+    pair-char two more =
+        sym (ap (λ us. flat_map (unit_bytes big) us ++ more) (two_units c (omega (arith, two)))
+        ∙ append_assoc (unit_bytes big (0xD800 + (c - 0x1_0000) / 0x400)) (unit_bytes big (0xDC00 + (c - 0x1_0000) % 0x400) ++ []) more
+        ∙ ap (λ us. unit_bytes big (0xD800 + (c - 0x1_0000) / 0x400) ++ (us ++ more)) (append-nil (unit_bytes big (0xDC00 + (c - 0x1_0000) % 0x400))))

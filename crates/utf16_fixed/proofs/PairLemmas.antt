@@ -1,5 +1,5 @@
 -- Surrogate pairs in lanes, and their characters.
-use Rattle.std.proofs.Common.{◌≡◌, ℕ, zero, suc, All, ◌+◌, ◌-◌, ◌*◌, ◌/◌, ◌%◌, ◌^◌, ◌<◌, ◌≤◌, Bool, true, false, List, [], ◌∷◌, ◌++◌, bit_and, bit_or, length, map, replicate, take, refl, sym, ap, ap₂, ◌∙◌, subst, arith, Fits, w8, w16, w32, flat_map, append_assoc, append-nil}
+use Rattle.std.proofs.Common.{◌≡◌, ℕ, zero, suc, All, ◌+◌, ◌-◌, ◌*◌, ◌/◌, ◌%◌, ◌^◌, ◌<◌, ◌≤◌, Bool, true, false, List, [], ◌∷◌, ◌++◌, bit_and, bit_or, length, map, replicate, take, refl, sym, ap, ap₂, ◌∙◌, subst, arith, Fits, w8, w16, w32, flat_map}
 use Rattle.std.proofs.lemmas.List.Elements.{All-cons, All-head, All-nil, All-tail}
 use Rattle.std.proofs.lemmas.Nat.{and_mask, le_or_l, le_or_r}
 use Rattle.std.proofs.lemmas.Simd.{splat_is_map, zip2_of_maps, zip2_splat}
@@ -9,7 +9,6 @@ use Rattle.std.specs.Char.Utf16.{surrogate_pair_char}
 use Rattle.utf16_units.specs.Encoding.{Encodes, char_bytes, units_of}
 use Rattle.utf16_units.specs.Unit.{IsLeading, IsTrailing, unit_bytes}
 use Rattle.utf16_units.proofs.EncodingLemmas.{encode-cons, encode-nil}
-use Rattle.std.proofs.str.Utf16.{two_units}
 use Rattle.utf16_units.proofs.SplitLemmas.{pair_bytes}
 use Rattle.utf16_fixed.specs.Pairs.{halved, joined, pair_bits, pair_char, pair_of, pair_offset, pair_test}
 use Rattle.utf16_fixed.proofs.ValidLemmas.{high_scalar}
@@ -141,43 +140,6 @@ halved-read (suc n) (p ∷ pairs) long fit =
 pub digits-fit : (n m : ℕ) → Each1 (Fits w8) (digits_l 256 n m)
 digits-fit zero m = tt
 digits-fit (suc n) m = (record { fits = omega arith }, digits-fit n (m / 256))
-
-module _ (c : ℕ) (fits : c < 2 ^ 32) (most : pair_offset c ≤ 0xF_FFFF) where
-  from_two : 0x1_0000 ≤ c
-  from_two = omega (arith, fits, most)
-
-  below_last : c < 0x11_0000
-  below_last = omega (arith, fits, most)
-
-  lead_is : pair_of (pair_offset c) % 0x1_0000 ≡ 0xD800 + (c - 0x1_0000) / 0x400
-  lead_is = omega (arith, fits, most)
-
-  trail_is : pair_of (pair_offset c) / 0x1_0000 ≡ 0xDC00 + (c - 0x1_0000) % 0x400
-  trail_is = omega (arith, fits, most)
-
-  -- the character and a text after it
-  pub Encodes-as_pair : (big : Bool) (text bytes : List ℕ) → Encodes big text bytes
-      → Encodes big (c ∷ text) (unit_bytes big (pair_of (pair_offset c) % 0x1_0000) ++ (unit_bytes big (pair_of (pair_offset c) / 0x1_0000) ++ bytes))
-  Encodes-as_pair big text bytes e = record {
-    scalars = All-cons IsScalar c text (high_scalar c (omega (arith, from_two)) below_last) e.scalars;
-    spelled =
-        encode-cons big c text ∙ ap₂ (λ us rest. flat_map (unit_bytes big) us ++ rest) (two_units c from_two ∙ ap₂ (λ l t. l ∷ t ∷ []) (sym lead_is) (sym trail_is)) e.spelled
-        ∙ append_assoc (unit_bytes big (pair_of (pair_offset c) % 0x1_0000)) (unit_bytes big (pair_of (pair_offset c) / 0x1_0000) ++ []) bytes
-        ∙ ap (λ us. unit_bytes big (pair_of (pair_offset c) % 0x1_0000) ++ (us ++ bytes)) (append-nil (unit_bytes big (pair_of (pair_offset c) / 0x1_0000)));
-  }
-
--- the characters at the start of a block
-pub Encodes-as_pairs : (big : Bool) (n : ℕ) (cs : List ℕ) → n ≤ length cs → Each1 (Fits w32) cs → All (λ offset. offset ≤ 0xF_FFFF) (take n (map pair_offset cs))
-    → Encodes big (take n cs) (flat_map (unit_bytes big) (take (n + n) (halved (map pair_of (map pair_offset cs)))))
-unfolding halved
-Encodes-as_pairs big zero cs room fit most = record { scalars = All-nil IsScalar; spelled = encode-nil big }
-Encodes-as_pairs big (suc n) [] room fit most = absurd (omega (arith, room))
-Encodes-as_pairs big (suc n) (c ∷ cs) room fit most =
-    let two : suc n + suc n ≡ suc (suc (n + n)) = omega arith in
-    let here = All-head (λ offset. offset ≤ 0xF_FFFF) (pair_offset c) (take n (map pair_offset cs)) most in
-    let rest = All-tail (λ offset. offset ≤ 0xF_FFFF) (pair_offset c) (take n (map pair_offset cs)) most in
-    subst (λ k. Encodes big (c ∷ take n cs) (flat_map (unit_bytes big) (take k (halved (map pair_of (map pair_offset (c ∷ cs))))))) (sym two)
-    (Encodes-as_pair c fit.0.fits here big _ _ (Encodes-as_pairs big n cs (omega (arith, room)) fit.1 rest))
 
 module _ (v : List ℕ) (long : length v ≡ 8) where
   pub offsets-lanes : zip2 (λ (a b : ℕ). (a + (2 ^ 32 - b)) % 2 ^ 32) v (replicate 8 0x1_0000) ≡ map pair_offset v

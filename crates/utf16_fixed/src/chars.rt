@@ -1,21 +1,28 @@
 //! Characters of one or two UTF-16 code units each, written from UTF-32 without a branch for each.
 //!
 //! Which of emoji and letters comes next is as good as random, so a branch on it is mispredicted.
+//! So each character becomes two units, and the second one is dropped if the first is all of it.
 
-ghost use Rattle.std.specs.Prelude.{◌≡◌, ◌+◌, ◌*◌, ◌<◌, ◌≤◌, ◌++◌, Bool, ℕ, length, slice_index, take};
+ghost use Rattle.std.specs.Prelude.{◌≡◌, ◌+◌, ◌^◌, ◌<◌, ◌≤◌, ◌++◌, All, length, map, take};
 ghost use Rattle.std.specs.Char.{IsScalar};
-ghost use Rattle.utf16_units.specs.Encoding.{char_bytes};
-ghost use Rattle.utf16_units.specs.Unit.{unit_bytes};
+ghost use Rattle.std.specs.Simd.Lanes.{chunk, mask_l};
+ghost use Rattle.utf16_units.specs.Encoding.{encode};
 ghost use Rattle.utf16_transcode.specs.Wrote.{Wrote};
-ghost use Rattle.utf16_fixed.specs.Utf32.{TranscodesFromUtf32};
+ghost use Rattle.utf16_fixed.specs.Pairs.{char_lane, halved, kept_lane};
+ghost use Rattle.utf16_fixed.specs.Utf32.{TranscodesFromUtf32, above};
 
 use crate::lanes::are_scalars;
+use crate::pairs::{halved, offsets_of, pairs_of};
 use std::simd::prelude::*;
-use utf16_transcode::put;
+use utf16_from_utf8::write_kept;
+use utf16_units::blocks::bytes16;
 use utf16_units::{Moved, Utf16Order};
 
-// Writes blocks of eight characters, up to a block that has no character of two code units or is
-// ill-formed.
+// How many blocks without a character of two code units end a run.
+const PLAIN_BLOCKS: usize = 4;
+
+// Writes blocks of eight characters, up to an ill-formed one, or until several in turn have no
+// character of two code units.
 #[inline(always)]
 pub(crate) fn write_char_blocks<E: Utf16Order>(utf32: &[u32], to: &mut [u8], from: Moved) -> Moved
     requires { Wrote (TranscodesFromUtf32 E.BIG) utf32.now to.old from.read from.written }
@@ -23,66 +30,75 @@ pub(crate) fn write_char_blocks<E: Utf16Order>(utf32: &[u32], to: &mut [u8], fro
     ensures after { from.read ≤ result.read }
 {
     let mut done = from;
+    let mut plain = 0;
     while utf32.len() - done.read >= 8 && to.len() - done.written >= 32 {
-        if !are_scalars(u32x8::from_slice(&utf32[done.read..])) {
+        let chars = u32x8::from_slice(&utf32[done.read..]);
+        if plain == PLAIN_BLOCKS || !are_scalars(chars) {
             break;
         }
-        let next = write_eight::<E>(utf32, to, done);
-        let is_basic = next.written == done.written + 16;
-        done = next;
-        if is_basic {
-            break;
-        }
+        let end = write_eight::<E>(chars, to, done.written);
+        plain = if end == done.written + 16 {
+            plain + 1
+        } else {
+            0
+        };
+        done = Moved {
+            read: done.read + 8,
+            written: end,
+        };
     }
     done
 }
 
-// Writes the next eight characters.
+// Writes eight characters at `at`, and returns where they end. Overwrites 32 bytes at `at`.
 #[inline(always)]
-fn write_eight<E: Utf16Order>(utf32: &[u32], to: &mut [u8], from: Moved) -> Moved
-    requires wrote { Wrote (TranscodesFromUtf32 E.BIG) utf32.now to.old from.read from.written }
-    requires within { from.read + 8 ≤ length utf32.now }
-    requires space { from.written + 32 ≤ length to.old }
-    requires scalars { (i : ℕ) → i < 8 → IsScalar (slice_index utf32.now (from.read + i)) }
-    ensures wrote { Wrote (TranscodesFromUtf32 E.BIG) utf32.now to.new result.read result.written }
-    ensures read { result.read ≡ from.read + 8 }
+fn write_eight<E: Utf16Order>(chars: u32x8, to: &mut [u8], at: usize) -> usize
+    requires scalars { All IsScalar chars }
+    requires space { at + 32 ≤ length to.old }
+    ensures bytes { take result to.new ≡ take at to.old ++ encode E.BIG chars }
+    ensures written_to { result ≤ at + 32 }
 {
-    let mut written = from.written;
-    for i in 0..8 {
-        written = put_char::<E>(to, written, utf32[from.read + i]);
-    }
-    Moved {
-        read: from.read + 8,
-        written,
-    }
+    let (first, second) = parts(bytes16::<E>(halved(lanes_of(chars))));
+    write_kept(to, at, first, second, kept_bits(chars))
 }
 
-// Writes a character at `at`, and returns where it ends. Overwrites four bytes at `at`.
+// The first and the last sixteen bytes.
 #[inline(always)]
-fn put_char<E: Utf16Order>(to: &mut [u8], at: usize, c: u32) -> usize
-    requires scalar { IsScalar c }
-    requires space { at + 4 ≤ length to.old }
-    ensures bytes { take result to.new ≡ take at to.old ++ char_bytes E.BIG c }
-    ensures most { result ≤ at + 4 }
+fn parts(bytes: u8x32) -> (u8x16, u8x16)
+    ensures first { result.0 ≡ chunk 0 16 bytes }
+    ensures second { result.1 ≡ chunk 16 16 bytes }
 {
-    let (first, second, len) = two_units(c);
-    let middle = put(&E::write_unit(first), to, at);
-    put(&E::write_unit(second), to, middle);
-    at + len
+    (bytes.extract::<0, 16>(), bytes.extract::<16, 16>())
 }
 
-// Two code units, and how many of their bytes are the character's: both units, or the first one.
+// The code units of each character in the halves of its lane. The second is zero if it has one.
 #[inline(always)]
-fn two_units(c: u32) -> (u16, u16, usize)
-    requires { IsScalar c }
-    ensures bytes { (big : Bool)
-        → take result.2 (unit_bytes big result.0 ++ unit_bytes big result.1) ≡ char_bytes big c }
-    ensures most { result.2 ≤ 4 }
+fn lanes_of(chars: u32x8) -> u32x8
+    ensures len { length result ≡ 8 }
+    ensures lanes { result ≡ map char_lane chars }
 {
-    let second = (0xDC00 + c % 0x400) as u16;
-    if c > 0xFFFF {
-        ((0xD7C0 + c / 0x400) as u16, second, 4)
-    } else {
-        (c as u16, second, 2)
-    }
+    let pairs = pairs_of(offsets_of(chars));
+    chars.simd_gt(u32x8::splat(0xFFFF)).select(pairs, chars)
+}
+
+// A bit for each of their halves that is a code unit of the character.
+#[inline(always)]
+fn kept_bits(chars: u32x8) -> u64
+    ensures bits { result ≡ mask_l (map (above 0) (halved (map kept_lane chars))) }
+    ensures bound { result < 2 ^ 16 }
+{
+    halved(kept_lanes(chars))
+        .simd_gt(u16x16::splat(0))
+        .to_bitmask()
+}
+
+// For each character, a lane whose halves are not zero where they are code units of it.
+#[inline(always)]
+fn kept_lanes(chars: u32x8) -> u32x8
+    ensures len { length result ≡ 8 }
+    ensures lanes { result ≡ map kept_lane chars }
+{
+    chars
+        .simd_gt(u32x8::splat(0xFFFF))
+        .select(u32x8::splat(0x1_0001), u32x8::splat(1))
 }

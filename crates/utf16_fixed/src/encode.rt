@@ -1,7 +1,7 @@
 //! Conversion of UTF-32 to UTF-16, up to the first code unit that is not a scalar value.
 //!
-//! Characters of one unit each are narrowed in blocks. After a character of two units come blocks
-//! of these, and then blocks of both.
+//! Characters of one unit each are narrowed in blocks. From a character of two units on come blocks
+//! of both.
 
 ghost use Rattle.std.specs.Prelude.{◌≡◌, ◌≢◌, ◌-◌, ◌*◌, ◌<◌, ◌≤◌, IfErr, IfOk, length};
 ghost use Rattle.utf16_units.specs.Encoding.{char_bytes};
@@ -13,7 +13,6 @@ ghost use Rattle.utf16_fixed.specs.Utf32.{TranscodesFromUtf32, utf32_units};
 
 use crate::basic;
 use crate::chars::write_char_blocks;
-use crate::pairs::write_as_pairs;
 use utf16_transcode::{Progress, Stop};
 use utf16_units::{Moved, Utf16CharExt, Utf16Order};
 
@@ -66,45 +65,19 @@ pub fn from_utf32<E: Utf16Order>(utf32: &[u32], to: &mut [u8]) -> Progress
     }
 }
 
-// Writes blocks of characters of two UTF-16 code units each, and then of any, if one of two is
-// next, or else the characters before the next one. Such a character among others is written by
-// itself, and takes less time so.
+// Writes the next characters of one UTF-16 code unit each, and then blocks of any, if one of two
+// code units follows.
 #[inline(always)]
 fn write_run<E: Utf16Order>(utf32: &[u32], to: &mut [u8], from: Moved) -> Moved
     requires { Wrote (TranscodesFromUtf32 E.BIG) utf32.now to.old from.read from.written }
     ensures wrote { Wrote (TranscodesFromUtf32 E.BIG) utf32.now to.new result.read result.written }
     ensures after { from.read ≤ result.read }
 {
-    if from.read < utf32.len() && utf32[from.read] > 0xFFFF {
-        let pairs = write_pair_blocks::<E>(utf32, to, from);
-        return write_char_blocks::<E>(utf32, to, pairs);
+    let basic = write_basic::<E>(utf32, to, from);
+    if basic.read < utf32.len() && utf32[basic.read] > 0xFFFF {
+        return write_char_blocks::<E>(utf32, to, basic);
     }
-    write_basic::<E>(utf32, to, from)
-}
-
-// Writes blocks of eight characters of two UTF-16 code units each, up to another one in a block.
-#[inline(always)]
-fn write_pair_blocks<E: Utf16Order>(utf32: &[u32], to: &mut [u8], from: Moved) -> Moved
-    requires { Wrote (TranscodesFromUtf32 E.BIG) utf32.now to.old from.read from.written }
-    ensures wrote { Wrote (TranscodesFromUtf32 E.BIG) utf32.now to.new result.read result.written }
-    ensures after { from.read ≤ result.read }
-{
-    let Moved {
-        mut read,
-        mut written,
-    } = from;
-    while utf32.len() - read >= 8 && to.len() - written >= 32 {
-        let len = write_as_pairs::<E>(&utf32[read..], &mut to[written..]);
-        if len < 8 {
-            return Moved {
-                read: read + len,
-                written: written + 4 * len,
-            };
-        }
-        read += 8;
-        written += 32;
-    }
-    Moved { read, written }
+    basic
 }
 
 // Writes characters of one UTF-16 code unit each, up to another one, as far as they fit.

@@ -1,4 +1,4 @@
-//! Blocks of eight surrogate pairs, read and written.
+//! Surrogate pairs in lanes, and blocks of eight that are read.
 //!
 //! A pair is one lane, with the leading surrogate in its low half. Less 0xDC00_D800, the halves are
 //! the ten bits of each surrogate, and one is above 0x3FF exactly if it is not a pair.
@@ -11,7 +11,7 @@ ghost use Rattle.utf16_fixed.specs.Utf32.{TranscodesFromUtf32, TranscodesToUtf32
 use crate::lanes::len_up_to;
 use std::simd::prelude::*;
 use utf16_units::Utf16Order;
-use utf16_units::blocks::{bytes16, units16};
+use utf16_units::blocks::units16;
 
 // Writes the characters of eight surrogate pairs to the start of a buffer, and returns how many of
 // them are pairs, up to the first that is not. Only these count.
@@ -62,23 +62,9 @@ fn tests_of(bits: u32x8) -> u32x8
     (bits & u32x8::splat(0xFFFF)) | (bits >> u32x8::splat(16))
 }
 
-// Writes eight characters of two UTF-16 code units each to the start of a buffer, and returns how
-// many of them are such, up to the first that is not. Only these count.
-#[inline(always)]
-pub(crate) fn write_as_pairs<E: Utf16Order>(utf32: &[u32], to: &mut [u8]) -> usize
-    requires units { 8 ≤ length utf32.now }
-    requires space { 32 ≤ length to.old }
-    ensures few { result ≤ 8 }
-    ensures text { TranscodesFromUtf32 E.BIG (take result utf32.now) (take (4 * result) to.new) }
-{
-    let offsets = offsets_of(u32x8::from_slice(utf32));
-    bytes16::<E>(halved(pairs_of(offsets))).copy_to_slice(to);
-    len_up_to(offsets, 0xF_FFFF)
-}
-
 // The offsets of characters from U+10000, the first that takes two UTF-16 code units.
 #[inline(always)]
-fn offsets_of(chars: u32x8) -> u32x8
+pub(crate) fn offsets_of(chars: u32x8) -> u32x8
     ensures { result ≡ map pair_offset chars }
 {
     chars - u32x8::splat(0x1_0000)
@@ -86,7 +72,7 @@ fn offsets_of(chars: u32x8) -> u32x8
 
 // The pairs of these offsets.
 #[inline(always)]
-fn pairs_of(offsets: u32x8) -> u32x8
+pub(crate) fn pairs_of(offsets: u32x8) -> u32x8
     ensures { result ≡ map pair_of offsets }
 {
     ((offsets & u32x8::splat(0x3FF)) << u32x8::splat(16))
@@ -96,7 +82,7 @@ fn pairs_of(offsets: u32x8) -> u32x8
 
 // The halves of each lane, the low one first.
 #[inline(always)]
-fn halved(pairs: u32x8) -> u16x16
+pub(crate) fn halved(pairs: u32x8) -> u16x16
     ensures { result ≡ halved pairs }
 {
     u16x16::from_le_bytes(pairs.to_le_bytes())

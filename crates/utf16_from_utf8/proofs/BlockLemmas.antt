@@ -7,11 +7,11 @@ use Rattle.std.proofs.Math.Nat.{div-div-eq-div-mul, two-pow-succ}
 use lib.Lanes.{chunk, put_chunk}
 use Rattle.utf16_units.specs.Unit.{unit_bytes}
 use Rattle.utf16_from_utf8.specs.Added.{added_bytes, ends_unit, unit_after}
-use Rattle.utf16_from_utf8.specs.Follow.{AreBefore}
+use Rattle.utf16_from_utf8.specs.Follow.{AreBefore, FollowsAtMost}
 use Rattle.utf16_from_utf8.specs.Lanes.{kept_pairs, pair_bytes, pairs_of}
-use Rattle.utf16_from_utf8.specs.UnitLanes.{short_low, three_high}
+use Rattle.utf16_from_utf8.specs.UnitLanes.{AreBytes, HoldUnits, short_low, three_high}
 use Rattle.utf16_from_utf8.proofs.AddedLemmas.{added_bytes-cons, added_bytes-nil, adds-none-behind, adds-none-first, adds-one, byte_adds, unit-three}
-use Rattle.utf16_from_utf8.proofs.LaneByteLemmas.{AreBytes, pair-unit, three-bytes}
+use Rattle.utf16_from_utf8.proofs.LaneByteLemmas.{pair-unit, three-bytes}
 
 -- ---- one byte
 
@@ -124,6 +124,23 @@ block-added big before2 before1 block b2 b1 highs lows bits before long high_lon
       unit-added big _ _ _ _ _ _ (ended i b) (are i b)
       ∙ ap₂ (λ x y. byte_adds big x y (slice_index block i)) (before.two.lanes i b ∙ two-behind before2 before1 block b1 before.one.lanes i b) (before.one.lanes i b);
 })
+
+-- the units that the lanes hold are what the bytes add
+pub hold-added : (big : Bool) (most before2 before1 : ℕ) (block b2 b1 highs lows : List ℕ) (ended : ℕ) → AreBefore before2 before1 block b2 b1 → length block ≡ 16
+    → HoldUnits most b2 b1 block highs lows ended → ((i : ℕ) → i < 16 → FollowsAtMost most (slice_index b2 i) (slice_index b1 i) (slice_index block i))
+    → kept_pairs (ended / 2 ^ 0 * 2 ^ 0) (pairs_of big highs lows) ≡ added_bytes big before2 before1 block
+hold-added big most before2 before1 block b2 b1 highs lows ended before long hold follows =
+    let all : ended / 2 ^ 0 * 2 ^ 0 ≡ ended = omega arith in
+    ap (λ n. kept_pairs n (pairs_of big highs lows)) all
+    ∙ kept-added big before2 before1 block highs lows ended (record {
+      high_len = hold.high_len ∙ sym long;
+      low_len = hold.low_len ∙ sym long;
+      each = λ i within.
+          let b : i < 16 = omega (arith, within, long) in
+          let unit = hold.each i b (follows i b) in
+          unit-added big _ _ _ _ _ _ unit.ends unit.bytes
+          ∙ ap₂ (λ x y. byte_adds big x y (slice_index block i)) (before.two.lanes i b ∙ two-behind before2 before1 block b1 before.one.lanes i b) (before.one.lanes i b);
+    })
 
 -- ---- two vectors stored
 

@@ -5,7 +5,7 @@ use Rattle.std.proofs.lemmas.List.{get_or-drop, get_or-take}
 use Rattle.std.proofs.lemmas.Simd.{get_or-chunk, length-chunk}
 use Rattle.std.specs.Simd.Lanes.{chunk}
 use Rattle.utf16_units.specs.Lanes.{HasLanes}
-use Rattle.utf16_from_utf8.specs.Follow.{AreBefore, AreBelow, FollowTo, Follows, FollowsAny, FollowsTwo}
+use Rattle.utf16_from_utf8.specs.Follow.{AreBefore, AreBelow, FollowTo, Follows, FollowsAny, FollowsTwo, behind}
 
 pub same-three : (P : ℕ → ℕ → ℕ → Type 0) (x y z p q r : ℕ) → p ≡ x → q ≡ y → r ≡ z → P x y z → P p q r
 same-three P x y z p q r e f g is = subst (λ t. P t q r) (sym e) (subst (λ t. P x t r) (sym f) (subst (λ t. P x y t) (sym g) is))
@@ -13,11 +13,6 @@ same-three P x y z p q r e f g is = subst (λ t. P t q r) (sym e) (subst (λ t. 
 pub follows-at : (x y z w p q r s : ℕ) → p ≡ x → q ≡ y → r ≡ z → s ≡ w → Follows x y z w → Follows p q r s
 follows-at x y z w p q r s e f g h follows =
     subst (λ t. Follows t q r s) (sym e) (subst (λ t. Follows x t r s) (sym f) (subst (λ t. Follows x y t s) (sym g) (subst (λ t. Follows x y z t) (sym h) follows)))
-
--- some bytes after `d` zeros
-abbrev pub behind : ℕ → List ℕ → List ℕ
-behind zero xs = xs
-behind (suc d) xs = 0 ∷ behind d xs
 
 pub behind-at : (d : ℕ) (bytes : List ℕ) (at i : ℕ) → d ≤ i → slice_index (behind d (drop at bytes)) i ≡ slice_index bytes (at + i - d)
 behind-at zero bytes at i some = get_or-drop at bytes i 0 ∙ ap (slice_index bytes) (omega arith)
@@ -119,7 +114,7 @@ At P bytes at i = P (slice_index (0 ∷ 0 ∷ drop at bytes) i) (slice_index (0 
 -- ---- characters of at most three bytes
 
 -- after the first byte of three comes no first byte
-apart : (bytes : List ℕ) (at n i : ℕ) → i < n → FollowTo n bytes at → (slice_index (0 ∷ 0 ∷ drop at bytes) i < 0xE0) ⊎ (slice_index (0 ∷ drop at bytes) i < 0xC0)
+pub apart : (bytes : List ℕ) (at n i : ℕ) → i < n → FollowTo n bytes at → (slice_index (0 ∷ 0 ∷ drop at bytes) i < 0xE0) ⊎ (slice_index (0 ∷ drop at bytes) i < 0xC0)
 apart bytes at n zero below all = inl (omega arith)
 apart bytes at n (suc i) below all = ⊎_elim
     (λ (a : slice_index (0 ∷ drop at bytes) i < 0xE0). inl a)
@@ -182,7 +177,7 @@ pub first-lanes : (P : ℕ → ℕ → ℕ → Type 0) (bytes b2 b1 : List ℕ) 
 first-lanes P bytes b2 b1 at n many each before i few =
     same-three P _ _ _ _ _ _ (first-two bytes b2 b1 at before i few) (first-one bytes b2 b1 at before i few) (get_or-chunk at 16 bytes i 0 few) (each i (omega (arith, few, many)))
 
-pub next-lanes : (P : ℕ → ℕ → ℕ → Type 0) (bytes b2 b1 : List ℕ) (at n k : ℕ) → 16 ≤ k → k + 16 ≤ n → ((i : ℕ) → i < n → At P bytes at i)
+pub next-lanes : (P : ℕ → ℕ → ℕ → Type 0) (bytes b2 b1 : List ℕ) (at n k : ℕ) → 16 ≤ k → k + 16 ≤ n → ((i : ℕ) → k ≤ i → i < n → At P bytes at i)
     → AreBefore (slice_index bytes (at + k - 2)) (slice_index bytes (at + k - 1)) (chunk (at + k) 16 bytes) b2 b1
     → (i : ℕ) → i < 16 → P (slice_index b2 i) (slice_index b1 i) (slice_index (chunk (at + k) 16 bytes) i)
 next-lanes P bytes b2 b1 at n k some within each before i few =
@@ -191,4 +186,4 @@ next-lanes P bytes b2 b1 at n k some within each before i few =
     ∙ ap (slice_index bytes) (omega (arith, some)) ∙ sym (behind-at 2 bytes at (k + i) (omega (arith, some))))
     (before.one.lanes i few ∙ before-one bytes (at + k) i (omega (arith, some)) few ∙ ap (slice_index bytes) (omega (arith, some)) ∙ sym (behind-at 1 bytes at (k + i) (omega (arith, some))))
     (get_or-chunk (at + k) 16 bytes i 0 few ∙ ap (slice_index bytes) (omega arith))
-    (each (k + i) (omega (arith, within, few)))
+    (each (k + i) (omega arith) (omega (arith, within, few)))

@@ -4,12 +4,7 @@ use Rattle.std.proofs.Common.{[], ◌∷◌, ◌≡◌, ℕ, ◌+◌, ◌*◌, �
 use Rattle.std.proofs.lemmas.Nat.{and_mask}
 use Rattle.utf16_units.specs.Unit.{unit_bytes}
 use Rattle.utf16_from_utf8.specs.Lanes.{pair_bytes}
-use Rattle.utf16_from_utf8.specs.UnitLanes.{short_low, three_high}
-
--- a unit's two bytes
-pub record AreBytes (unit high low : ℕ) : Type 0 where
-  pub is_high : high ≡ unit / 256
-  pub is_low : low ≡ unit % 256
+use Rattle.utf16_from_utf8.specs.UnitLanes.{AreBytes, short_low, three_high}
 
 pub bytes-by : (unit high low high' low' : ℕ) → high ≡ high' → low ≡ low' → AreBytes unit high' low' → AreBytes unit high low
 bytes-by unit high low high' low' h l are = record { is_high = h ∙ are.is_high; is_low = l ∙ are.is_low }

@@ -9,6 +9,7 @@ pub mod LaneByteLemmas
 pub mod LaneLemmas
 pub mod LimitLemmas
 pub mod PackLemmas
+pub mod ReadLemmas
 pub mod RestLemmas
 pub mod ShortLemmas
 pub mod TextLemmas

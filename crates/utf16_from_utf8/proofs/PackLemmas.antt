@@ -1,10 +1,11 @@
 -- Pairs compacted by a table of positions.
-use Rattle.std.proofs.Common.{append_assoc, length-drop, length-take-le, take-append-drop, take_all, ◌≡◌, ℕ, zero, suc, ◌+◌, ◌*◌, ◌/◌, ◌%◌, ◌<◌, ◌≤◌, ◌==◌, ◌&&◌, Bool, true, false, cond, eqb, eqb-true, leb, List, [], ◌∷◌, ◌++◌, count_ones, map, length, take, drop, get_or, refl, sym, ap, ap₂, ◌∙◌, subst, arith, w8}
+use Rattle.std.proofs.Common.{append-nil, append_assoc, length-append, length-drop, length-take-le, take-append-drop, take_all, ◌≡◌, ℕ, zero, suc, ◌+◌, ◌-◌, ◌*◌, ◌/◌, ◌%◌, ◌^◌, ◌<◌, ◌≤◌, ◌==◌, ◌&&◌, Bool, true, false, cond, eqb, eqb-true, leb, List, [], ◌∷◌, ◌++◌, count_ones, map, length, take, drop, get_or, refl, sym, ap, ap₂, ◌∙◌, subst, arith, w8}
 use Rattle.std.proofs.lemmas.Bool.{and_parts, false_from_ne_true, leb-true}
 use Rattle.std.proofs.lemmas.List.{map-append, take-take}
 use Rattle.std.proofs.lemmas.Nat.{ones-le}
 use Rattle.std.proofs.lemmas.Slice.Eq.{bytes_eq-Decides}
 use Rattle.std.specs.Str.{bytes_eq}
+use Rattle.std.proofs.Math.Nat.{two-pow-succ}
 use Rattle.std.proofs.Math.Seq.{take-append-add}
 use Rattle.std.proofs.lemmas.Simd.{SwzOk, SwzOk-from_below, pick_l-range_with_len, pick_l_whole, swz_l, take_more_put_chunk}
 use Rattle.std.specs.List.{range_with_len, take-map}
@@ -139,3 +140,45 @@ kept_pairs-all bits first second start middle all long e f =
     let one = kept_pairs (bits % 256) first in
     let two = kept_pairs (bits / 256) second in
     f ∙ ap (λ bytes. bytes ++ two) e ∙ append_assoc start one two ∙ ap (λ bytes. start ++ bytes) (sym (kept_pairs-eight bits first second long))
+
+-- ---- the pairs after the first ones
+
+even : (q d : ℕ) → q * 2 ^ suc d ≡ q * 2 ^ d * 2
+even q d = ap (λ n. q * n) (two-pow-succ d) ∙ omega arith
+
+-- the pairs whose bits are cleared are left out
+kept-next : (d q x y : ℕ) (pairs : List ℕ) → kept_pairs (q * 2 ^ suc d) (x ∷ y ∷ pairs) ≡ kept_pairs (q * 2 ^ d) pairs
+kept-next d q x y pairs =
+    let half : q * 2 ^ d * 2 / 2 ≡ q * 2 ^ d = omega arith in
+    let none : q * 2 ^ d * 2 % 2 ≡ 0 = omega arith in
+    ap (λ n. kept_pairs n (x ∷ y ∷ pairs)) (even q d) ∙ ap₂ (λ (b n : ℕ). cond (b == 1) (x ∷ y ∷ []) [] ++ kept_pairs n pairs) none half
+
+pub kept-skip : (d q : ℕ) (pairs : List ℕ) → 2 * d ≤ length pairs → kept_pairs (q * 2 ^ d) pairs ≡ kept_pairs q (drop (2 * d) pairs)
+kept-skip zero q pairs room = ap (λ n. kept_pairs n pairs) (omega arith)
+kept-skip (suc d) q [] room = absurd (omega arith)
+kept-skip (suc d) q (x ∷ []) room = absurd (omega arith)
+kept-skip (suc d) q (x ∷ y ∷ pairs) room =
+    let next : suc (suc (2 * d)) ≡ 2 * suc d = omega arith in
+    kept-next d q x y pairs ∙ kept-skip d q pairs (omega arith) ∙ ap (λ n. kept_pairs q (drop n (x ∷ y ∷ pairs))) next
+
+kept-short : (bits : ℕ) (pairs : List ℕ) → length (kept_pairs bits pairs) ≤ length pairs
+kept-short bits [] = omega arith
+kept-short bits (x ∷ []) = omega arith
+kept-short bits (x ∷ y ∷ pairs) =
+    omega (arith, length-append (cond (bits % 2 == 1) (x ∷ y ∷ []) []) (kept_pairs (bits / 2) pairs), either (bits % 2 == 1), kept-short (bits / 2) pairs)
+  where
+    either : (b : Bool) → length (cond b (x ∷ y ∷ []) []) ≤ 2
+    either true = omega arith
+    either false = omega arith
+
+pub kept-after : (d q : ℕ) (pairs : List ℕ) → length (kept_pairs (q * 2 ^ d) pairs) ≤ length pairs - 2 * d
+kept-after zero q pairs = omega (arith, kept-short (q * 2 ^ 0) pairs)
+kept-after (suc d) q [] = omega arith
+kept-after (suc d) q (x ∷ []) = omega arith
+kept-after (suc d) q (x ∷ y ∷ pairs) = omega (arith, ap length (kept-next d q x y pairs), kept-after d q pairs)
+
+pub kept-after-eight : (d q : ℕ) (eight : List ℕ) → length eight ≡ 16 → length (kept_pairs (q * 2 ^ d % 256) eight) ≤ 2 * (8 - d)
+kept-after-eight d q eight long =
+    let bits = q * 2 ^ d in
+    let all = ap (kept_pairs bits) (sym (append-nil eight)) ∙ kept_pairs-eight bits eight [] long ∙ append-nil (kept_pairs (bits % 256) eight) in
+    omega (arith, ap length all, kept-after d q eight, long)

@@ -4,17 +4,19 @@ use Rattle.std.proofs.lemmas.Bool.{cases_lt}
 use Rattle.std.proofs.lemmas.List.{length-map, get_or-take, get_or_append_left, get_or-append_right, get_or-map}
 use Rattle.std.proofs.lemmas.List.FromFn.{get_or-map-range_with_len}
 use Rattle.std.proofs.lemmas.Simd.{Each1-get_or, get_or-chunk, get_or-replicate, length-chunk, length-replicate, pick_l_whole, swz_l, SwzOk, SwzOk-from_below}
+use Rattle.std.proofs.lemmas.Str.{IsAscii-take}
 use Rattle.std.specs.List.{range_with_len}
 use lib.Lanes.{Each1, all_below, chunk, pick_l}
 use Rattle.utf16_units.specs.Lanes.{HasLanes}
 use Rattle.utf16_units.proofs.LanesByIndex.{all_below-each}
 use Rattle.utf16_from_utf8.specs.Short.{IsOrder, place}
 use Rattle.utf16_from_utf8.specs.declared.short.TheConstants.{FILL, ORDER}
-use Rattle.std.specs.Str.{IsUtf8}
-use Rattle.utf16_from_utf8.specs.Follow.{AreBefore, FollowsAny}
+use Rattle.std.specs.Str.{IsAscii, IsUtf8}
+use Rattle.utf16_from_utf8.specs.Follow.{AreBefore, FollowsAny, behind}
 use Rattle.utf16_from_utf8.specs.UnitLanes.{four_high, four_low}
+use Rattle.utf16_from_utf8.proofs.AsciiLemmas.{block-ascii}
 use Rattle.utf16_from_utf8.proofs.BlockLemmas.{AreUnits, two-behind}
-use Rattle.utf16_from_utf8.proofs.FollowLemmas.{follows-any, same-three}
+use Rattle.utf16_from_utf8.proofs.FollowLemmas.{follows-any, later-lanes, same-three}
 use Rattle.utf16_from_utf8.proofs.LaneByteLemmas.{bytes-by}
 use Rattle.utf16_from_utf8.proofs.PackLemmas.{swz_l-pick}
 use Rattle.utf16_from_utf8.proofs.UnitLemmas.{four-unit}
@@ -183,3 +185,27 @@ filled-units text block b2 b1 highs lows utf8 few whole before h l i b low one =
   where
     fill' : List ℕ
     fill' = replicate (16 - length text) 0xFF
+
+-- the lanes of a text that is filled, and of the bytes before them
+pub record AreBehind (text block b2 b1 b3 : List ℕ) (i : ℕ) : Type 0 where
+  pub here : slice_index block i ≡ slice_index (behind 0 text) i
+  pub one : slice_index b1 i ≡ slice_index (behind 1 text) i
+  pub two : slice_index b2 i ≡ slice_index (behind 2 text) i
+  pub three : slice_index b3 i ≡ slice_index (behind 3 text) i
+
+pub filled-behind : (text block b2 b1 b3 : List ℕ) → block ≡ text ++ replicate (16 - length text) 0xFF → AreBefore 0 0 block b2 b1 → HasLanes 16 b3 (λ i. slice_index (0 ∷ b2) i)
+    → (i : ℕ) → i < 16 → i < length text → AreBehind text block b2 b1 b3 i
+filled-behind text block b2 b1 b3 whole before third i b front =
+    let second = λ (j : ℕ) (few : j < 16). before.two.lanes j few ∙ two-behind 0 0 block b1 before.one.lanes j few in
+    record {
+      here = ap (λ t. slice_index t i) whole ∙ get_or_append_left text fill' 0 i front;
+      one = before.one.lanes i b ∙ ap (λ t. slice_index (0 ∷ t) i) whole ∙ get_or_append_left (0 ∷ text) fill' 0 i (omega (arith, front));
+      two = second i b ∙ ap (λ t. slice_index (0 ∷ 0 ∷ t) i) whole ∙ get_or_append_left (0 ∷ 0 ∷ text) fill' 0 i (omega (arith, front));
+      three = third.lanes i b ∙ later-lanes b2 (0 ∷ 0 ∷ block) second i b ∙ ap (λ t. slice_index (0 ∷ 0 ∷ 0 ∷ t) i) whole ∙ get_or_append_left (0 ∷ 0 ∷ 0 ∷ text) fill' 0 i (omega (arith, front));
+    }
+  where
+    fill' : List ℕ
+    fill' = replicate (16 - length text) 0xFF
+
+pub front-ascii : (block : List ℕ) (n : ℕ) → length block ≡ 16 → ((i : ℕ) → i < 16 → slice_index block i < 0x80) → IsAscii (take n block)
+front-ascii block n long low = IsAscii-take block n (block-ascii block long low)

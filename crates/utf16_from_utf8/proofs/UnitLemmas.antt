@@ -1,17 +1,15 @@
 -- The unit that ends at a byte of characters of at most two, three and four bytes, by lanes.
-use Rattle.std.proofs.Common.{◌≡◌, ℕ, ◌+◌, ◌-◌, ◌*◌, ◌/◌, ◌%◌, ◌^◌, ◌<◌, ◌≤◌, ◌==◌, ◌&&◌, ◌⊎◌, ⊎_elim, inl, inr, Bool, cond, ltb, [], bit_and, bit_or, sym, refl, ap, ap₂, ◌∙◌, arith, lt-ltb, le-ltb}
+use Rattle.std.proofs.Common.{◌≡◌, ℕ, zero, suc, ◌+◌, ◌-◌, ◌*◌, ◌/◌, ◌%◌, ◌^◌, ◌<◌, ◌≤◌, ◌&&◌, ◌⊎◌, ⊎_elim, inl, inr, Bool, cond, ltb, bit_and, bit_or, sym, refl, ap, ap₂, ◌∙◌, arith, lt-ltb, le-ltb}
 use Rattle.std.proofs.lemmas.Bool.{cases_lt}
 use Rattle.std.proofs.lemmas.Nat.{and_assoc, and_mask}
 use Rattle.std.proofs.lemmas.Nat.Bits.{and_high}
 use Rattle.std.proofs.Math.Bool.{and-true}
 use Rattle.std.specs.Int.Bits.{or_add_and, or_zero_r}
 use Rattle.utf16_from_utf8.specs.Added.{unit_after}
-use Rattle.utf16_from_utf8.specs.Follow.{FollowsAny, FollowsTwo}
-use Rattle.utf16_from_utf8.specs.Lanes.{pair_bytes}
-use Rattle.utf16_from_utf8.specs.UnitLanes.{four_high, four_low, high_of, lead_low, lead_part, leading_of, low_of, previous_of, short_high, trailing_of}
-use Rattle.utf16_from_utf8.proofs.AddedLemmas.{byte_adds, unit-leading, unit-one, unit-three, unit-trailing, unit-two}
-use Rattle.utf16_from_utf8.proofs.BlockLemmas.{unit-added}
-use Rattle.utf16_from_utf8.proofs.LaneByteLemmas.{AreBytes, bytes-by}
+use Rattle.utf16_from_utf8.specs.Follow.{FollowsAny, FollowsAtMost, FollowsTwo}
+use Rattle.utf16_from_utf8.specs.UnitLanes.{AreBytes, IsUnit, four_high, four_low, high_of, lead_low, lead_part, leading_of, low_of, previous_of, short_high, trailing_of}
+use Rattle.utf16_from_utf8.proofs.AddedLemmas.{unit-leading, unit-one, unit-three, unit-trailing, unit-two}
+use Rattle.utf16_from_utf8.proofs.LaneByteLemmas.{bytes-by}
 
 -- ---- at most two bytes
 
@@ -45,11 +43,24 @@ two-unit b2 b1 b0 follows low = ⊎_elim
     last : bit_and b0 0x7F ≡ b0 % 128
     last = and_mask b0 7
 
-pub two-added : (big : Bool) (b2 b1 b0 bit high low : ℕ) → FollowsTwo 0xE0 0 b1 b0 → ◌≡◌ {A = ℕ} bit (cond (ltb b0 0xC0) 1 0)
-    → high ≡ two_lead b1 / 2 ^ 2 → low ≡ two_low b1 b0 → cond (bit == 1) (pair_bytes big high low) [] ≡ byte_adds big b2 b1 b0
-two-added big b2 b1 b0 bit high low follows is h l =
-    let ended : (ltb b0 0xC0 && ltb b1 0xE0) ≡ ltb b0 0xC0 = ap (λ x. ltb b0 0xC0 && x) (lt-ltb b1 0xE0 follows.one) ∙ and-true (ltb b0 0xC0) in
-    unit-added big b2 b1 b0 bit high low (is ∙ ap (λ (x : Bool). cond x 1 0) (sym ended)) (λ a b. let are = two-unit b2 b1 b0 follows a in record { is_high = h ∙ are.is_high; is_low = l ∙ are.is_low })
+pub two-is : (b2 b1 b0 bit high low : ℕ) → FollowsAtMost 2 b2 b1 b0 → ◌≡◌ {A = ℕ} bit (cond (ltb b0 0xC0) 1 0)
+    → high ≡ two_lead b1 / 2 ^ 2 → low ≡ two_low b1 b0 → IsUnit b2 b1 b0 bit high low
+two-is b2 b1 b0 bit high low follows is h l =
+    let two : FollowsTwo 0xE0 b2 b1 b0 = follows.0 (omega arith) in
+    let lone : FollowsTwo 0xE0 0 b1 b0 = record {
+      continues = (
+        (λ begun. ⊎_elim (λ (a : 0xC0 ≤ b1). two.continues.0 (inl a)) (λ (a : 0xE0 ≤ 0). absurd (omega (arith, a))) begun),
+        (λ cont. ⊎_elim (λ (a : 0xC0 ≤ b1). inl a) (λ (a : 0xE0 ≤ b2). absurd (omega (arith, a, two.two))) (two.continues.1 cont)),
+      );
+      apart = inl (omega arith);
+      two = omega arith;
+      one = two.one;
+    } in
+    let ended : (ltb b0 0xC0 && ltb b1 0xE0) ≡ ltb b0 0xC0 = ap (λ x. ltb b0 0xC0 && x) (lt-ltb b1 0xE0 two.one) ∙ and-true (ltb b0 0xC0) in
+    record {
+      ends = is ∙ ap (λ (x : Bool). cond x 1 0) (sym ended);
+      bytes = λ a b. let are = two-unit b2 b1 b0 lone a in record { is_high = h ∙ are.is_high; is_low = l ∙ are.is_low };
+    }
 
 -- ---- at most three
 
@@ -176,3 +187,39 @@ four-unit b2 b1 b0 follows low one = ⊎_elim
     let inner : b1 < 0xC0 = ⊎_elim (λ (b : b2 < 0xE0). absurd (omega (arith, b, three))) (λ (b : b1 < 0xC0). b) follows.apart in
     rw (le-ltb b2 0xF0 a) (leading-unit b2 b1 b0 (follows.continues (inr three)).0 low inner a follows.begins))
     (cases_lt b2 0xF0)
+
+-- ---- ASCII
+
+pub ascii-is : (b2 b1 b0 bit high : ℕ) → FollowsAny b2 b1 b0 → b0 < 0x80 → bit ≡ 1 → high ≡ 0 → IsUnit b2 b1 b0 bit high b0
+ascii-is b2 b1 b0 bit high follows low one none =
+    let small : b0 < 0xC0 = omega (arith, low) in
+    let ended : b1 < 0xE0 = ⊎_elim (λ (a : b1 < 0xC0). omega (arith, a)) (λ (a : 0xC0 ≤ b1). absurd (omega (arith, low, (follows.continues (inl a)).0))) (cases_lt b1 0xC0) in
+    record {
+      ends = one ∙ sym (ap₂ (λ (x y : Bool). cond (x && y) 1 0) (lt-ltb b0 0xC0 small) (lt-ltb b1 0xE0 ended));
+      bytes = λ a b.
+          let unit = unit-one b2 b1 b0 low in
+          record { is_high = omega (arith, unit, none, low); is_low = omega (arith, unit, low) };
+    }
+
+-- all of sixteen bits are set
+pub all-set : (i : ℕ) → i < 16 → ◌≡◌ {A = ℕ} (0xFFFF / 2 ^ i % 2) 1
+all-set zero b = refl
+all-set (suc zero) b = refl
+all-set (suc (suc zero)) b = refl
+all-set (suc (suc (suc zero))) b = refl
+all-set (suc (suc (suc (suc zero)))) b = refl
+all-set (suc (suc (suc (suc (suc zero))))) b = refl
+all-set (suc (suc (suc (suc (suc (suc zero)))))) b = refl
+all-set (suc (suc (suc (suc (suc (suc (suc zero))))))) b = refl
+all-set (suc (suc (suc (suc (suc (suc (suc (suc i)))))))) b = next i (omega (arith, b))
+  where
+    next : (i : ℕ) → i < 8 → ◌≡◌ {A = ℕ} (0xFFFF / 2 ^ suc (suc (suc (suc (suc (suc (suc (suc i))))))) % 2) 1
+    next zero b = refl
+    next (suc zero) b = refl
+    next (suc (suc zero)) b = refl
+    next (suc (suc (suc zero))) b = refl
+    next (suc (suc (suc (suc zero)))) b = refl
+    next (suc (suc (suc (suc (suc zero))))) b = refl
+    next (suc (suc (suc (suc (suc (suc zero)))))) b = refl
+    next (suc (suc (suc (suc (suc (suc (suc zero))))))) b = refl
+    next (suc (suc (suc (suc (suc (suc (suc (suc i)))))))) b = absurd (omega (arith, b))

@@ -1,10 +1,10 @@
 -- Bytes are well formed exactly if each may follow the bytes before it, and they end with a
 -- character.
-use Rattle.std.proofs.Common.{◌≡◌, ℕ, zero, suc, ◌+◌, ◌-◌, ◌*◌, ◌/◌, ◌%◌, ◌<◌, ◌≤◌, ◌⊎◌, ⊎_elim, inl, inr, All, List, [], ◌∷◌, ◌++◌, drop, encode_utf8_all, length, length-drop, slice_index, subst, refl, sym, ap₂, ◌∙◌, arith}
+use Rattle.std.proofs.Common.{◌≡◌, ℕ, zero, suc, ◌+◌, ◌-◌, ◌*◌, ◌/◌, ◌%◌, ◌<◌, ◌≤◌, ◌⊎◌, ⊎_elim, inl, inr, All, List, [], ◌∷◌, ◌++◌, drop, encode_utf8_all, length, length-drop, slice_index, take, subst, refl, sym, ap₂, ◌∙◌, arith}
 use Rattle.std.proofs.lemmas.Bool.{cases_lt}
 use Rattle.std.proofs.lemmas.List.{get_or-drop}
 use Rattle.std.proofs.lemmas.List.Elements.{All-head, All-tail}
-use Rattle.std.proofs.lemmas.Str.{IsUtf8-append, IsUtf8-encode, IsUtf8-nil, encodes-chars}
+use Rattle.std.proofs.lemmas.Str.{IsCharBoundary-from_take, IsUtf8-append, IsUtf8-drop, IsUtf8-encode, IsUtf8-nil, encodes-chars}
 use Rattle.std.specs.Char.{IsScalar}
 use Rattle.std.specs.Str.{IsUtf8, chars}
 use lib.Utf8.{encode, low_scalar}
@@ -256,6 +256,10 @@ text-follows bytes at n utf8 within i below =
     let all : FollowAll 0 0 0 (drop at bytes) =
     subst (FollowAll 0 0 0) (encodes-chars (drop at bytes) utf8) (follow-text (chars (drop at bytes)) (scalars-of (drop at bytes) utf8) 0 0 0 (omega arith) (omega arith) (omega arith)) in
     follows-at _ _ _ _ _ _ _ _ refl refl refl (sym (get_or-drop at bytes i 0)) (all i (omega (arith, within, below, length-drop at bytes)))
+
+-- the bytes of a text after the start of it that is a text
+pub rest-follows : (bytes : List ℕ) (at n : ℕ) → IsUtf8 bytes → IsUtf8 (take at bytes) → at + n ≤ length bytes → FollowTo n bytes at
+rest-follows bytes at n utf8 begun within = text-follows bytes at n (IsUtf8-drop bytes at utf8 (IsCharBoundary-from_take bytes at utf8 (omega (arith, within)) begun)) within
 
 pub text-any : (bytes : List ℕ) → IsUtf8 bytes → (i : ℕ) → suc (suc i) < length bytes → FollowsAny (slice_index bytes i) (slice_index bytes (suc i)) (slice_index bytes (suc (suc i)))
 text-any bytes utf8 i below =

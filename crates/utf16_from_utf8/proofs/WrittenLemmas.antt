@@ -1,12 +1,12 @@
 -- More UTF-8 that is well formed, written after what was written.
 use Rattle.std.proofs.Common.{◌≡◌, ℕ, ◌+◌, ◌-◌, ◌*◌, ◌≤◌, Bool, List, ◌++◌, length, length-append, length-drop, length-take, length-take-le, take, drop, subst, sym, ap, ◌∙◌, arith}
 use borrow.Rule.Slice.PartMut.{put_mid}
-use Rattle.std.proofs.Math.Seq.{take-add, take-append-add}
+use Rattle.std.proofs.Math.Seq.{take-add, take-append-add, take-length}
 use Rattle.std.proofs.lemmas.List.{take-append-le, take-take, take_rest}
-use Rattle.std.proofs.lemmas.Str.{IsUtf8-append, IsUtf8-from_ascii, chars-append}
+use Rattle.std.proofs.lemmas.Str.{IsUtf8-append, IsUtf8-from_ascii, IsUtf8-nil, chars-append, chars-nil}
 use Rattle.std.specs.Str.{IsAscii, IsUtf8, chars}
 use Rattle.utf16_units.specs.Encoding.{encode}
-use Rattle.utf16_units.proofs.EncodingLemmas.{encode-append}
+use Rattle.utf16_units.proofs.EncodingLemmas.{encode-append, encode-nil}
 use Rattle.utf16_units.proofs.IllFormedLemmas.{rest_from}
 use Rattle.utf16_from_utf8.specs.Written.{IsWritten}
 
@@ -61,3 +61,23 @@ ascii-written big bytes old part read written most len done long fits within asc
     ∙ ap (λ t. take written old ++ t)
     (take-append-le (2 * len) part after fits ∙ front-wrote big (rest_from bytes read) part most len within ascii wrote ∙ ap (λ t. encode big (chars (take len t))) rest))
     (omega arith) (omega (arith, fits, start, length-append (take written old) (part ++ after), length-append part after))
+
+-- nothing
+pub none-written : (big : Bool) (bytes out : List ℕ) → IsWritten big bytes out 0 0
+none-written big bytes out = record {
+  within = omega arith;
+  well_formed = IsUtf8-nil;
+  wrote = sym (ap (encode big) chars-nil ∙ encode-nil big);
+  short = omega arith;
+  fits = omega arith;
+}
+
+-- a whole text
+pub all-written : (big : Bool) (bytes out : List ℕ) (n : ℕ) → IsUtf8 bytes → take n out ≡ encode big (chars bytes) → n ≤ 2 * length bytes → n ≤ length out → IsWritten big bytes out (length bytes) n
+all-written big bytes out n utf8 wrote short fits = record {
+  within = omega arith;
+  well_formed = subst IsUtf8 (sym (take-length bytes)) utf8;
+  wrote = wrote ∙ ap (λ t. encode big (chars t)) (sym (take-length bytes));
+  short = short;
+  fits = fits;
+}

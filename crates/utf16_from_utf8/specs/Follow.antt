@@ -1,6 +1,11 @@
 -- Well-formed UTF-8, by each byte and the three before it.
-use Rattle.std.specs.Prelude.{◌≡◌, ℕ, ◌+◌, ◌-◌, ◌<◌, ◌≤◌, ◌⊎◌, ◌↔◌, ◌==◌, List, ◌∷◌, drop, if◌then◌else◌, length, slice_index}
+use Rattle.std.specs.Prelude.{◌≡◌, ℕ, zero, suc, ◌+◌, ◌-◌, ◌<◌, ◌≤◌, ◌⊎◌, ◌↔◌, ◌==◌, List, ◌∷◌, drop, if◌then◌else◌, length, slice_index}
 use Rattle.utf16_units.specs.Lanes.{HasLanes}
+
+-- some bytes after `d` zeros
+abbrev pub behind : ℕ → List ℕ → List ℕ
+behind zero xs = xs
+behind (suc d) xs = 0 ∷ behind d xs
 
 -- whether b0 may come after b3, b2 and b1: it is a continuation byte exactly if b1 begins a
 -- character, b2 a character of three bytes or more, or b3 one of four; it is a byte that can occur;
@@ -20,12 +25,22 @@ FollowTo n bytes at =
     → Follows (slice_index (0 ∷ 0 ∷ 0 ∷ drop at bytes) i) (slice_index (0 ∷ 0 ∷ drop at bytes) i)
     (slice_index (0 ∷ drop at bytes) i) (slice_index bytes (at + i))
 
+-- each of sixteen bytes may follow the three before it, or zeros before the first byte
+abbrev pub FollowFrom : List ℕ → ℕ → Type 0
+FollowFrom bytes at =
+    (i : ℕ) → i < 16
+    → Follows (slice_index (behind 3 bytes) (at + i)) (slice_index (behind 2 bytes) (at + i))
+    (slice_index (behind 1 bytes) (at + i)) (slice_index bytes (at + i))
+
 -- there are sixty-four bytes more, and they begin a well-formed text
 abbrev pub IsBlock : List ℕ → ℕ → Type 0
 IsBlock bytes at = (at + 64 ≤ length bytes) × FollowTo 64 bytes at
 
 abbrev pub AreBelow : ℕ → List ℕ → ℕ → ℕ → Type 0
 AreBelow n bytes at limit = (i : ℕ) → i < n → slice_index bytes (at + i) < limit
+
+abbrev pub AreBelowFrom : List ℕ → ℕ → ℕ → Type 0
+AreBelowFrom bytes from limit = (i : ℕ) → from ≤ i → slice_index bytes i < limit
 
 -- the limit that all bytes of characters of at most `most` bytes are below (Unicode, section 3.9:
 -- table 3-6)
@@ -54,11 +69,6 @@ pub record FollowsTwo (limit b2 b1 b0 : ℕ) : Type 0 where
   pub two : b2 < limit
   pub one : b1 < limit
 
-abbrev pub FollowLanes : ℕ → List ℕ → List ℕ → List ℕ → Type 0
-FollowLanes limit b2 b1 block =
-    (i : ℕ) → i < 16
-    → FollowsTwo limit (slice_index b2 i) (slice_index b1 i) (slice_index block i)
-
 -- b0 after b2 and b1, if characters have at most four bytes: before a continuation byte, one of the
 -- two begins a character, or both are continuation bytes too
 pub record FollowsAny (b2 b1 b0 : ℕ) : Type 0 where
@@ -68,7 +78,17 @@ pub record FollowsAny (b2 b1 b0 : ℕ) : Type 0 where
       → (0xC0 ≤ b1) ⊎ (0xE0 ≤ b2) ⊎ ((b1 < 0xC0) × (b2 < 0xC0))
   pub begins : b2 < 0xF5
 
-abbrev pub FollowAnyLanes : List ℕ → List ℕ → List ℕ → Type 0
-FollowAnyLanes b2 b1 block =
-    (i : ℕ) → i < 16
-    → FollowsAny (slice_index b2 i) (slice_index b1 i) (slice_index block i)
+-- b0 after b2 and b1, if characters have at most `most` bytes
+abbrev pub FollowsAtMost : ℕ → ℕ → ℕ → ℕ → Type 0
+FollowsAtMost most b2 b1 b0 =
+    (limit_of most ≤ 0xF0 → FollowsTwo (limit_of most) b2 b1 b0) × FollowsAny b2 b1 b0
+
+-- the byte d places before each of sixteen bytes, and zero if there is none
+abbrev pub LanesBehind : ℕ → List ℕ → ℕ → List ℕ → Type 0
+LanesBehind d bytes at v = HasLanes 16 v (λ i. slice_index (behind d bytes) (at + i))
+
+-- the last bytes begin no character that is incomplete, if all before them is well formed
+abbrev pub EndsCharacter : List ℕ → Type 0
+EndsCharacter bytes =
+    (slice_index bytes (length bytes - 1) < 0xC0) × (slice_index bytes (length bytes - 2) < 0xE0)
+    × (slice_index bytes (length bytes - 3) < 0xF0)

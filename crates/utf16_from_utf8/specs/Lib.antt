@@ -2,6 +2,7 @@ pub mod Added
 pub mod Ascii
 pub mod Follow
 pub mod Lanes
+pub mod Rest
 pub mod Short
 pub mod Threes
 pub mod UnitLanes

@@ -1,6 +1,8 @@
 -- The two bytes of the unit that ends at b0 after b2 and b1, as lanes of one byte compute them if
 -- the text is well formed.
-use Rattle.std.specs.Prelude.{ℕ, ◌+◌, ◌*◌, ◌/◌, ◌%◌, ◌^◌, bit_and, bit_or, nat_lt, if◌then◌else◌}
+use Rattle.std.specs.Prelude.{◌≡◌, ℕ, ◌+◌, ◌*◌, ◌/◌, ◌%◌, ◌^◌, ◌<◌, List, bit_and, bit_or, length, nat_lt, slice_index, if◌then◌else◌}
+use Rattle.utf16_from_utf8.specs.Added.{ends_unit, unit_after}
+use Rattle.utf16_from_utf8.specs.Follow.{FollowsAtMost}
 
 -- the low and the high byte of a character of three bytes
 abbrev pub short_low : ℕ → ℕ → ℕ
@@ -46,3 +48,24 @@ four_high b2 b1 b0 = if nat_lt b2 0xF0 then short_high b2 b1 b0 else leading_of 
 
 abbrev pub four_low : ℕ → ℕ → ℕ → ℕ
 four_low b2 b1 b0 = if nat_lt b2 0xF0 then low_of (previous_of b1 b0) b0 else lead_low (lead_part b1 b0)
+
+-- a unit's two bytes
+pub record AreBytes (unit high low : ℕ) : Type 0 where
+  pub is_high : high ≡ unit / 256
+  pub is_low : low ≡ unit % 256
+
+-- a bit that tells whether a unit ends at b0, and its two bytes if one does
+pub record IsUnit (b2 b1 b0 bit high low : ℕ) : Type 0 where
+  pub ends : bit ≡ (if ends_unit b1 b0 then 1 else 0)
+  pub bytes : b0 < 0xC0 → b1 < 0xE0 → AreBytes (unit_after b2 b1 b0) high low
+
+-- sixteen lanes of high bytes and of low bytes, and a bit for each: the unit that ends at each byte
+-- of a block that may follow the two bytes before it
+pub record HoldUnits (most : ℕ) (b2 b1 block highs lows : List ℕ) (ended : ℕ) : Type 0 where
+  pub high_len : length highs ≡ 16
+  pub low_len : length lows ≡ 16
+  pub bound : ended < 2 ^ 16
+  pub each : (i : ℕ) → i < 16
+      → FollowsAtMost most (slice_index b2 i) (slice_index b1 i) (slice_index block i)
+      → IsUnit (slice_index b2 i) (slice_index b1 i) (slice_index block i) (ended / 2 ^ i % 2)
+      (slice_index highs i) (slice_index lows i)

@@ -14,6 +14,9 @@ use std::alloc::{AllocError, Allocator};
 use utf16_units::ladder::{FEW_TEXT, PIECE_LEN, SHORT_TEXT, Strategy, strategy_for};
 use utf16_units::{Utf16Order, utf16_len};
 
+// The length in bytes up to which a short text has a smaller buffer.
+const LINE_LEN: usize = 64;
+
 /// Appends a text in UTF-16 to `raw`. It does not fail, because the capacity suffices.
 ///
 /// # Precondition
@@ -94,6 +97,9 @@ fn append_short<E: Utf16Order, A: Allocator>(
     ensures succeeds { vec_len raw.old + size (chars s.now) ≤ vec_capacity raw.old → IsOk result }
     ensures grows { vec_capacity raw.old ≤ vec_capacity raw.new }
 {
+    if s.len() <= LINE_LEN {
+        return append_by::<E, A>(raw, s, &mut [0; 2 * LINE_LEN + SLACK]);
+    }
     append_by::<E, A>(raw, s, &mut [0; 2 * SHORT_TEXT + SLACK])
 }
 

@@ -11,22 +11,14 @@ use std::simd::prelude::*;
 use utf16_units::Utf16Order;
 use utf16_units::blocks::bytes16;
 
-/// Writes the ASCII at the start of the bytes in UTF-16 to the start of `out`, and returns how many
-/// bytes it read. It wrote two bytes for each of them.
-///
-/// It writes all bytes if they are ASCII and at least sixteen. Otherwise it writes whole blocks of
-/// sixteen bytes, and stops before the first block that has a byte of another character. The other
-/// bytes of `out` are unchanged.
-///
-/// # Precondition
-///
-/// `out` has at least `2 * bytes.len()` bytes.
-///
-/// # Complexity
-///
-/// One pass over the bytes that it reads.
+// Writes the ASCII at the start of the bytes in UTF-16 to the start of `out`, and returns how many
+// bytes it read. It wrote two bytes for each of them.
+//
+// It writes all bytes if they are ASCII and at least sixteen. Otherwise it writes whole blocks of
+// sixteen bytes, and stops before the first block that has a byte of another character. The other
+// bytes of `out` are unchanged.
 #[inline(always)]
-pub fn write_ascii<E: Utf16Order>(bytes: &[u8], out: &mut [u8]) -> usize
+pub(crate) fn write_ascii<E: Utf16Order>(bytes: &[u8], out: &mut [u8]) -> usize
     requires { 2 * length bytes.now ≤ length out.old }
     ensures within { result ≤ length bytes.now }
     ensures ascii { IsAscii (take result bytes.now) }

@@ -105,7 +105,7 @@ fn first_faults<const MOST: usize>(bytes: &[u8], at: usize) -> u8x16
 
 // Not zero where one of the sixteen bytes at `at` may not follow the three before it.
 #[inline(always)]
-fn faults_at<const MOST: usize>(bytes: &[u8], at: usize) -> u8x16
+pub(crate) fn faults_at<const MOST: usize>(bytes: &[u8], at: usize) -> u8x16
     requires some { 3 ≤ at }
     requires more { at + 16 ≤ length bytes.now }
     requires below { AreBelow 19 bytes.now (at - 3) (limit_of MOST) }

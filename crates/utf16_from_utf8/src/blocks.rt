@@ -33,25 +33,30 @@ pub fn write_blocks<E: Utf16Order>(bytes: &[u8], out: &mut [u8]) -> Moved
     ensures written { IsWritten E.BIG bytes.now out.new result.read result.written }
     ensures stop { IsBlock bytes.now result.read → length out.new < result.written + 128 }
 {
-    let most = bytes.len().min(out.len() / 2);
-    let len = write_ascii::<E>(&bytes[..most], out);
-    let ascii = Moved {
-        read: len,
-        written: 2 * len,
-    };
-    if bytes.len() - len < BLOCK_LEN {
-        return ascii;
-    }
-    if out.len() - 2 * len < 2 * BLOCK_LEN {
+    let ascii = write_ascii_start::<E>(bytes, out);
+    if bytes.len() - ascii.read < BLOCK_LEN || out.len() - ascii.written < 2 * BLOCK_LEN {
         return ascii;
     }
     write_mixed_blocks::<E>(bytes, out, ascii)
 }
 
+// Writes the ASCII at the start of the bytes, as far as it fits.
+#[inline(always)]
+pub(crate) fn write_ascii_start<E: Utf16Order>(bytes: &[u8], out: &mut [u8]) -> Moved
+    ensures { IsWritten E.BIG bytes.now out.new result.read result.written }
+{
+    let most = bytes.len().min(out.len() / 2);
+    let len = write_ascii::<E>(&bytes[..most], out);
+    Moved {
+        read: len,
+        written: 2 * len,
+    }
+}
+
 // Writes blocks of all kinds after some ASCII. Kept out of line so that short texts do not pay for
 // its registers.
 #[inline(never)]
-fn write_mixed_blocks<E: Utf16Order>(bytes: &[u8], out: &mut [u8], from: Moved) -> Moved
+pub(crate) fn write_mixed_blocks<E: Utf16Order>(bytes: &[u8], out: &mut [u8], from: Moved) -> Moved
     requires { IsWritten E.BIG bytes.now out.old from.read from.written }
     ensures written { IsWritten E.BIG bytes.now out.new result.read result.written }
     ensures stop { IsBlock bytes.now result.read → length out.new < result.written + 128 }

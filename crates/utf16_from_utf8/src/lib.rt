@@ -1,5 +1,5 @@
-//! Conversion of UTF-8 to UTF-16 with SIMD. Blocks of sixty-four bytes are validated while they are
-//! written.
+//! Conversion of UTF-8 to UTF-16 with SIMD. Bytes are validated while they are written: blocks of
+//! sixty-four, and what is shorter by sixteen.
 #![tactic(auto)]
 
 mod append;
@@ -13,14 +13,18 @@ mod lanes;
 mod limits;
 mod pack;
 mod positions;
+mod read;
 mod rest;
 mod short;
 mod sixteen;
 mod text;
 mod threes;
 mod units;
+mod valid;
 
 pub use crate::append::{append_utf16, extend_utf16};
-pub use crate::ascii::{write_ascii, write_ascii_block};
+pub use crate::ascii::write_ascii_block;
 pub use crate::blocks::write_blocks;
-pub use crate::text::{SLACK, write_text};
+pub use crate::pack::write_kept;
+pub use crate::text::{SLACK, write_prefix, write_text};
+pub use crate::valid::is_text;

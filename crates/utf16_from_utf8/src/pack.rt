@@ -24,9 +24,19 @@ pub(crate) fn write_eight(out: &mut [u8], at: usize, pairs: u8x16, bits: usize) 
     at + 2 * bits.count_ones() as usize
 }
 
-// Stores the pairs of both vectors whose bit is set, starting at `at`, and returns their end.
+/// Stores the pairs of bytes whose bit is set contiguously, starting at `at`, and returns their
+/// end. A vector has eight pairs, and the lowest bit is that of the first pair of `first`. The
+/// bytes after those stored and before `at + 32` may be overwritten.
+///
+/// # Precondition
+///
+/// `bits` is below 0x1_0000, and `out` has 32 bytes at `at`.
+///
+/// # Complexity
+///
+/// Constant time.
 #[inline(always)]
-pub(crate) fn write_kept(out: &mut [u8], at: usize, first: u8x16, second: u8x16, bits: u64) -> usize
+pub fn write_kept(out: &mut [u8], at: usize, first: u8x16, second: u8x16, bits: u64) -> usize
     requires bound { bits < 2 ^ 16 }
     requires space { at + 32 ≤ length out.old }
     ensures pairs { take result out.new ≡ take at out.old ++ kept_pairs bits (first ++ second) }

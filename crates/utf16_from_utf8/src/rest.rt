@@ -1,174 +1,195 @@
-//! Writes the rest of a text after its first blocks, sixteen bytes at a time, wherever characters
-//! begin.
+//! Writes the rest of bytes after their first blocks, sixteen bytes at a time, wherever characters
+//! begin, and validates it at the same time.
 //!
-//! Blocks of ASCII are frequent in most texts, and are written as they are. In other blocks, a byte
-//! needs only those before it, so nothing branches on the end of a character. The last bytes are
-//! read with those before them, and the bits of units that were written are cleared.
+//! The greatest byte of the rest decides how it is written, once. A byte needs only those before
+//! it, so nothing branches on the end of a character. The last bytes are read with those before
+//! them, and the bits of units that were written are cleared.
 
-ghost use Rattle.std.specs.Prelude.{◌≡◌, ◌+◌, ◌-◌, ◌*◌, ◌<◌, ◌≤◌, ◌++◌, ℕ, drop, length, slice_index, take};
-ghost use Rattle.std.specs.Str.{IsUtf8, chars};
-ghost use Rattle.utf16_units.specs.Encoding.{encode};
-ghost use Rattle.utf16_from_utf8.specs.Added.{added_bytes};
-ghost use Rattle.utf16_from_utf8.specs.Follow.{AreBefore, FollowAnyLanes, Follows};
+ghost use Rattle.std.specs.Prelude.{◌≡◌, ◌+◌, ◌-◌, ◌*◌, ◌<◌, ◌≤◌, IfSome, None, ℕ, length, take};
+ghost use Rattle.std.specs.Str.{IsUtf8};
+ghost use Rattle.utf16_from_utf8.specs.Follow.{AreBelowFrom, limit_of};
+ghost use Rattle.utf16_from_utf8.specs.Rest.{IsRestWritten, IsTried};
 ghost use Rattle.utf16_from_utf8.specs.Written.{IsWritten};
 
-use crate::ascii::{is_ascii, write_ascii_block};
-use crate::block::{before, before_at};
-use crate::lanes::{greater, previous_lanes};
+use crate::lanes::{each, greater};
 use crate::limits::are_below;
-use crate::pack::{paired, write_eight};
-use crate::sixteen::write_sixteen;
+use crate::read::{read_sixteen, whole_len};
+use crate::sixteen::write_units;
 use crate::text::SLACK;
 use crate::threes::write_threes;
-use crate::units::{ended_bits, four_bytes};
 use std::simd::prelude::*;
 use utf16_units::{Moved, Utf16Order};
 
-// Writes the rest of a text of more than sixteen bytes.
-#[inline(never)]
-pub(crate) fn write_rest<E: Utf16Order>(text: &[u8], out: &mut [u8], from: Moved) -> usize
-    requires well_formed { IsUtf8 text.now }
-    requires some { 16 < length text.now }
-    requires space { 2 * length text.now + SLACK ≤ length out.old }
-    requires written { IsWritten E.BIG text.now out.old from.read from.written }
-    requires more { from.read < length text.now }
-    ensures bytes { take result out.new ≡ encode E.BIG (chars text.now) }
-    ensures written_to { result ≤ 2 * length text.now }
-{
-    let begun = write_begun::<E>(text, out, from);
-    let mut read = begun.read;
-    let mut written = begun.written;
-    while text.len() - read >= 16 {
-        written = write_next::<E>(text, out, read, written);
-        read += 16;
-    }
-    if read == text.len() {
-        return written;
-    }
-    write_last::<E>(text, out, read, written)
+// The number of bytes written, and not zero for each byte that was read and may not follow those
+// before it, in any of the vectors.
+#[derive(Clone, Copy)]
+struct Tried {
+    written: usize,
+    faults: u8x16,
 }
 
-// Writes the next characters of three bytes. If fewer than sixteen bytes are read after that,
-// writes the first sixteen bytes of the text instead.
-#[inline(always)]
-fn write_begun<E: Utf16Order>(text: &[u8], out: &mut [u8], from: Moved) -> Moved
-    requires well_formed { IsUtf8 text.now }
-    requires some { 16 < length text.now }
-    requires space { 2 * length text.now + SLACK ≤ length out.old }
-    requires written { IsWritten E.BIG text.now out.old from.read from.written }
-    requires more { from.read < length text.now }
-    ensures bytes { take result.written out.new
-        ≡ added_bytes E.BIG 0 0 (take result.read text.now) }
-    ensures some { 16 ≤ result.read }
-    ensures within { result.read ≤ length text.now }
-    ensures written_to { result.written ≤ 2 * result.read }
+// Writes the rest of bytes after others, if it is well formed except for an incomplete character
+// at its end, and surely fits. Otherwise it writes less, or nothing.
+#[inline(never)]
+pub(crate) fn write_rest<E: Utf16Order>(bytes: &[u8], out: &mut [u8], from: Moved) -> Moved
+    requires some { 16 < length bytes.now }
+    requires written { IsWritten E.BIG bytes.now out.old from.read from.written }
+    ensures written { IsWritten E.BIG bytes.now out.new result.read result.written }
+    ensures whole { IsUtf8 bytes.now → 2 * length bytes.now + SLACK ≤ length out.old
+        → result.read ≡ length bytes.now }
 {
-    let next = write_next_threes::<E>(text, out, from);
-    if next.read >= 16 {
-        return next;
+    let begun = write_next_threes::<E>(bytes, out, from);
+    let len = whole_len(bytes);
+    if len <= 16 || len <= begun.read {
+        return begun;
     }
-    Moved {
-        read: 16,
-        written: write_first::<E>(text, out),
+    let most_left = (out.len() - begun.written).saturating_sub(SLACK) / 2;
+    if most_left < len - begun.read {
+        return begun;
+    }
+    let rest = write_rest_by::<E>(&bytes[..len], begun.read, &mut out[begun.written..]);
+    match rest {
+        Some(end) => Moved {
+            read: len,
+            written: begun.written + end,
+        },
+        None => begun,
     }
 }
 
 // Writes the next characters of three bytes, or nothing if another character is next.
 #[inline(always)]
-fn write_next_threes<E: Utf16Order>(text: &[u8], out: &mut [u8], from: Moved) -> Moved
-    requires more { from.read < length text.now }
-    requires written { IsWritten E.BIG text.now out.old from.read from.written }
-    ensures { IsWritten E.BIG text.now out.new result.read result.written }
+fn write_next_threes<E: Utf16Order>(bytes: &[u8], out: &mut [u8], from: Moved) -> Moved
+    requires { IsWritten E.BIG bytes.now out.old from.read from.written }
+    ensures { IsWritten E.BIG bytes.now out.new result.read result.written }
 {
-    if !(0xE0..0xF0).contains(&text[from.read]) {
+    if from.read == bytes.len() || !(0xE0..0xF0).contains(&bytes[from.read]) {
         return from;
     }
-    write_threes::<E>(text, out, from)
+    write_threes::<E>(bytes, out, from)
 }
 
-// Writes the first sixteen bytes, and returns where what was written ends.
+// The most bytes of a character among the bytes from `at` on and the eighteen before them: 2, 3 or
+// 4. The last sixteen bytes and the three before them may begin there.
 #[inline(always)]
-fn write_first<E: Utf16Order>(text: &[u8], out: &mut [u8]) -> usize
-    requires well_formed { IsUtf8 text.now }
-    requires some { 16 ≤ length text.now }
-    requires space { 32 ≤ length out.old }
-    ensures bytes { take result out.new ≡ added_bytes E.BIG 0 0 (take 16 text.now) }
-    ensures written_to { result ≤ 32 }
+fn most_bytes(bytes: &[u8], at: usize) -> usize
+    requires some { 16 < length bytes.now }
+    requires within { at ≤ length bytes.now }
+    ensures { AreBelowFrom bytes.now (at - 18) (limit_of result) }
 {
-    let block = u8x16::from_slice(text);
-    let (b2, b1) = before(block, 0, 0);
-    write_shortest::<E>(out, 0, previous_lanes(b2, 0), b2, b1, block)
-}
-
-// Writes the next sixteen bytes, and returns where what was written ends. ASCII needs no bytes
-// before it, since they end a character.
-#[inline(always)]
-fn write_next<E: Utf16Order>(text: &[u8], out: &mut [u8], at: usize, end: usize) -> usize
-    requires well_formed { IsUtf8 text.now }
-    requires some { 16 ≤ at }
-    requires more { at + 16 ≤ length text.now }
-    requires space { end + 32 ≤ length out.old }
-    ensures bytes { take result out.new ≡ take end out.old
-        ++ added_bytes E.BIG (slice_index text.now (at - 2)) (slice_index text.now (at - 1))
-        (take 16 (drop at text.now)) }
-    ensures written_to { result ≤ end + 32 }
-{
-    let block = u8x16::from_slice(&text[at..]);
-    if is_ascii(block) {
-        return write_ascii_block::<E>(out, end, block);
+    let mut all = u8x16::from_slice(&bytes[bytes.len() - 16..]);
+    let mut k = at.saturating_sub(18);
+    while bytes.len() - k > 16 {
+        all = greater(all, u8x16::from_slice(&bytes[k..]));
+        k += 16;
     }
-    let (b2, b1) = before_at(text, at);
-    write_shortest::<E>(out, end, u8x16::from_slice(&text[at - 3..]), b2, b1, block)
+    if are_below(all, 0xE0) {
+        return 2;
+    }
+    if are_below(all, 0xF0) {
+        return 3;
+    }
+    4
 }
 
-// Writes sixteen bytes, in fewer steps if no character among them has four bytes.
+// Writes the rest of bytes, by the most bytes of its characters, if all bytes are a text.
 #[inline(always)]
-fn write_shortest<E: Utf16Order>(
+fn write_rest_by<E: Utf16Order>(bytes: &[u8], from: usize, out: &mut [u8]) -> Option<usize>
+    requires some { 16 < length bytes.now }
+    requires within { from < length bytes.now }
+    requires begun { IsUtf8 (take from bytes.now) }
+    requires space { 2 * (length bytes.now - from) + SLACK ≤ length out.old }
+    ensures written { IfSome result (IsRestWritten E.BIG bytes.now out.new from) }
+    ensures none { result ≡ None → ¬ (IsUtf8 bytes.now) }
+{
+    let most = most_bytes(bytes, from);
+    if most == 2 {
+        return write_rest_of::<E, 2>(bytes, from, out);
+    }
+    if most == 3 {
+        return write_rest_of::<E, 3>(bytes, from, out);
+    }
+    write_rest_of::<E, 4>(bytes, from, out)
+}
+
+// Writes the rest of bytes whose characters there have at most `MOST` bytes, if all bytes are a
+// text.
+#[inline(never)]
+fn write_rest_of<E: Utf16Order, const MOST: usize>(
+    bytes: &[u8],
+    from: usize,
     out: &mut [u8],
-    at: usize,
-    b3: u8x16,
-    b2: u8x16,
-    b1: u8x16,
-    block: u8x16,
-) -> usize
-    requires space { at + 32 ≤ length out.old }
-    requires follow { (i : ℕ) → i < 16 → Follows (slice_index b3 i) (slice_index b2 i)
-        (slice_index b1 i) (slice_index block i) }
-    requires follow_any { FollowAnyLanes b2 b1 block }
-    ensures bytes { (before2 before1 : ℕ) → AreBefore before2 before1 block b2 b1
-        → take result out.new ≡ take at out.old ++ added_bytes E.BIG before2 before1 block }
-    ensures written_to { result ≤ at + 32 }
+) -> Option<usize>
+    requires some { 16 < length bytes.now }
+    requires within { from < length bytes.now }
+    requires below { AreBelowFrom bytes.now (from - 18) (limit_of MOST) }
+    requires begun { IsUtf8 (take from bytes.now) }
+    requires space { 2 * (length bytes.now - from) + SLACK ≤ length out.old }
+    ensures written { IfSome result (IsRestWritten E.BIG bytes.now out.new from) }
+    ensures none { result ≡ None → ¬ (IsUtf8 bytes.now) }
 {
-    let greatest = greater(greater(b3, b2), greater(b1, block));
-    if are_below(greatest, 0xF0) {
-        return write_sixteen::<E, 3>(out, at, b2, b1, block);
+    let mut tried = Tried {
+        written: 0,
+        faults: each(0),
+    };
+    let mut read = from;
+    while bytes.len() - read >= 16 {
+        tried = write_next::<E, MOST>(bytes, read, read, out, tried);
+        read += 16;
     }
-    write_sixteen::<E, 4>(out, at, b2, b1, block)
+    let tried = write_last::<E, MOST>(bytes, read, out, tried);
+    if !are_below(tried.faults, 1) || whole_len(bytes) < bytes.len() {
+        return None;
+    }
+    Some(tried.written)
 }
 
-// Writes the last bytes, fewer than sixteen, and returns where what was written ends. It reads the
-// last sixteen bytes of the text, and leaves out the units that were written before.
+// Writes the last bytes, fewer than sixteen. It reads the last sixteen bytes.
 #[inline(always)]
-fn write_last<E: Utf16Order>(text: &[u8], out: &mut [u8], read: usize, end: usize) -> usize
-    requires well_formed { IsUtf8 text.now }
-    requires some { 16 ≤ read }
-    requires many { 16 < length text.now }
-    requires few { length text.now < read + 16 }
-    requires within { read ≤ length text.now }
-    requires space { end + 2 * (length text.now - read) + SLACK ≤ length out.old }
-    ensures bytes { take result out.new ≡ take end out.old
-        ++ added_bytes E.BIG (slice_index text.now (read - 2)) (slice_index text.now (read - 1))
-        (drop read text.now) }
-    ensures written_to { result ≤ end + 2 * (length text.now - read) }
+fn write_last<E: Utf16Order, const MOST: usize>(
+    bytes: &[u8],
+    from: usize,
+    out: &mut [u8],
+    tried: Tried,
+) -> Tried
+    requires some { 16 < length bytes.now }
+    requires within { from ≤ length bytes.now }
+    requires few { length bytes.now < from + 16 }
+    requires below { AreBelowFrom bytes.now (length bytes.now - 19) (limit_of MOST) }
+    requires space { tried.written + 2 * (length bytes.now - from) + SLACK ≤ length out.old }
+    ensures { (start : ℕ)
+        → IsTried E.BIG bytes.now out.old start from tried.written tried.faults
+        → IsTried E.BIG bytes.now out.new start (length bytes.now) result.written
+        result.faults }
 {
-    let at = text.len() - 16;
-    let block = u8x16::from_slice(&text[at..]);
-    let b1 = u8x16::from_slice(&text[at - 1..]);
-    let b2 = previous_lanes(b1, 0);
-    let (highs, lows) = four_bytes(b2, b1, block);
-    let (first, second) = paired::<E>(highs, lows);
-    let done = read - at;
-    let bits = ended_bits(b1, block) >> done << done;
-    let middle = write_eight(out, end, first, (bits % 256) as usize);
-    write_eight(out, middle, second, (bits / 256) as usize)
+    if from == bytes.len() {
+        return tried;
+    }
+    write_next::<E, MOST>(bytes, bytes.len() - 16, from, out, tried)
+}
+
+// Writes the bytes from the one at `from` on, of the sixteen at `at`, and adds the faults of the
+// sixteen to others.
+#[inline(always)]
+fn write_next<E: Utf16Order, const MOST: usize>(
+    bytes: &[u8],
+    at: usize,
+    from: usize,
+    out: &mut [u8],
+    tried: Tried,
+) -> Tried
+    requires more { at + 16 ≤ length bytes.now }
+    requires after { at ≤ from }
+    requires before { from ≤ at + 16 }
+    requires below { AreBelowFrom bytes.now (at - 3) (limit_of MOST) }
+    requires space { tried.written + 2 * (at + 16 - from) + SLACK ≤ length out.old }
+    ensures { (start : ℕ)
+        → IsTried E.BIG bytes.now out.old start from tried.written tried.faults
+        → IsTried E.BIG bytes.now out.new start (at + 16) result.written result.faults }
+{
+    let next = read_sixteen::<MOST>(bytes, at);
+    Tried {
+        written: write_units::<E>(out, tried.written, next.units, from - at),
+        faults: greater(tried.faults, next.faults),
+    }
 }

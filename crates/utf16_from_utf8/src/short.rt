@@ -3,16 +3,20 @@
 //! Such a text is one vector: its first and its last eight bytes, put in order by a table with a
 //! row for each length. No unit ends at 0xFF, which fills the rest.
 
-ghost use Rattle.std.specs.Prelude.{◌≡◌, ◌*◌, ◌<◌, ◌≤◌, if◌then◌else◌, length, nat_lt, slice_index, take};
+ghost use Rattle.std.specs.Prelude.{◌≡◌, ◌*◌, ◌<◌, ◌≤◌, ◌↔◌, IsTrue, ℕ, if◌then◌else◌, length, nat_lt, slice_index, take};
 ghost use Rattle.std.specs.Str.{IsUtf8, chars};
 ghost use Rattle.utf16_units.specs.Encoding.{encode};
+ghost use Rattle.utf16_from_utf8.specs.Follow.{FollowTo};
 ghost use Rattle.utf16_from_utf8.specs.Short.{IsOrder};
 ghost use Rattle.utf16_units.specs.Lanes.{HasLanes};
 
 use crate::ascii::{is_ascii, write_ascii_block};
 use crate::block::before;
-use crate::lanes::greater;
+use crate::faults::faults;
+use crate::lanes::{each, greater, previous_lanes, where_below};
+use crate::limits::are_below;
 use crate::pack::{paired, write_kept};
+use crate::read::whole_len;
 use crate::units::{ended_bits, four_bytes};
 use std::simd::prelude::*;
 use utf16_units::Utf16Order;
@@ -38,6 +42,40 @@ pub(crate) fn write_short<E: Utf16Order>(text: &[u8], out: &mut [u8]) -> usize
     let (first, second) = paired::<E>(highs, lows);
     write_kept(out, 0, first, second, ended_bits(b1, block))
 }
+
+// Whether eight to sixteen bytes are a text.
+#[inline(always)]
+pub(crate) fn is_short_text(bytes: &[u8]) -> bool
+    requires some { 8 ≤ length bytes.now }
+    requires few { length bytes.now ≤ 16 }
+    ensures { IsTrue result ↔ IsUtf8 bytes.now }
+{
+    is_ascii(spread(bytes)) || (whole_len(bytes) == bytes.len() && follow(bytes))
+}
+
+// Whether each of eight to sixteen bytes may follow the three before it.
+#[inline(always)]
+fn follow(bytes: &[u8]) -> bool
+    requires some { 8 ≤ length bytes.now }
+    requires few { length bytes.now ≤ 16 }
+    ensures { IsTrue result ↔ FollowTo (length bytes.now) bytes.now 0 }
+{
+    let block = filled(spread(bytes), bytes.len());
+    let (b2, b1) = before(block, 0, 0);
+    let all = faults::<4>(previous_lanes(b2, 0), b2, b1, block);
+    are_below(first_lanes(all, bytes.len()), 1)
+}
+
+// The first `len` lanes, and zeros after them.
+#[inline(always)]
+fn first_lanes(v: u8x16, len: usize) -> u8x16
+    requires { len ≤ 16 }
+    ensures { HasLanes 16 result (λ i. if nat_lt i len then slice_index v i else 0) }
+{
+    where_below(u8x16::from_array(LANES), len as u8, v, each(0))
+}
+
+static LANES: [u8; 16] = [0, 1, 2, 3, 4, 5, 6, 7, 8, 9, 10, 11, 12, 13, 14, 15];
 
 // A block that begins with the bytes of the text. It is made of the first and the last eight bytes,
 // which may overlap.

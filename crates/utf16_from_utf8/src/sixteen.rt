@@ -4,16 +4,26 @@
 //! it, and a table of 256 rows packs those that end. No lane needs to know where a character
 //! begins.
 
-ghost use Rattle.std.specs.Prelude.{◌≡◌, ◌+◌, ◌<◌, ◌≤◌, ◌++◌, ◌∷◌, ℕ, length, slice_index, take};
+ghost use Rattle.std.specs.Prelude.{◌≡◌, ◌+◌, ◌-◌, ◌*◌, ◌/◌, ◌^◌, ◌<◌, ◌≤◌, ◌++◌, List, ℕ, length, slice_index, take};
 ghost use Rattle.utf16_from_utf8.specs.Added.{added_bytes};
-ghost use Rattle.utf16_from_utf8.specs.Follow.{AreBefore, FollowAnyLanes, FollowLanes, FollowsTwo, limit_of};
-ghost use Rattle.utf16_units.specs.Lanes.{HasLanes};
+ghost use Rattle.utf16_from_utf8.specs.Follow.{AreBefore, FollowsAtMost};
+ghost use Rattle.utf16_from_utf8.specs.Lanes.{kept_pairs, pairs_of};
+ghost use Rattle.utf16_from_utf8.specs.UnitLanes.{HoldUnits};
 
 use crate::lanes::{down, each, greater, masked, set_bits, sum, up, where_below};
-use crate::pack::{paired, write_kept};
+use crate::pack::{paired, write_eight};
 use crate::units::{ended_bits, four_bytes, high_bytes, low_bytes, previous_bytes};
 use std::simd::prelude::*;
 use utf16_units::Utf16Order;
+
+// The units that end at sixteen bytes, by lanes: their high bytes, their low bytes, and a bit for
+// each byte at which one ends.
+#[derive(Clone, Copy)]
+pub(crate) struct Units {
+    pub(crate) highs: u8x16,
+    pub(crate) lows: u8x16,
+    pub(crate) ended: u64,
+}
 
 // Writes sixteen bytes whose characters have at most `MOST` bytes. Each may follow the byte before
 // it, in `b1`, and the byte two before it, in `b2`.
@@ -26,67 +36,99 @@ pub(crate) fn write_sixteen<E: Utf16Order, const MOST: usize>(
     block: u8x16,
 ) -> usize
     requires space { at + 32 ≤ length out.old }
-    requires follow { limit_of MOST ≤ 0xF0 → FollowLanes (limit_of MOST) b2 b1 block }
-    requires follow_any { FollowAnyLanes b2 b1 block }
+    requires follow { (i : ℕ) → i < 16
+        → FollowsAtMost MOST (slice_index b2 i) (slice_index b1 i) (slice_index block i) }
     ensures bytes { (before2 before1 : ℕ) → AreBefore before2 before1 block b2 b1
         → take result out.new ≡ take at out.old ++ added_bytes E.BIG before2 before1 block }
     ensures written_to { result ≤ at + 32 }
 {
+    write_units::<E>(out, at, units_of::<MOST>(b2, b1, block), 0)
+}
+
+// Writes the units that end at the bytes from the one at `from` on, and returns their end.
+#[inline(always)]
+pub(crate) fn write_units<E: Utf16Order>(
+    out: &mut [u8],
+    at: usize,
+    units: Units,
+    from: usize,
+) -> usize
+    requires within { from ≤ 16 }
+    requires bound { units.ended < 2 ^ 16 }
+    requires space { at + 2 * (8 - from) + 16 ≤ length out.old }
+    ensures pairs { take result out.new ≡ take at out.old
+        ++ kept_pairs (units.ended / 2 ^ from * 2 ^ from)
+        (pairs_of E.BIG units.highs units.lows) }
+    ensures written_to { result ≤ at + 2 * (16 - from) }
+{
+    let (first, second) = paired::<E>(units.highs, units.lows);
+    let bits = units.ended >> from << from;
+    let middle = write_eight(out, at, first, (bits % 256) as usize);
+    write_eight(out, middle, second, (bits / 256) as usize)
+}
+
+// The units of sixteen bytes whose characters have at most `MOST` bytes.
+#[inline(always)]
+pub(crate) fn units_of<const MOST: usize>(b2: u8x16, b1: u8x16, block: u8x16) -> Units
+    ensures { HoldUnits MOST b2 b1 block result.highs result.lows result.ended }
+{
     if MOST == 2 {
-        return write_two::<E>(out, at, b1, block);
+        return units_of_two(b1, block);
     }
     if MOST == 3 {
-        return write_three::<E>(out, at, b2, b1, block);
+        return units_of_three(b2, b1, block);
     }
-    write_four::<E>(out, at, b2, b1, block)
+    units_of_four(b2, b1, block)
+}
+
+// The units of sixteen bytes of ASCII.
+#[inline(always)]
+pub(crate) fn units_of_ascii(block: u8x16) -> Units
+    requires { (i : ℕ) → i < 16 → slice_index block i < 0x80 }
+    ensures { (most : ℕ) (b2 b1 : List ℕ)
+        → HoldUnits most b2 b1 block result.highs result.lows result.ended }
+{
+    Units {
+        highs: each(0),
+        lows: block,
+        ended: 0xFFFF,
+    }
 }
 
 #[inline(always)]
-fn write_two<E: Utf16Order>(out: &mut [u8], at: usize, b1: u8x16, block: u8x16) -> usize
-    requires space { at + 32 ≤ length out.old }
-    requires follow { (i : ℕ) → i < 16
-        → FollowsTwo 0xE0 0 (slice_index b1 i) (slice_index block i) }
-    ensures bytes { (before2 before1 : ℕ)
-        → HasLanes 16 b1 (λ i. slice_index (before1 ∷ block) i)
-        → take result out.new ≡ take at out.old ++ added_bytes E.BIG before2 before1 block }
-    ensures written_to { result ≤ at + 32 }
+fn units_of_two(b1: u8x16, block: u8x16) -> Units
+    ensures { (b2 : List ℕ) → HoldUnits 2 b2 b1 block result.highs result.lows result.ended }
 {
     // The bits of the first byte of two, and zero after any other.
     let lead = sum(greater(b1, each(0xC0)), each(0x40));
-    let lows = sum(masked(block, 0x7F), up(lead, 6));
-    let (first, second) = paired::<E>(down(lead, 2), lows);
     let ended = where_below(block, 0xC0, each(0xFF), each(0));
-    write_kept(out, at, first, second, set_bits(ended))
+    Units {
+        highs: down(lead, 2),
+        lows: sum(masked(block, 0x7F), up(lead, 6)),
+        ended: set_bits(ended),
+    }
 }
 
 #[inline(always)]
-fn write_three<E: Utf16Order>(
-    out: &mut [u8],
-    at: usize,
-    b2: u8x16,
-    b1: u8x16,
-    block: u8x16,
-) -> usize
-    requires space { at + 32 ≤ length out.old }
-    requires follow { FollowLanes 0xF0 b2 b1 block }
-    ensures bytes { (before2 before1 : ℕ) → AreBefore before2 before1 block b2 b1
-        → take result out.new ≡ take at out.old ++ added_bytes E.BIG before2 before1 block }
-    ensures written_to { result ≤ at + 32 }
+fn units_of_three(b2: u8x16, b1: u8x16, block: u8x16) -> Units
+    ensures { HoldUnits 3 b2 b1 block result.highs result.lows result.ended }
 {
     let previous = previous_bytes(b1, block);
-    let (first, second) = paired::<E>(high_bytes(b2, previous), low_bytes(previous, block));
-    write_kept(out, at, first, second, ended_bits(b1, block))
+    Units {
+        highs: high_bytes(b2, previous),
+        lows: low_bytes(previous, block),
+        ended: ended_bits(b1, block),
+    }
 }
 
 #[inline(always)]
-fn write_four<E: Utf16Order>(out: &mut [u8], at: usize, b2: u8x16, b1: u8x16, block: u8x16) -> usize
-    requires space { at + 32 ≤ length out.old }
-    requires follow { FollowAnyLanes b2 b1 block }
-    ensures bytes { (before2 before1 : ℕ) → AreBefore before2 before1 block b2 b1
-        → take result out.new ≡ take at out.old ++ added_bytes E.BIG before2 before1 block }
-    ensures written_to { result ≤ at + 32 }
+fn units_of_four(b2: u8x16, b1: u8x16, block: u8x16) -> Units
+    ensures { (most : ℕ) → HoldUnits most b2 b1 block result.highs result.lows result.ended }
 {
     let (highs, lows) = four_bytes(b2, b1, block);
-    let (first, second) = paired::<E>(highs, lows);
-    write_kept(out, at, first, second, ended_bits(b1, block))
+    Units {
+        highs,
+        lows,
+        ended: ended_bits(b1, block),
+    }
 }

@@ -1,19 +1,20 @@
-//! Writes a text.
+//! Writes a text, or the text at the start of any bytes.
 //!
-//! Valid text goes through the blocks that validate. Writers without the tests would take 1,600
+//! Valid text goes through the blocks that validate. Blocks without the tests would take 1,600
 //! lines of code and proof, and serve only strings. They would be up to 1.23 times as fast on
 //! emoji, and no faster on ASCII and CJK.
 
-ghost use Rattle.std.specs.Prelude.{◌≡◌, ◌+◌, ◌*◌, ◌≤◌, drop, length, take};
+ghost use Rattle.std.specs.Prelude.{◌≡◌, ◌+◌, ◌*◌, ◌<◌, ◌≤◌, drop, length, take};
 ghost use Rattle.std.specs.Str.{IsUtf8, chars};
 ghost use Rattle.utf16_units.specs.Encoding.{encode};
+ghost use Rattle.utf16_from_utf8.specs.Written.{IsWritten};
 
-use crate::blocks::write_blocks;
+use crate::blocks::{write_ascii_start, write_mixed_blocks};
 use crate::few::write_few;
 use crate::rest::write_rest;
-use crate::short::write_short;
-use utf16_units::Utf16Order;
-use utf16_units::ladder::FEW_TEXT;
+use crate::short::{is_short_text, write_short};
+use utf16_units::ladder::{FEW_TEXT, SHORT_TEXT};
+use utf16_units::{Moved, Utf16Order};
 
 /// How many bytes `write_text` needs in addition to two for each byte of a text.
 pub const SLACK: usize = 16;
@@ -55,9 +56,68 @@ fn write_whole<E: Utf16Order>(text: &[u8], out: &mut [u8]) -> usize
     if text.len() <= 16 {
         return write_short::<E>(text, out);
     }
-    let blocks = write_blocks::<E>(text, out);
-    if blocks.read == text.len() {
-        return blocks.written;
+    write_many::<E>(text, out).written
+}
+
+/// Writes a text at the start of the bytes in UTF-16 to the start of `out`, and validates it at the
+/// same time: all of the bytes if they are a text of at least `FEW_TEXT` bytes and `out` has
+/// `2 * bytes.len() + SLACK` bytes. Returns the number of bytes read, which are well formed, and
+/// the number of bytes written. The bytes after those written may be overwritten.
+///
+/// # Complexity
+///
+/// One pass over the bytes that it reads, and over at most 192 more.
+#[inline(always)]
+pub fn write_prefix<E: Utf16Order>(bytes: &[u8], out: &mut [u8]) -> Moved
+    ensures written { IsWritten E.BIG bytes.now out.new result.read result.written }
+    ensures whole { IsUtf8 bytes.now → FEW_TEXT ≤ length bytes.now
+        → 2 * length bytes.now + SLACK ≤ length out.old → result.read ≡ length bytes.now }
+{
+    if bytes.len() <= 16 {
+        return write_short_prefix::<E>(bytes, out);
     }
-    write_rest::<E>(text, out, blocks)
+    write_many::<E>(bytes, out)
+}
+
+// Writes a text at the start of more than sixteen bytes: its ASCII, blocks of a long text, and the
+// rest.
+#[inline(always)]
+fn write_many<E: Utf16Order>(bytes: &[u8], out: &mut [u8]) -> Moved
+    requires { 16 < length bytes.now }
+    ensures written { IsWritten E.BIG bytes.now out.new result.read result.written }
+    ensures whole { IsUtf8 bytes.now → 2 * length bytes.now + SLACK ≤ length out.old
+        → result.read ≡ length bytes.now }
+{
+    let ascii = write_ascii_start::<E>(bytes, out);
+    if ascii.read == bytes.len() {
+        return ascii;
+    }
+    if bytes.len() - ascii.read < SHORT_TEXT {
+        return write_rest::<E>(bytes, out, ascii);
+    }
+    let blocks = write_mixed_blocks::<E>(bytes, out, ascii);
+    if bytes.len() - blocks.read >= SHORT_TEXT {
+        return blocks;
+    }
+    write_rest::<E>(bytes, out, blocks)
+}
+
+// Writes at most sixteen bytes, if they are a text of at least eight.
+#[inline(always)]
+fn write_short_prefix<E: Utf16Order>(bytes: &[u8], out: &mut [u8]) -> Moved
+    requires { length bytes.now ≤ 16 }
+    ensures written { IsWritten E.BIG bytes.now out.new result.read result.written }
+    ensures whole { IsUtf8 bytes.now → FEW_TEXT ≤ length bytes.now → 32 ≤ length out.old
+        → result.read ≡ length bytes.now }
+{
+    if bytes.len() < FEW_TEXT || out.len() < 32 || !is_short_text(bytes) {
+        return Moved {
+            read: 0,
+            written: 0,
+        };
+    }
+    Moved {
+        read: bytes.len(),
+        written: write_short::<E>(bytes, out),
+    }
 }

@@ -1,8 +1,8 @@
 -- From UTF-8 to UTF-16: texts one after another, characters, and the place of an error.
-use Rattle.std.proofs.Common.{◌≡◌, ℕ, zero, suc, replicate, ◌+◌, ◌-◌, ◌*◌, ◌<◌, ◌≤◌, Bool, true, List, [], ◌∷◌, ◌++◌, Option, drop_at, length, take, drop, encode_utf8_all, refl, sym, ap, ap₂, ◌∙◌, subst, arith, append-nil, append_assoc, length-append, length-drop, length-take, take_at, take-add, take-append-drop, slice_index}
+use Rattle.std.proofs.Common.{◌≡◌, ℕ, ◌+◌, ◌-◌, ◌*◌, ◌<◌, ◌≤◌, Bool, true, List, [], ◌∷◌, ◌++◌, Option, drop_at, length, take, drop, encode_utf8_all, refl, sym, ap, ap₂, ◌∙◌, subst, arith, append-nil, append_assoc, length-append, length-drop, length-take, take_at, take-add, take-append-drop, slice_index}
 use Rattle.std.proofs.lemmas.List.{take_more, take_rest}
 use Rattle.std.proofs.lemmas.List.Elements.{All-cons, All-head, All-nil}
-use Rattle.std.proofs.lemmas.Str.{IsCharBoundary-at_seam, IsCharBoundary-from_take, IsUtf8-append, IsUtf8-drop, IsUtf8-encode, IsUtf8-nil, IsUtf8-take, chars-append, chars-nil, chars-encodes}
+use Rattle.std.proofs.lemmas.Str.{IsCharBoundary-from_take, IsUtf8-append, IsUtf8-drop, IsUtf8-encode, IsUtf8-nil, chars-append, chars-nil, chars-encodes}
 use Rattle.std.specs.Char.{IsScalar, encode_utf8}
 use Rattle.std.specs.Str.{IsUtf8, IsValidUpTo, StartsWithNoChar, all_scalars, chars}
 use Rattle.utf16_units.specs.Encoding.{char_bytes, encode}
@@ -100,18 +100,6 @@ faults_there text read len within front here = (valid_to text read within front 
 pub valid_more : (text : List ℕ) (valid n : ℕ) → IsUtf8 (take valid text) → IsUtf8 (take n (rest_from text valid)) → IsUtf8 (take (valid + n) text)
 valid_more text valid n first second =
     subst IsUtf8 (sym (take-add valid n text)) (IsUtf8-append (take valid text) (take n (drop valid text)) first (subst (λ r. IsUtf8 (take n r)) (take_rest text valid) second))
-
--- bytes that are UTF-8 if zeros are appended are UTF-8
-zeros_valid : (n : ℕ) → IsUtf8 (replicate n 0)
-unfolding encode_utf8
-zeros_valid zero = IsUtf8-nil
-zeros_valid (suc n) = IsUtf8-append (0 ∷ []) (replicate n 0) (IsUtf8-encode 0 refl) (zeros_valid n)
-
-pub valid_before_zeros : (text : List ℕ) (n : ℕ) → IsUtf8 (text ++ replicate n 0) → IsUtf8 text
-valid_before_zeros text n whole =
-    let zeros = replicate n 0 in
-    subst IsUtf8 (take_at text zeros (length text) refl)
-    (IsUtf8-take (text ++ zeros) (length text) whole (IsCharBoundary-at_seam (text ++ zeros) text zeros refl (zeros_valid n)))
 
 -- what a writer of blocks wrote
 pub wrote_blocks : {big : Bool} {utf8 to : List ℕ} {n w : ℕ} → IsWritten big utf8 to n w → Wrote (TranscodesToUtf16 big) utf8 to n w

@@ -11,9 +11,9 @@ use utf16_units::Moved;
 // The number of bytes in a block that passes through a buffer on the stack.
 pub(crate) const BLOCK_LEN: usize = 64;
 
-// The length of the buffer on the stack. `Direction::write` needs no more space for a block, and
-// two blocks also fit.
-pub(crate) const BLOCK_ROOM: usize = 260;
+// The length of the buffer on the stack. `Direction::write` needs no more space for a block, nor
+// does `Direction::write_front` for two blocks and two bytes.
+pub(crate) const BLOCK_ROOM: usize = 276;
 
 /// One of the two directions: how the bytes of the first encoding are validated, and how a text is
 /// written in the second.

@@ -20,14 +20,14 @@ use crate::chars::{char_of_four, char_of_three, char_of_two};
 use crate::direction::{BLOCK_LEN, Direction};
 use crate::progress::Progress;
 use crate::transcoding::transcode;
-use crate::valid::valid_prefix;
 use std::marker::PhantomData;
 use utf8_bytes::is_continuation;
-use utf16_from_utf8::{SLACK, write_ascii, write_blocks, write_text};
+use utf16_from_utf8::{SLACK, write_prefix, write_text};
 use utf16_to_utf8::utf8_len;
+use utf16_units::ladder::FEW_TEXT;
 use utf16_units::{Moved, Utf16CharExt, Utf16Order, is_trailing_surrogate};
 
-// The length in bytes below which an input is first tried character by character.
+// The length in bytes below which what is left of an input goes character by character.
 const SHORT_LEN: usize = 32;
 
 /// Writes UTF-8 in UTF-16 to the start of a buffer, up to the first ill-formed sequence or as far
@@ -79,21 +79,16 @@ impl<E: Utf16Order> Direction for FromUtf8<E> {
         first_utf8_char(rest)
     }
 
-    // Begins with the ASCII at the start, as `write_ascii` does, which is all of an input of ASCII.
-    // If the input is short or there is little space, the ASCII goes on one by one. A short input
-    // then goes on character by character.
+    // Fewer bytes than a vector go character by character, the ASCII at their start first. What
+    // `write_prefix` leaves of a short input goes character by character too.
     #[inline(always)]
     fn begin(input: &[u8], to: &mut [u8]) -> Moved {
-        let most = input.len().min(to.len() / 2);
-        let len = write_ascii::<E>(&input[..most], to);
-        if most >= SHORT_LEN {
-            return Moved {
-                read: len,
-                written: 2 * len,
-            };
+        if input.len() < FEW_TEXT {
+            let ascii = write_ascii_chars::<E>(input, to);
+            return write_short_rest::<E>(input, to, ascii);
         }
-        let ascii = write_ascii_chars::<E>(input, to, len);
-        write_short_rest::<E>(input, to, ascii)
+        let front = write_prefix::<E>(input, to);
+        write_short_rest::<E>(input, to, front)
     }
 
     #[inline(always)]
@@ -125,7 +120,7 @@ impl<E: Utf16Order> Direction for FromUtf8<E> {
 
     #[inline(always)]
     fn write_front(rest: &[u8], to: &mut [u8]) -> Moved {
-        write_blocks::<E>(rest, to)
+        write_prefix::<E>(rest, to)
     }
 }
 
@@ -146,18 +141,16 @@ fn last_boundary<E: Utf16Order>(utf16: &[u8], at: usize) -> usize
     whole
 }
 
-// Writes the ASCII after the first bytes, which were written and are ASCII too, character by
-// character, as far as it fits.
+// Writes the ASCII at the start of the bytes character by character, as far as it fits.
 #[inline(always)]
-fn write_ascii_chars<E: Utf16Order>(bytes: &[u8], to: &mut [u8], from: usize) -> Moved
-    requires { Wrote (TranscodesToUtf16 E.BIG) bytes.now to.old from (2 * from) }
+fn write_ascii_chars<E: Utf16Order>(bytes: &[u8], to: &mut [u8]) -> Moved
     ensures wrote { Wrote (TranscodesToUtf16 E.BIG) bytes.now to.new result.read result.written }
     ensures stop { result.read < length bytes.now → 2 * result.read + 2 ≤ length to.old
         → 0x80 ≤ slice_index bytes.now result.read }
 {
     let most = bytes.len().min(to.len() / 2);
-    let mut len = from;
-    let mut end = 2 * from;
+    let mut len = 0;
+    let mut end = 0;
     while len < most && bytes[len] < 0x80 {
         end = write_char::<E>(bytes[len] as char, to, end);
         len += 1;
@@ -223,6 +216,17 @@ fn valid_len(text: &[u8]) -> usize
         return len;
     }
     len + valid_prefix(&text[len..])
+}
+
+// Returns the length of a valid prefix, the longest one.
+fn valid_prefix(text: &[u8]) -> usize
+    ensures within { result ≤ length text.now }
+    ensures well_formed { IsUtf8 (take result text.now) }
+{
+    match simdutf8::compat::from_utf8(text) {
+        Ok(_) => text.len(),
+        Err(error) => error.valid_up_to(),
+    }
 }
 
 // Returns how many bytes to validate first: without the last character, which may be incomplete and

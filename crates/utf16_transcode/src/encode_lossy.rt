@@ -15,6 +15,7 @@ use crate::lossy_direction::LossyDirection;
 use crate::lossy_transcoding::{transcode_lossy, transcode_partial};
 use crate::progress::Progress;
 use crate::replacement::REPLACEMENT_UNIT;
+use crate::sizes::is_short_text;
 use utf16_from_utf8::write_blocks;
 use utf16_to_utf8::put;
 use utf16_units::{Moved, Utf16Order, utf16_len};
@@ -143,6 +144,9 @@ pub fn from_utf8_lossy_len(text: &[u8]) -> usize
     ensures size { result ≡ size (text_of_utf8 text.now) }
     ensures most { result ≤ 2 * length text.now }
 {
+    if is_short_text(text) {
+        return utf16_len(unsafe { str::from_utf8_unchecked(text) });
+    }
     if let Ok(text) = simdutf8::basic::from_utf8(text) {
         return utf16_len(text);
     }

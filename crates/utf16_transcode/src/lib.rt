@@ -22,7 +22,6 @@ mod replacement;
 mod sizes;
 mod stream;
 mod transcoding;
-mod valid;
 mod well_formed;
 
 pub use crate::counts::{from_utf8_replacements, to_utf8_replacements};

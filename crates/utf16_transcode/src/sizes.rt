@@ -3,14 +3,17 @@
 //! Valid parts are counted with SIMD, and each ill-formed sequence adds the length of U+FFFD. No
 //! character is decoded.
 
-ghost use Rattle.std.specs.Prelude.{◌≡◌, encode_utf8_all, length, take};
-ghost use Rattle.std.specs.Str.{chars};
+ghost use Rattle.std.specs.Prelude.{◌≡◌, IsTrue, encode_utf8_all, length, take};
+ghost use Rattle.std.specs.Str.{IsUtf8, chars};
 ghost use Rattle.std.specs.Str.Lossy.{utf8_valid_len};
 ghost use Rattle.utf16_units.specs.Encoding.{size};
 ghost use Rattle.utf16_units.specs.Split.{lossy_text};
 
+use crate::direction::BLOCK_LEN;
 use crate::replacement::REPLACEMENT;
+use utf16_from_utf8::is_text;
 use utf16_to_utf8::utf8_len;
+use utf16_units::ladder::FEW_TEXT;
 use utf16_units::{Utf16Order, utf16_len, validate_raw_utf16};
 
 /// Returns the length in bytes of the output of `to_utf8_lossy` for the whole input. Any bytes are
@@ -47,10 +50,21 @@ pub fn to_utf8_lossy_len<E: Utf16Order>(raw: &[u8]) -> usize
 pub fn from_utf8_len(text: &[u8]) -> usize
     ensures { result ≡ size (chars (take (utf8_valid_len text.now) text.now)) }
 {
+    if is_short_text(text) {
+        return utf16_len(unsafe { str::from_utf8_unchecked(text) });
+    }
     match simdutf8::compat::from_utf8(text) {
         Ok(text) => utf16_len(text),
         Err(error) => {
             utf16_len(unsafe { str::from_utf8_unchecked(&text[..error.valid_up_to()]) })
         }
     }
+}
+
+// Whether the bytes are a text of eight bytes or more and less than a block, in which `simdutf8`
+// goes byte by byte: on 62 bytes of Greek that takes four times as long.
+pub(crate) fn is_short_text(bytes: &[u8]) -> bool
+    ensures { IsTrue result → IsUtf8 bytes.now }
+{
+    (FEW_TEXT..BLOCK_LEN).contains(&bytes.len()) && is_text(bytes)
 }

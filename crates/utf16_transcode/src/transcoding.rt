@@ -163,7 +163,7 @@ fn write_near_end<D: Direction>(rest: &[u8], to: &mut [u8], at: usize) -> Moved
         return write_chars::<D>(rest, to, at);
     }
     let mut buf = [0; BLOCK_ROOM];
-    if rest.len() < BLOCK_LEN {
+    if rest.len() < D::FRONT_LEN {
         return write_buffered_text::<D>(rest, &mut buf, to, at);
     }
     if is_near_ill_formed::<D>(rest) {

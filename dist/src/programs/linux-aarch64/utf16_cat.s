@@ -2116,15 +2116,15 @@
 	.type	"utf16_transcode::transcoding::transcode_many::<#b8dc3d53e12e85b3>",@function
 "utf16_transcode::transcoding::transcode_many::<#b8dc3d53e12e85b3>":
 	.cfi_startproc
-	sub	sp, sp, #448
-	.cfi_def_cfa_offset 448
-	stp	x29, x30, [sp, #352]
-	stp	x28, x27, [sp, #368]
-	stp	x26, x25, [sp, #384]
-	stp	x24, x23, [sp, #400]
-	stp	x22, x21, [sp, #416]
-	stp	x20, x19, [sp, #432]
-	add	x29, sp, #352
+	sub	sp, sp, #464
+	.cfi_def_cfa_offset 464
+	stp	x29, x30, [sp, #368]
+	stp	x28, x27, [sp, #384]
+	stp	x26, x25, [sp, #400]
+	stp	x24, x23, [sp, #416]
+	stp	x22, x21, [sp, #432]
+	stp	x20, x19, [sp, #448]
+	add	x29, sp, #368
 	.cfi_def_cfa w29, 96
 	.cfi_offset w19, -8
 	.cfi_offset w20, -16
@@ -2368,18 +2368,22 @@
 	cmp	x26, #23
 	b.ls	.LBB7_25
 	movi	v0.2d, #0000000000000000
-	cmp	x1, #63
-	str	wzr, [sp, #288]
-	stp	q0, q0, [sp, #32]
-	stp	q0, q0, [sp, #64]
-	stp	q0, q0, [sp, #96]
-	stp	q0, q0, [sp, #128]
-	stp	q0, q0, [sp, #160]
-	stp	q0, q0, [sp, #192]
-	stp	q0, q0, [sp, #224]
-	stp	q0, q0, [sp, #256]
+	cmp	x1, #65
+	str	wzr, [sp, #304]
+	stp	q0, q0, [sp, #48]
+	stp	q0, q0, [sp, #80]
+	stp	q0, q0, [sp, #112]
+	stp	q0, q0, [sp, #144]
+	stp	q0, q0, [sp, #176]
+	stp	q0, q0, [sp, #208]
+	stp	q0, q0, [sp, #240]
+	stp	q0, q0, [sp, #272]
+	str	q0, [sp, #32]
 	b.hi	.LBB7_53
+	cmp	x1, #64
+	mov	w8, #64
 	mov	x19, x24
+	csel	x1, x1, x8, lo
 	mov	x24, x23
 	mov	x23, x28
 	mov	x28, x0
@@ -2482,7 +2486,7 @@
 	mov	w8, #130
 	mov	w9, #66
 	csel	x8, x9, x8, lo
-	mov	w9, #132
+	mov	w9, #148
 	add	x3, sp, #32
 	cmp	x8, x1
 	stur	xzr, [x29, #-16]
@@ -2494,7 +2498,7 @@
 	stp	q0, q0, [x29, #-48]
 	stp	x28, x1, [sp]
 	add	x8, x8, x8, lsl #1
-	cmp	x8, #132
+	cmp	x8, #148
 	csel	x8, x8, x9, lo
 	add	x4, x8, #128
 	bl	"utf16_to_utf8::runs::write_paired::<#8b18edd9dd9aa8df>"
@@ -2505,7 +2509,7 @@
 	sub	x8, x11, #2
 	csel	x10, x10, x9, ne
 	csel	x8, x8, x11, ne
-	mov	w11, #260
+	mov	w11, #276
 	sub	x9, x27, x10
 	sub	x11, x11, x8
 	lsr	x9, x9, #1
@@ -2667,14 +2671,14 @@
 	strb	w9, [x10, #16]
 	strb	w8, [x10, #17]
 .LBB7_92:
-	.cfi_def_cfa wsp, 448
-	ldp	x20, x19, [sp, #432]
-	ldp	x22, x21, [sp, #416]
-	ldp	x24, x23, [sp, #400]
-	ldp	x26, x25, [sp, #384]
-	ldp	x28, x27, [sp, #368]
-	ldp	x29, x30, [sp, #352]
-	add	sp, sp, #448
+	.cfi_def_cfa wsp, 464
+	ldp	x20, x19, [sp, #448]
+	ldp	x22, x21, [sp, #432]
+	ldp	x24, x23, [sp, #416]
+	ldp	x26, x25, [sp, #400]
+	ldp	x28, x27, [sp, #384]
+	ldp	x29, x30, [sp, #368]
+	add	sp, sp, #464
 	.cfi_def_cfa_offset 0
 	.cfi_restore w19
 	.cfi_restore w20
@@ -6874,15 +6878,15 @@
 	.type	"utf16_transcode::transcoding::transcode_many::<#556930da7d070edc>",@function
 "utf16_transcode::transcoding::transcode_many::<#556930da7d070edc>":
 	.cfi_startproc
-	sub	sp, sp, #448
-	.cfi_def_cfa_offset 448
-	stp	x29, x30, [sp, #352]
-	stp	x28, x27, [sp, #368]
-	stp	x26, x25, [sp, #384]
-	stp	x24, x23, [sp, #400]
-	stp	x22, x21, [sp, #416]
-	stp	x20, x19, [sp, #432]
-	add	x29, sp, #352
+	sub	sp, sp, #464
+	.cfi_def_cfa_offset 464
+	stp	x29, x30, [sp, #368]
+	stp	x28, x27, [sp, #384]
+	stp	x26, x25, [sp, #400]
+	stp	x24, x23, [sp, #416]
+	stp	x22, x21, [sp, #432]
+	stp	x20, x19, [sp, #448]
+	add	x29, sp, #368
 	.cfi_def_cfa w29, 96
 	.cfi_offset w19, -8
 	.cfi_offset w20, -16
@@ -7121,18 +7125,22 @@
 	cmp	x26, #23
 	b.ls	.LBB24_25
 	movi	v0.2d, #0000000000000000
-	cmp	x1, #63
-	str	wzr, [sp, #288]
-	stp	q0, q0, [sp, #32]
-	stp	q0, q0, [sp, #64]
-	stp	q0, q0, [sp, #96]
-	stp	q0, q0, [sp, #128]
-	stp	q0, q0, [sp, #160]
-	stp	q0, q0, [sp, #192]
-	stp	q0, q0, [sp, #224]
-	stp	q0, q0, [sp, #256]
+	cmp	x1, #65
+	str	wzr, [sp, #304]
+	stp	q0, q0, [sp, #48]
+	stp	q0, q0, [sp, #80]
+	stp	q0, q0, [sp, #112]
+	stp	q0, q0, [sp, #144]
+	stp	q0, q0, [sp, #176]
+	stp	q0, q0, [sp, #208]
+	stp	q0, q0, [sp, #240]
+	stp	q0, q0, [sp, #272]
+	str	q0, [sp, #32]
 	b.hi	.LBB24_53
+	cmp	x1, #64
+	mov	w8, #64
 	mov	x19, x24
+	csel	x1, x1, x8, lo
 	mov	x24, x23
 	mov	x23, x28
 	mov	x28, x0
@@ -7235,7 +7243,7 @@
 	mov	w8, #130
 	mov	w9, #66
 	csel	x8, x9, x8, lo
-	mov	w9, #132
+	mov	w9, #148
 	add	x3, sp, #32
 	cmp	x8, x1
 	stur	xzr, [x29, #-16]
@@ -7247,7 +7255,7 @@
 	stp	q0, q0, [x29, #-48]
 	stp	x28, x1, [sp]
 	add	x8, x8, x8, lsl #1
-	cmp	x8, #132
+	cmp	x8, #148
 	csel	x8, x8, x9, lo
 	add	x4, x8, #128
 	bl	"utf16_to_utf8::runs::write_paired::<#418c2b53cf60437c>"
@@ -7258,7 +7266,7 @@
 	sub	x8, x11, #2
 	csel	x10, x10, x9, ne
 	csel	x8, x8, x11, ne
-	mov	w11, #260
+	mov	w11, #276
 	sub	x9, x27, x10
 	sub	x11, x11, x8
 	lsr	x9, x9, #1
@@ -7418,14 +7426,14 @@
 	strb	w9, [x10, #16]
 	strb	w8, [x10, #17]
 .LBB24_92:
-	.cfi_def_cfa wsp, 448
-	ldp	x20, x19, [sp, #432]
-	ldp	x22, x21, [sp, #416]
-	ldp	x24, x23, [sp, #400]
-	ldp	x26, x25, [sp, #384]
-	ldp	x28, x27, [sp, #368]
-	ldp	x29, x30, [sp, #352]
-	add	sp, sp, #448
+	.cfi_def_cfa wsp, 464
+	ldp	x20, x19, [sp, #448]
+	ldp	x22, x21, [sp, #432]
+	ldp	x24, x23, [sp, #416]
+	ldp	x26, x25, [sp, #400]
+	ldp	x28, x27, [sp, #384]
+	ldp	x29, x30, [sp, #368]
+	add	sp, sp, #464
 	.cfi_def_cfa_offset 0
 	.cfi_restore w19
 	.cfi_restore w20
@@ -9930,15 +9938,15 @@ proved_main:
 	b.ne	.LBB33_111
 .LBB33_110:
 	mov	w20, wzr
-	adrp	x21, .Lstatic.29
-	add	x21, x21, :lo12:.Lstatic.29
+	adrp	x21, .Lstatic.28
+	add	x21, x21, :lo12:.Lstatic.28
 	mov	w22, #16
 	b	.LBB33_116
 .LBB33_111:
 	mov	x19, xzr
 .LBB33_112:
-	adrp	x8, .Lstatic.26
-	add	x8, x8, :lo12:.Lstatic.26
+	adrp	x8, .Lstatic.25
+	add	x8, x8, :lo12:.Lstatic.25
 	eor	x2, x19, #0x7
 	add	x1, x8, x19
 	mov	w0, #2
@@ -9951,16 +9959,16 @@ proved_main:
 	add	x19, x8, x19
 	cmp	x19, #6
 	b.ls	.LBB33_112
-	adrp	x21, .Lstatic.31
-	add	x21, x21, :lo12:.Lstatic.31
+	adrp	x21, .Lstatic.30
+	add	x21, x21, :lo12:.Lstatic.30
 	mov	w20, #1
 	mov	w22, #12
 .LBB33_116:
 	mov	x23, xzr
 .LBB33_117:
 	mov	w8, #9
-	adrp	x9, .Lstatic.33
-	add	x9, x9, :lo12:.Lstatic.33
+	adrp	x9, .Lstatic.32
+	add	x9, x9, :lo12:.Lstatic.32
 	sub	x19, x8, x23
 	add	x1, x9, x23
 	mov	w0, #2
@@ -10454,8 +10462,8 @@ proved_main:
 	cmp	w0, #1
 	b.eq	.LBB33_126
 	mov	w20, wzr
-	adrp	x21, .Lstatic.27
-	add	x21, x21, :lo12:.Lstatic.27
+	adrp	x21, .Lstatic.26
+	add	x21, x21, :lo12:.Lstatic.26
 	mov	w22, #14
 	b	.LBB33_116
 .LBB33_231:
@@ -10523,14 +10531,14 @@ proved_main:
 	cmp	w0, #5
 	b.ne	.LBB33_110
 	mov	w20, wzr
-	adrp	x21, .Lstatic.30
-	add	x21, x21, :lo12:.Lstatic.30
+	adrp	x21, .Lstatic.29
+	add	x21, x21, :lo12:.Lstatic.29
 	mov	w22, #17
 	b	.LBB33_116
 .LBB33_248:
 	mov	w20, wzr
-	adrp	x21, .Lstatic.28
-	add	x21, x21, :lo12:.Lstatic.28
+	adrp	x21, .Lstatic.27
+	add	x21, x21, :lo12:.Lstatic.27
 	mov	w22, #15
 	b	.LBB33_116
 .LBB33_249:
@@ -10564,47 +10572,47 @@ proved_main:
 	.ascii	"\200\200\200\200\200\200\200\200\200\200\200\200\200\200\200\200\017\200\200\200\200\200\200\200\200\200\200\200\200\200\200\200\016\017\200\200\200\200\200\200\200\200\200\200\200\200\200\200\r\016\017\200\200\200\200\200\200\200\200\200\200\200\200\200\f\r\016\017\200\200\200\200\200\200\200\200\200\200\200\200\013\f\r\016\017\200\200\200\200\200\200\200\200\200\200\200\n\013\f\r\016\017\200\200\200\200\200\200\200\200\200\200\t\n\013\f\r\016\017\200\200\200\200\200\200\200\200\200\b\t\n\013\f\r\016\017\200\200\200\200\200\200\200\200\007\b\t\n\013\f\r\016\017\200\200\200\200\200\200\200\006\007\b\t\n\013\f\r\016\017\200\200\200\200\200\200\005\006\007\b\t\n\013\f\r\016\017\200\200\200\200\200\004\005\006\007\b\t\n\013\f\r\016\017\200\200\200\200\003\004\005\006\007\b\t\n\013\f\r\016\017\200\200\200\002\003\004\005\006\007\b\t\n\013\f\r\016\017\200\200\001\002\003\004\005\006\007\b\t\n\013\f\r\016\017\200\000\001\002\003\004\005\006\007\b\t\n\013\f\r\016\017"
 	.size	.Lstatic.10, 272
 
+	.type	.Lstatic.25,@object
+	.section	.rodata..Lstatic.25,"a",@progbits
+.Lstatic.25:
+	.ascii	"usage: "
+	.size	.Lstatic.25, 7
+
 	.type	.Lstatic.26,@object
 	.section	.rodata..Lstatic.26,"a",@progbits
 .Lstatic.26:
-	.ascii	"usage: "
-	.size	.Lstatic.26, 7
+	.ascii	": read failed\n"
+	.size	.Lstatic.26, 14
 
 	.type	.Lstatic.27,@object
 	.section	.rodata..Lstatic.27,"a",@progbits
 .Lstatic.27:
-	.ascii	": read failed\n"
-	.size	.Lstatic.27, 14
+	.ascii	": write failed\n"
+	.size	.Lstatic.27, 15
 
 	.type	.Lstatic.28,@object
-	.section	.rodata..Lstatic.28,"a",@progbits
+	.section	.rodata.cst16,"aM",@progbits,16
 .Lstatic.28:
-	.ascii	": write failed\n"
-	.size	.Lstatic.28, 15
+	.ascii	": out of memory\n"
+	.size	.Lstatic.28, 16
 
 	.type	.Lstatic.29,@object
-	.section	.rodata.cst16,"aM",@progbits,16
+	.section	.rodata..Lstatic.29,"a",@progbits
 .Lstatic.29:
-	.ascii	": out of memory\n"
-	.size	.Lstatic.29, 16
+	.ascii	": input too long\n"
+	.size	.Lstatic.29, 17
 
 	.type	.Lstatic.30,@object
 	.section	.rodata..Lstatic.30,"a",@progbits
 .Lstatic.30:
-	.ascii	": input too long\n"
-	.size	.Lstatic.30, 17
-
-	.type	.Lstatic.31,@object
-	.section	.rodata..Lstatic.31,"a",@progbits
-.Lstatic.31:
 	.ascii	" le|be|auto\n"
-	.size	.Lstatic.31, 12
+	.size	.Lstatic.30, 12
 
-	.type	.Lstatic.33,@object
-	.section	.rodata..Lstatic.33,"a",@progbits
-.Lstatic.33:
+	.type	.Lstatic.32,@object
+	.section	.rodata..Lstatic.32,"a",@progbits
+.Lstatic.32:
 	.ascii	"utf16_cat"
-	.size	.Lstatic.33, 9
+	.size	.Lstatic.32, 9
 
 	.ident	"rattle logic=dac8208d650f15bf3e2dc313a14fa4c783a3acf887bdfab66e1714b038d9e11b"
 	.section	".note.GNU-stack","",@progbits

@@ -1688,8 +1688,8 @@
 	movk	w9, #1525, lsl #16
 	cmp	x8, #625
 	movk	x10, #13421, lsl #48
-	adrp	x8, .Lstatic.19
-	add	x8, x8, :lo12:.Lstatic.19
+	adrp	x8, .Lstatic.18
+	add	x8, x8, :lo12:.Lstatic.18
 	str	xzr, [sp, #80]
 	stp	q0, q0, [sp]
 	stp	q0, q0, [sp, #48]
@@ -1934,8 +1934,8 @@
 	b.hi	.LBB9_81
 .LBB9_34:
 	ldr	x25, [x19]
-	adrp	x10, .Lstatic.20
-	add	x10, x10, :lo12:.Lstatic.20
+	adrp	x10, .Lstatic.19
+	add	x10, x10, :lo12:.Lstatic.19
 	add	x9, x25, x8
 	add	x8, x8, #7
 	sub	x10, x9, x10
@@ -2041,8 +2041,8 @@
 	b.ls	.LBB9_94
 .LBB9_53:
 	add	x9, x25, x28
-	adrp	x10, .Lstatic.21
-	add	x10, x10, :lo12:.Lstatic.21
+	adrp	x10, .Lstatic.20
+	add	x10, x10, :lo12:.Lstatic.20
 	sub	x8, x9, x10
 	cmp	x8, #14
 	add	x8, x28, #14
@@ -2114,8 +2114,8 @@
 	b.ls	.LBB9_105
 .LBB9_64:
 	add	x9, x25, x22
-	adrp	x10, .Lstatic.22
-	add	x10, x10, :lo12:.Lstatic.22
+	adrp	x10, .Lstatic.21
+	add	x10, x10, :lo12:.Lstatic.21
 	sub	x8, x9, x10
 	cmp	x8, #14
 	add	x8, x22, #14
@@ -2491,11 +2491,11 @@
 	movi	v0.2d, #0000000000000000
 	and	w12, w8, #0xfc00
 	cmp	w14, w10
-	adrp	x10, .Lstatic.25
-	add	x10, x10, :lo12:.Lstatic.25
+	adrp	x10, .Lstatic.24
+	add	x10, x10, :lo12:.Lstatic.24
 	str	w12, [sp, #36]
-	adrp	x12, .Lstatic.24
-	add	x12, x12, :lo12:.Lstatic.24
+	adrp	x12, .Lstatic.23
+	add	x12, x12, :lo12:.Lstatic.23
 	lsr	x14, x0, #4
 	mov	w13, #30
 	csel	x10, x12, x10, eq
@@ -2504,8 +2504,8 @@
 	str	x10, [sp, #64]
 	cinc	x4, x13, ne
 	cmp	x14, #625
-	adrp	x10, .Lstatic.19
-	add	x10, x10, :lo12:.Lstatic.19
+	adrp	x10, .Lstatic.18
+	add	x10, x10, :lo12:.Lstatic.18
 	stur	xzr, [x29, #-32]
 	stp	q0, q0, [x29, #-64]
 	b.lo	.LBB11_8
@@ -2632,8 +2632,8 @@
 	b.hi	.LBB11_31
 .LBB11_16:
 	ldr	x20, [x3]
-	adrp	x8, .Lstatic.16
-	add	x8, x8, :lo12:.Lstatic.16
+	adrp	x8, .Lstatic.15
+	add	x8, x8, :lo12:.Lstatic.15
 	add	x10, x20, x9
 	sub	x8, x10, x8
 	cmp	x8, #2
@@ -2770,8 +2770,8 @@
 	b.ls	.LBB11_77
 .LBB11_39:
 	add	x9, x20, x19
-	adrp	x8, .Lstatic.17
-	add	x8, x8, :lo12:.Lstatic.17
+	adrp	x8, .Lstatic.16
+	add	x8, x8, :lo12:.Lstatic.16
 	sub	x8, x9, x8
 	mov	w10, #10272
 	cmp	x8, #2
@@ -5159,15 +5159,15 @@ proved_main:
 	b.ne	.LBB13_241
 .LBB13_240:
 	mov	w20, wzr
-	adrp	x21, .Lstatic.29
-	add	x21, x21, :lo12:.Lstatic.29
+	adrp	x21, .Lstatic.28
+	add	x21, x21, :lo12:.Lstatic.28
 	mov	w22, #16
 	b	.LBB13_246
 .LBB13_241:
 	mov	x19, xzr
 .LBB13_242:
-	adrp	x8, .Lstatic.26
-	add	x8, x8, :lo12:.Lstatic.26
+	adrp	x8, .Lstatic.25
+	add	x8, x8, :lo12:.Lstatic.25
 	eor	x2, x19, #0x7
 	add	x1, x8, x19
 	mov	w0, #2
@@ -5180,16 +5180,16 @@ proved_main:
 	add	x19, x8, x19
 	cmp	x19, #6
 	b.ls	.LBB13_242
-	adrp	x21, .Lstatic.31
-	add	x21, x21, :lo12:.Lstatic.31
+	adrp	x21, .Lstatic.30
+	add	x21, x21, :lo12:.Lstatic.30
 	mov	w20, #1
 	mov	w22, #12
 .LBB13_246:
 	mov	x23, xzr
 .LBB13_247:
 	mov	w8, #11
-	adrp	x9, .Lstatic.35
-	add	x9, x9, :lo12:.Lstatic.35
+	adrp	x9, .Lstatic.34
+	add	x9, x9, :lo12:.Lstatic.34
 	sub	x19, x8, x23
 	add	x1, x9, x23
 	mov	w0, #2
@@ -5295,8 +5295,8 @@ proved_main:
 	cmp	w0, #3
 	b.ne	.LBB13_240
 	mov	w20, wzr
-	adrp	x21, .Lstatic.28
-	add	x21, x21, :lo12:.Lstatic.28
+	adrp	x21, .Lstatic.27
+	add	x21, x21, :lo12:.Lstatic.27
 	mov	w22, #15
 	b	.LBB13_246
 .LBB13_269:
@@ -5335,8 +5335,8 @@ proved_main:
 	bl	rattle_dealloc
 .LBB13_281:
 	mov	w20, wzr
-	adrp	x21, .Lstatic.27
-	add	x21, x21, :lo12:.Lstatic.27
+	adrp	x21, .Lstatic.26
+	add	x21, x21, :lo12:.Lstatic.26
 	mov	w22, #14
 	b	.LBB13_246
 .LBB13_282:
@@ -5371,8 +5371,8 @@ proved_main:
 	cmp	x9, #625
 	sub	x9, x29, #224
 	stp	q0, q0, [x9, #48]
-	adrp	x9, .Lstatic.19
-	add	x9, x9, :lo12:.Lstatic.19
+	adrp	x9, .Lstatic.18
+	add	x9, x9, :lo12:.Lstatic.18
 	b.lo	.LBB13_293
 	mov	x11, xzr
 	mov	x10, x26
@@ -5413,8 +5413,8 @@ proved_main:
 	bl	rattle_dealloc
 .LBB13_291:
 	mov	w20, wzr
-	adrp	x21, .Lstatic.30
-	add	x21, x21, :lo12:.Lstatic.30
+	adrp	x21, .Lstatic.29
+	add	x21, x21, :lo12:.Lstatic.29
 	mov	w22, #17
 	b	.LBB13_246
 .LBB13_292:
@@ -5508,8 +5508,8 @@ proved_main:
 	mov	x8, xzr
 .LBB13_311:
 	ldur	x24, [x29, #-224]
-	adrp	x10, .Lstatic.16
-	add	x10, x10, :lo12:.Lstatic.16
+	adrp	x10, .Lstatic.15
+	add	x10, x10, :lo12:.Lstatic.15
 	add	x26, x8, #2
 	add	x9, x24, x8
 	mov	w8, #30768
@@ -5535,8 +5535,8 @@ proved_main:
 	b.ls	.LBB13_360
 .LBB13_313:
 	add	x9, x24, x27
-	adrp	x8, .Lstatic.17
-	add	x8, x8, :lo12:.Lstatic.17
+	adrp	x8, .Lstatic.16
+	add	x8, x8, :lo12:.Lstatic.16
 	sub	x8, x9, x8
 	mov	w10, #10272
 	ldr	x14, [sp, #80]
@@ -5590,8 +5590,8 @@ proved_main:
 	b.ls	.LBB13_364
 .LBB13_322:
 	add	x8, x24, x22
-	adrp	x10, .Lstatic.18
-	add	x10, x10, :lo12:.Lstatic.18
+	adrp	x10, .Lstatic.17
+	add	x10, x10, :lo12:.Lstatic.17
 	sub	x9, x8, x10
 	ldr	x11, [sp, #72]
 	cmp	x9, #23
@@ -5772,101 +5772,101 @@ proved_main:
 	.size	proved_main, .Lfunc_end13-proved_main
 	.cfi_endproc
 
+	.type	.Lstatic.15,@object
+	.section	.rodata..Lstatic.15,"a",@progbits
+.Lstatic.15:
+	.ascii	"0x"
+	.size	.Lstatic.15, 2
+
 	.type	.Lstatic.16,@object
 	.section	.rodata..Lstatic.16,"a",@progbits
 .Lstatic.16:
-	.ascii	"0x"
+	.ascii	" ("
 	.size	.Lstatic.16, 2
 
 	.type	.Lstatic.17,@object
 	.section	.rodata..Lstatic.17,"a",@progbits
 .Lstatic.17:
-	.ascii	" ("
-	.size	.Lstatic.17, 2
+	.ascii	"): incomplete character\n"
+	.size	.Lstatic.17, 24
 
 	.type	.Lstatic.18,@object
 	.section	.rodata..Lstatic.18,"a",@progbits
 .Lstatic.18:
-	.ascii	"): incomplete character\n"
-	.size	.Lstatic.18, 24
+	.ascii	"00010203040506070809101112131415161718192021222324252627282930313233343536373839404142434445464748495051525354555657585960616263646566676869707172737475767778798081828384858687888990919293949596979899"
+	.size	.Lstatic.18, 200
 
 	.type	.Lstatic.19,@object
 	.section	.rodata..Lstatic.19,"a",@progbits
 .Lstatic.19:
-	.ascii	"00010203040506070809101112131415161718192021222324252627282930313233343536373839404142434445464748495051525354555657585960616263646566676869707172737475767778798081828384858687888990919293949596979899"
-	.size	.Lstatic.19, 200
+	.ascii	"bytes: "
+	.size	.Lstatic.19, 7
 
 	.type	.Lstatic.20,@object
 	.section	.rodata..Lstatic.20,"a",@progbits
 .Lstatic.20:
-	.ascii	"bytes: "
-	.size	.Lstatic.20, 7
+	.ascii	", characters: "
+	.size	.Lstatic.20, 14
 
 	.type	.Lstatic.21,@object
 	.section	.rodata..Lstatic.21,"a",@progbits
 .Lstatic.21:
-	.ascii	", characters: "
+	.ascii	", ill-formed: "
 	.size	.Lstatic.21, 14
 
-	.type	.Lstatic.22,@object
-	.section	.rodata..Lstatic.22,"a",@progbits
-.Lstatic.22:
-	.ascii	", ill-formed: "
-	.size	.Lstatic.22, 14
+	.type	.Lstatic.23,@object
+	.section	.rodata..Lstatic.23,"a",@progbits
+.Lstatic.23:
+	.ascii	"): unpaired leading surrogate "
+	.size	.Lstatic.23, 30
 
 	.type	.Lstatic.24,@object
 	.section	.rodata..Lstatic.24,"a",@progbits
 .Lstatic.24:
-	.ascii	"): unpaired leading surrogate "
-	.size	.Lstatic.24, 30
+	.ascii	"): unpaired trailing surrogate "
+	.size	.Lstatic.24, 31
 
 	.type	.Lstatic.25,@object
 	.section	.rodata..Lstatic.25,"a",@progbits
 .Lstatic.25:
-	.ascii	"): unpaired trailing surrogate "
-	.size	.Lstatic.25, 31
+	.ascii	"usage: "
+	.size	.Lstatic.25, 7
 
 	.type	.Lstatic.26,@object
 	.section	.rodata..Lstatic.26,"a",@progbits
 .Lstatic.26:
-	.ascii	"usage: "
-	.size	.Lstatic.26, 7
+	.ascii	": read failed\n"
+	.size	.Lstatic.26, 14
 
 	.type	.Lstatic.27,@object
 	.section	.rodata..Lstatic.27,"a",@progbits
 .Lstatic.27:
-	.ascii	": read failed\n"
-	.size	.Lstatic.27, 14
+	.ascii	": write failed\n"
+	.size	.Lstatic.27, 15
 
 	.type	.Lstatic.28,@object
-	.section	.rodata..Lstatic.28,"a",@progbits
+	.section	.rodata.cst16,"aM",@progbits,16
 .Lstatic.28:
-	.ascii	": write failed\n"
-	.size	.Lstatic.28, 15
+	.ascii	": out of memory\n"
+	.size	.Lstatic.28, 16
 
 	.type	.Lstatic.29,@object
-	.section	.rodata.cst16,"aM",@progbits,16
+	.section	.rodata..Lstatic.29,"a",@progbits
 .Lstatic.29:
-	.ascii	": out of memory\n"
-	.size	.Lstatic.29, 16
+	.ascii	": input too long\n"
+	.size	.Lstatic.29, 17
 
 	.type	.Lstatic.30,@object
 	.section	.rodata..Lstatic.30,"a",@progbits
 .Lstatic.30:
-	.ascii	": input too long\n"
-	.size	.Lstatic.30, 17
-
-	.type	.Lstatic.31,@object
-	.section	.rodata..Lstatic.31,"a",@progbits
-.Lstatic.31:
 	.ascii	" le|be|auto\n"
-	.size	.Lstatic.31, 12
+	.size	.Lstatic.30, 12
 
-	.type	.Lstatic.35,@object
-	.section	.rodata..Lstatic.35,"a",@progbits
-.Lstatic.35:
+	.type	.Lstatic.34,@object
+	.section	.rodata..Lstatic.34,"a",@progbits
+.Lstatic.34:
 	.ascii	"utf16_check"
-	.size	.Lstatic.35, 11
+	.size	.Lstatic.34, 11
 
 	.ident	"rattle logic=dac8208d650f15bf3e2dc313a14fa4c783a3acf887bdfab66e1714b038d9e11b"
 	.section	".note.GNU-stack","",@progbits

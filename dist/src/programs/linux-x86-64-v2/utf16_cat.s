@@ -306,7 +306,7 @@
 	cmpb	$38, (%r13)
 	jne	.LBB0_46
 .LBB0_70:
-	leaq	.Lstatic.29(%rip), %r14
+	leaq	.Lstatic.28(%rip), %r14
 	movl	$16, %r15d
 .LBB0_71:
 	xorl	%ebp, %ebp
@@ -315,7 +315,7 @@
 	xorl	%r15d, %r15d
 	.p2align	4
 .LBB0_47:
-	leaq	.Lstatic.26(%rip), %rsi
+	leaq	.Lstatic.25(%rip), %rsi
 	addq	%r15, %rsi
 	movq	%r15, %r14
 	xorq	$7, %r14
@@ -332,14 +332,14 @@
 	addq	%r14, %r15
 	cmpq	$6, %r15
 	jbe	.LBB0_47
-	leaq	.Lstatic.31(%rip), %r14
+	leaq	.Lstatic.30(%rip), %r14
 	movl	$12, %r15d
 	movb	$1, %bpl
 .LBB0_72:
 	xorl	%r12d, %r12d
 	.p2align	4
 .LBB0_73:
-	leaq	.Lstatic.33(%rip), %rsi
+	leaq	.Lstatic.32(%rip), %rsi
 	addq	%r12, %rsi
 	movl	$9, %ebx
 	subq	%r12, %rbx
@@ -937,7 +937,7 @@
 	callq	rattle_dealloc@PLT
 	movb	$3, %al
 	movzbl	%al, %ebx
-	leaq	.Lstatic.28(%rip), %r14
+	leaq	.Lstatic.27(%rip), %r14
 	movl	$15, %r15d
 	xorl	%ebp, %ebp
 	leaq	.LJTI0_0(%rip), %rax
@@ -977,7 +977,7 @@
 	callq	rattle_dealloc@PLT
 	movb	$3, %al
 	movzbl	%al, %ebx
-	leaq	.Lstatic.28(%rip), %r14
+	leaq	.Lstatic.27(%rip), %r14
 	movl	$15, %r15d
 	xorl	%ebp, %ebp
 	leaq	.LJTI0_0(%rip), %rax
@@ -994,7 +994,7 @@
 	callq	rattle_dealloc@PLT
 	movb	$3, %al
 	movzbl	%al, %ebx
-	leaq	.Lstatic.28(%rip), %r14
+	leaq	.Lstatic.27(%rip), %r14
 	movl	$15, %r15d
 	xorl	%ebp, %ebp
 	leaq	.LJTI0_0(%rip), %rax
@@ -1010,7 +1010,7 @@
 	callq	rattle_dealloc@PLT
 	movb	$2, %al
 	movzbl	%al, %ebx
-	leaq	.Lstatic.28(%rip), %r14
+	leaq	.Lstatic.27(%rip), %r14
 	movl	$15, %r15d
 	xorl	%ebp, %ebp
 	leaq	.LJTI0_0(%rip), %rax
@@ -1046,7 +1046,7 @@
 	callq	rattle_dealloc@PLT
 	movb	$2, %al
 	movzbl	%al, %ebx
-	leaq	.Lstatic.28(%rip), %r14
+	leaq	.Lstatic.27(%rip), %r14
 	movl	$15, %r15d
 	xorl	%ebp, %ebp
 	leaq	.LJTI0_0(%rip), %rax
@@ -1062,7 +1062,7 @@
 	callq	rattle_dealloc@PLT
 	movb	$2, %al
 	movzbl	%al, %ebx
-	leaq	.Lstatic.28(%rip), %r14
+	leaq	.Lstatic.27(%rip), %r14
 	movl	$15, %r15d
 	xorl	%ebp, %ebp
 	leaq	.LJTI0_0(%rip), %rax
@@ -1192,7 +1192,7 @@
 	callq	rattle_dealloc@PLT
 	xorl	%eax, %eax
 	movzbl	%al, %ebx
-	leaq	.Lstatic.28(%rip), %r14
+	leaq	.Lstatic.27(%rip), %r14
 	movl	$15, %r15d
 	xorl	%ebp, %ebp
 	leaq	.LJTI0_0(%rip), %rax
@@ -1218,7 +1218,7 @@
 	callq	rattle_dealloc@PLT
 	movb	$3, %al
 	movzbl	%al, %ebx
-	leaq	.Lstatic.28(%rip), %r14
+	leaq	.Lstatic.27(%rip), %r14
 	movl	$15, %r15d
 	xorl	%ebp, %ebp
 	leaq	.LJTI0_0(%rip), %rax
@@ -1229,7 +1229,7 @@
 	movb	$3, %r15b
 .LBB0_195:
 	movzbl	%r15b, %ebx
-	leaq	.Lstatic.28(%rip), %r14
+	leaq	.Lstatic.27(%rip), %r14
 	movl	$15, %r15d
 	xorl	%ebp, %ebp
 	leaq	.LJTI0_0(%rip), %rax
@@ -1264,7 +1264,7 @@
 	callq	rattle_dealloc@PLT
 	xorl	%eax, %eax
 	movzbl	%al, %ebx
-	leaq	.Lstatic.28(%rip), %r14
+	leaq	.Lstatic.27(%rip), %r14
 	movl	$15, %r15d
 	xorl	%ebp, %ebp
 	leaq	.LJTI0_0(%rip), %rax
@@ -1299,7 +1299,7 @@
 	callq	rattle_dealloc@PLT
 	xorl	%eax, %eax
 	movzbl	%al, %ebx
-	leaq	.Lstatic.28(%rip), %r14
+	leaq	.Lstatic.27(%rip), %r14
 	movl	$15, %r15d
 	xorl	%ebp, %ebp
 	leaq	.LJTI0_0(%rip), %rax
@@ -1322,7 +1322,7 @@
 	callq	rattle_dealloc@PLT
 	movb	$3, %al
 	movzbl	%al, %ebx
-	leaq	.Lstatic.28(%rip), %r14
+	leaq	.Lstatic.27(%rip), %r14
 	movl	$15, %r15d
 	xorl	%ebp, %ebp
 	leaq	.LJTI0_0(%rip), %rax
@@ -1333,7 +1333,7 @@
 	movb	$3, %r12b
 .LBB0_203:
 	movzbl	%r12b, %ebx
-	leaq	.Lstatic.28(%rip), %r14
+	leaq	.Lstatic.27(%rip), %r14
 	movl	$15, %r15d
 	xorl	%ebp, %ebp
 	leaq	.LJTI0_0(%rip), %rax
@@ -1350,7 +1350,7 @@
 	callq	rattle_dealloc@PLT
 	movb	$3, %al
 	movzbl	%al, %ebx
-	leaq	.Lstatic.28(%rip), %r14
+	leaq	.Lstatic.27(%rip), %r14
 	movl	$15, %r15d
 	xorl	%ebp, %ebp
 	leaq	.LJTI0_0(%rip), %rax
@@ -1361,7 +1361,7 @@
 	movb	$3, %r12b
 .LBB0_205:
 	movzbl	%r12b, %ebx
-	leaq	.Lstatic.28(%rip), %r14
+	leaq	.Lstatic.27(%rip), %r14
 	movl	$15, %r15d
 	xorl	%ebp, %ebp
 	leaq	.LJTI0_0(%rip), %rax
@@ -1369,7 +1369,7 @@
 	addq	%rax, %rcx
 	notrack jmpq	*%rcx
 .LBB0_206:
-	leaq	.Lstatic.27(%rip), %r14
+	leaq	.Lstatic.26(%rip), %r14
 	movl	$14, %r15d
 	jmp	.LBB0_71
 .LBB0_275:
@@ -1379,7 +1379,7 @@
 	callq	rattle_dealloc@PLT
 	movb	$4, %al
 	movzbl	%al, %ebx
-	leaq	.Lstatic.28(%rip), %r14
+	leaq	.Lstatic.27(%rip), %r14
 	movl	$15, %r15d
 	xorl	%ebp, %ebp
 	leaq	.LJTI0_0(%rip), %rax
@@ -1393,7 +1393,7 @@
 	callq	rattle_dealloc@PLT
 	movb	$4, %al
 	movzbl	%al, %ebx
-	leaq	.Lstatic.28(%rip), %r14
+	leaq	.Lstatic.27(%rip), %r14
 	movl	$15, %r15d
 	xorl	%ebp, %ebp
 	leaq	.LJTI0_0(%rip), %rax
@@ -1407,7 +1407,7 @@
 	callq	rattle_dealloc@PLT
 	movb	$4, %al
 	movzbl	%al, %ebx
-	leaq	.Lstatic.28(%rip), %r14
+	leaq	.Lstatic.27(%rip), %r14
 	movl	$15, %r15d
 	xorl	%ebp, %ebp
 	leaq	.LJTI0_0(%rip), %rax
@@ -1415,7 +1415,7 @@
 	addq	%rax, %rcx
 	notrack jmpq	*%rcx
 .LBB0_274:
-	leaq	.Lstatic.30(%rip), %r14
+	leaq	.Lstatic.29(%rip), %r14
 	movl	$17, %r15d
 	jmp	.LBB0_71
 .LBB0_281:
@@ -3922,8 +3922,8 @@
 	.cfi_def_cfa_offset 48
 	pushq	%rbx
 	.cfi_def_cfa_offset 56
-	subq	$376, %rsp
-	.cfi_def_cfa_offset 432
+	subq	$392, %rsp
+	.cfi_def_cfa_offset 448
 	.cfi_offset %rbx, -56
 	.cfi_offset %r12, -48
 	.cfi_offset %r13, -40
@@ -3933,7 +3933,7 @@
 	movq	%r9, %rbp
 	movq	%r8, %r14
 	movq	%rdx, %rbx
-	movq	432(%rsp), %r8
+	movq	448(%rsp), %r8
 	subq	%r9, %rdx
 	cmpq	$2, %rdx
 	jae	.LBB8_3
@@ -4110,13 +4110,15 @@
 	jbe	.LBB8_22
 	movq	%r8, (%rsp)
 	leaq	112(%rsp), %rdi
-	movl	$260, %edx
+	movl	$276, %edx
 	xorl	%esi, %esi
 	callq	memset@PLT
-	cmpq	$63, %r14
+	cmpq	$65, %r14
 	ja	.LBB8_58
+	cmpq	$64, %r14
+	movl	$64, %esi
+	cmovbq	%r14, %rsi
 	movq	%r13, %rdi
-	movq	%r14, %rsi
 	callq	"utf16_transcode::decode::valid_up_to::<#8b18edd9dd9aa8df>"
 	movq	%rax, %r15
 	leaq	112(%rsp), %rdx
@@ -4324,8 +4326,8 @@
 	movl	%r15d, %eax
 	shrl	%eax
 	leaq	(%rax,%rax,2), %rax
-	cmpq	$132, %rax
-	movl	$132, %r8d
+	cmpq	$148, %rax
+	movl	$148, %r8d
 	cmovbq	%rax, %r8
 	subq	$-128, %r8
 	leaq	64(%rsp), %rdi
@@ -4342,7 +4344,7 @@
 	cmoveq	%rcx, %r8
 	subq	%r8, %r15
 	shrq	%r15
-	movl	$260, %ecx
+	movl	$276, %ecx
 	subq	%rax, %rcx
 	cmpq	%r15, %rcx
 	cmovaeq	%r15, %rcx
@@ -4507,7 +4509,7 @@
 	movb	%al, 16(%rdx)
 	movb	%cl, 17(%rdx)
 .LBB8_99:
-	addq	$376, %rsp
+	addq	$392, %rsp
 	.cfi_def_cfa_offset 56
 	popq	%rbx
 	.cfi_def_cfa_offset 48
@@ -9744,8 +9746,8 @@
 	.cfi_def_cfa_offset 48
 	pushq	%rbx
 	.cfi_def_cfa_offset 56
-	subq	$376, %rsp
-	.cfi_def_cfa_offset 432
+	subq	$392, %rsp
+	.cfi_def_cfa_offset 448
 	.cfi_offset %rbx, -56
 	.cfi_offset %r12, -48
 	.cfi_offset %r13, -40
@@ -9755,7 +9757,7 @@
 	movq	%r9, %rbp
 	movq	%r8, %r13
 	movq	%rdx, %r14
-	movq	432(%rsp), %r8
+	movq	448(%rsp), %r8
 	subq	%r9, %rdx
 	cmpq	$2, %rdx
 	jae	.LBB25_3
@@ -9930,13 +9932,15 @@
 	jbe	.LBB25_22
 	movq	%r8, (%rsp)
 	leaq	112(%rsp), %rdi
-	movl	$260, %edx
+	movl	$276, %edx
 	xorl	%esi, %esi
 	callq	memset@PLT
-	cmpq	$63, %r13
+	cmpq	$65, %r13
 	ja	.LBB25_58
+	cmpq	$64, %r13
+	movl	$64, %esi
+	cmovbq	%r13, %rsi
 	movq	%rbx, %rdi
-	movq	%r13, %rsi
 	callq	"utf16_transcode::decode::valid_up_to::<#418c2b53cf60437c>"
 	movq	%rax, %r15
 	leaq	112(%rsp), %rdx
@@ -10144,8 +10148,8 @@
 	movl	%r15d, %eax
 	shrl	%eax
 	leaq	(%rax,%rax,2), %rax
-	cmpq	$132, %rax
-	movl	$132, %r8d
+	cmpq	$148, %rax
+	movl	$148, %r8d
 	cmovbq	%rax, %r8
 	subq	$-128, %r8
 	leaq	64(%rsp), %rdi
@@ -10162,7 +10166,7 @@
 	cmoveq	%rcx, %r8
 	subq	%r8, %r15
 	shrq	%r15
-	movl	$260, %ecx
+	movl	$276, %ecx
 	subq	%rax, %rcx
 	cmpq	%r15, %rcx
 	cmovaeq	%r15, %rcx
@@ -10323,7 +10327,7 @@
 	movb	%al, 16(%rdx)
 	movb	%cl, 17(%rdx)
 .LBB25_98:
-	addq	$376, %rsp
+	addq	$392, %rsp
 	.cfi_def_cfa_offset 56
 	popq	%rbx
 	.cfi_def_cfa_offset 48
@@ -12800,47 +12804,47 @@ proved_main:
 	.ascii	"\200\200\200\200\200\200\200\200\200\200\200\200\200\200\200\200\017\200\200\200\200\200\200\200\200\200\200\200\200\200\200\200\016\017\200\200\200\200\200\200\200\200\200\200\200\200\200\200\r\016\017\200\200\200\200\200\200\200\200\200\200\200\200\200\f\r\016\017\200\200\200\200\200\200\200\200\200\200\200\200\013\f\r\016\017\200\200\200\200\200\200\200\200\200\200\200\n\013\f\r\016\017\200\200\200\200\200\200\200\200\200\200\t\n\013\f\r\016\017\200\200\200\200\200\200\200\200\200\b\t\n\013\f\r\016\017\200\200\200\200\200\200\200\200\007\b\t\n\013\f\r\016\017\200\200\200\200\200\200\200\006\007\b\t\n\013\f\r\016\017\200\200\200\200\200\200\005\006\007\b\t\n\013\f\r\016\017\200\200\200\200\200\004\005\006\007\b\t\n\013\f\r\016\017\200\200\200\200\003\004\005\006\007\b\t\n\013\f\r\016\017\200\200\200\002\003\004\005\006\007\b\t\n\013\f\r\016\017\200\200\001\002\003\004\005\006\007\b\t\n\013\f\r\016\017\200\000\001\002\003\004\005\006\007\b\t\n\013\f\r\016\017"
 	.size	.Lstatic.10, 272
 
+	.type	.Lstatic.25,@object
+	.section	.rodata..Lstatic.25,"a",@progbits
+.Lstatic.25:
+	.ascii	"usage: "
+	.size	.Lstatic.25, 7
+
 	.type	.Lstatic.26,@object
 	.section	.rodata..Lstatic.26,"a",@progbits
 .Lstatic.26:
-	.ascii	"usage: "
-	.size	.Lstatic.26, 7
+	.ascii	": read failed\n"
+	.size	.Lstatic.26, 14
 
 	.type	.Lstatic.27,@object
 	.section	.rodata..Lstatic.27,"a",@progbits
 .Lstatic.27:
-	.ascii	": read failed\n"
-	.size	.Lstatic.27, 14
+	.ascii	": write failed\n"
+	.size	.Lstatic.27, 15
 
 	.type	.Lstatic.28,@object
-	.section	.rodata..Lstatic.28,"a",@progbits
+	.section	.rodata.cst16,"aM",@progbits,16
 .Lstatic.28:
-	.ascii	": write failed\n"
-	.size	.Lstatic.28, 15
+	.ascii	": out of memory\n"
+	.size	.Lstatic.28, 16
 
 	.type	.Lstatic.29,@object
-	.section	.rodata.cst16,"aM",@progbits,16
+	.section	.rodata..Lstatic.29,"a",@progbits
 .Lstatic.29:
-	.ascii	": out of memory\n"
-	.size	.Lstatic.29, 16
+	.ascii	": input too long\n"
+	.size	.Lstatic.29, 17
 
 	.type	.Lstatic.30,@object
 	.section	.rodata..Lstatic.30,"a",@progbits
 .Lstatic.30:
-	.ascii	": input too long\n"
-	.size	.Lstatic.30, 17
-
-	.type	.Lstatic.31,@object
-	.section	.rodata..Lstatic.31,"a",@progbits
-.Lstatic.31:
 	.ascii	" le|be|auto\n"
-	.size	.Lstatic.31, 12
+	.size	.Lstatic.30, 12
 
-	.type	.Lstatic.33,@object
-	.section	.rodata..Lstatic.33,"a",@progbits
-.Lstatic.33:
+	.type	.Lstatic.32,@object
+	.section	.rodata..Lstatic.32,"a",@progbits
+.Lstatic.32:
 	.ascii	"utf16_cat"
-	.size	.Lstatic.33, 9
+	.size	.Lstatic.32, 9
 
 	.ident	"rattle logic=dac8208d650f15bf3e2dc313a14fa4c783a3acf887bdfab66e1714b038d9e11b"
 	.section	".note.GNU-stack","",@progbits

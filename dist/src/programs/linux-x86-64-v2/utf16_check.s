@@ -491,7 +491,7 @@
 	cmpb	$38, (%r13)
 	jne	.LBB0_46
 .LBB0_69:
-	leaq	.Lstatic.29(%rip), %r14
+	leaq	.Lstatic.28(%rip), %r14
 	movl	$16, %r15d
 .LBB0_70:
 	xorl	%ebp, %ebp
@@ -500,7 +500,7 @@
 	xorl	%r15d, %r15d
 	.p2align	4
 .LBB0_47:
-	leaq	.Lstatic.26(%rip), %rsi
+	leaq	.Lstatic.25(%rip), %rsi
 	addq	%r15, %rsi
 	movq	%r15, %r14
 	xorq	$7, %r14
@@ -517,14 +517,14 @@
 	addq	%r14, %r15
 	cmpq	$6, %r15
 	jbe	.LBB0_47
-	leaq	.Lstatic.31(%rip), %r14
+	leaq	.Lstatic.30(%rip), %r14
 	movl	$12, %r15d
 	movb	$1, %bpl
 .LBB0_71:
 	xorl	%r12d, %r12d
 	.p2align	4
 .LBB0_72:
-	leaq	.Lstatic.35(%rip), %rsi
+	leaq	.Lstatic.34(%rip), %rsi
 	addq	%r12, %rsi
 	movl	$11, %ebx
 	subq	%r12, %rbx
@@ -1680,7 +1680,7 @@
 	jne	.LBB0_249
 .LBB0_250:
 	movzbl	%bl, %ebx
-	leaq	.Lstatic.28(%rip), %r14
+	leaq	.Lstatic.27(%rip), %r14
 	movl	$15, %r15d
 	xorl	%ebp, %ebp
 	leaq	.LJTI0_0(%rip), %rax
@@ -1698,7 +1698,7 @@
 	movq	136(%rsp), %rdi
 	callq	rattle_dealloc@PLT
 	movzbl	%bl, %ebx
-	leaq	.Lstatic.28(%rip), %r14
+	leaq	.Lstatic.27(%rip), %r14
 	movl	$15, %r15d
 	xorl	%ebp, %ebp
 	leaq	.LJTI0_0(%rip), %rax
@@ -1736,7 +1736,7 @@
 	movq	%rbx, %rdi
 	callq	rattle_dealloc@PLT
 .LBB0_253:
-	leaq	.Lstatic.27(%rip), %r14
+	leaq	.Lstatic.26(%rip), %r14
 	movl	$14, %r15d
 	jmp	.LBB0_70
 .LBB0_254:
@@ -1789,7 +1789,7 @@
 	imull	$100, %eax, %r9d
 	subl	%r9d, %esi
 	movzwl	%si, %esi
-	leaq	.Lstatic.19(%rip), %r9
+	leaq	.Lstatic.18(%rip), %r9
 	movzwl	(%r9,%rsi,2), %esi
 	movw	%si, 174(%rsp,%r14)
 	movzwl	(%r9,%rax,2), %eax
@@ -1805,7 +1805,7 @@
 	movq	%rbx, %rdi
 	callq	rattle_dealloc@PLT
 .LBB0_261:
-	leaq	.Lstatic.30(%rip), %r14
+	leaq	.Lstatic.29(%rip), %r14
 	movl	$17, %r15d
 	jmp	.LBB0_70
 .LBB0_262:
@@ -1838,7 +1838,7 @@
 	movl	%edx, %r8d
 	subl	%esi, %r8d
 	movzwl	%r8w, %r8d
-	leaq	.Lstatic.19(%rip), %rsi
+	leaq	.Lstatic.18(%rip), %rsi
 	movzwl	(%rsi,%r8,2), %r8d
 	movw	%r8w, 174(%rsp,%r14)
 	cmpq	$999, %rdx
@@ -1876,7 +1876,7 @@
 	movq	%rbx, %rdi
 	jmp	.LBB0_67
 .LBB0_278:
-	leaq	.Lstatic.19(%rip), %rax
+	leaq	.Lstatic.18(%rip), %rax
 	movzwl	(%rax,%rdx,2), %eax
 	movw	%ax, 174(%rsp,%r14)
 	addq	$-2, %r14
@@ -1906,7 +1906,7 @@
 	movq	32(%rsp), %rbp
 	leaq	(%r12,%rbp), %rax
 	addq	$2, %r12
-	leaq	.Lstatic.16(%rip), %rcx
+	leaq	.Lstatic.15(%rip), %rcx
 	movq	%rax, %rsi
 	subq	%rcx, %rsi
 	cmpq	$1, %rsi
@@ -1940,7 +1940,7 @@
 .LBB0_284:
 	leaq	(%r9,%rbx), %rax
 	addq	$2, %rbx
-	leaq	.Lstatic.17(%rip), %rcx
+	leaq	.Lstatic.16(%rip), %rcx
 	movq	%rax, %rdx
 	subq	%rcx, %rdx
 	cmpq	$1, %rdx
@@ -2086,7 +2086,7 @@
 	movdqu	%xmm0, (%rax)
 	leaq	(%r9,%r13), %rax
 	addq	$24, %r13
-	leaq	.Lstatic.18(%rip), %rcx
+	leaq	.Lstatic.17(%rip), %rcx
 	movq	%rax, %rdx
 	subq	%rcx, %rdx
 	movabsq	$752775638282236513, %rcx
@@ -2095,7 +2095,7 @@
 	movdqa	.LCPI0_14(%rip), %xmm0
 	jmp	.LBB0_314
 .LBB0_313:
-	movdqu	.Lstatic.18(%rip), %xmm0
+	movdqu	.Lstatic.17(%rip), %xmm0
 .LBB0_314:
 	movdqu	%xmm0, (%rax)
 	movq	%rcx, 16(%rax)
@@ -2119,7 +2119,7 @@
 	callq	rattle_dealloc@PLT
 	movb	$4, %al
 	movzbl	%al, %ebx
-	leaq	.Lstatic.28(%rip), %r14
+	leaq	.Lstatic.27(%rip), %r14
 	movl	$15, %r15d
 	xorl	%ebp, %ebp
 	leaq	.LJTI0_0(%rip), %rax
@@ -2168,7 +2168,7 @@
 	callq	rattle_dealloc@PLT
 	xorl	%eax, %eax
 	movzbl	%al, %ebx
-	leaq	.Lstatic.28(%rip), %r14
+	leaq	.Lstatic.27(%rip), %r14
 	movl	$15, %r15d
 	xorl	%ebp, %ebp
 	leaq	.LJTI0_0(%rip), %rax
@@ -2185,7 +2185,7 @@
 	callq	rattle_dealloc@PLT
 	movb	$3, %al
 	movzbl	%al, %ebx
-	leaq	.Lstatic.28(%rip), %r14
+	leaq	.Lstatic.27(%rip), %r14
 	movl	$15, %r15d
 	xorl	%ebp, %ebp
 	leaq	.LJTI0_0(%rip), %rax
@@ -2199,7 +2199,7 @@
 	xorl	%ebp, %ebp
 .LBB0_334:
 	movzbl	%bpl, %ebx
-	leaq	.Lstatic.28(%rip), %r14
+	leaq	.Lstatic.27(%rip), %r14
 	movl	$15, %r15d
 	xorl	%ebp, %ebp
 	leaq	.LJTI0_0(%rip), %rax
@@ -3975,7 +3975,7 @@
 	imull	$100, %eax, %r10d
 	subl	%r10d, %r9d
 	movzwl	%r9w, %r9d
-	leaq	.Lstatic.19(%rip), %r10
+	leaq	.Lstatic.18(%rip), %r10
 	movzwl	(%r10,%r9,2), %r9d
 	movw	%r9w, 110(%rsp,%rbx)
 	movzwl	(%r10,%rax,2), %eax
@@ -4007,7 +4007,7 @@
 	movl	%edx, %r9d
 	subl	%edi, %r9d
 	movzwl	%r9w, %r9d
-	leaq	.Lstatic.19(%rip), %rdi
+	leaq	.Lstatic.18(%rip), %rdi
 	movzwl	(%rdi,%r9,2), %r9d
 	movw	%r9w, 110(%rsp,%rbx)
 	cmpq	$999, %rdx
@@ -4017,7 +4017,7 @@
 	addq	$-3, %rbx
 	jmp	.LBB10_10
 .LBB10_6:
-	leaq	.Lstatic.19(%rip), %rax
+	leaq	.Lstatic.18(%rip), %rax
 	movzwl	(%rax,%rdx,2), %eax
 	movw	%ax, 110(%rsp,%rbx)
 	addq	$-2, %rbx
@@ -4049,7 +4049,7 @@
 	imull	$100, %eax, %r9d
 	subl	%r9d, %edi
 	movzwl	%di, %edi
-	leaq	.Lstatic.19(%rip), %r9
+	leaq	.Lstatic.18(%rip), %r9
 	movzwl	(%r9,%rdi,2), %edi
 	movw	%di, 62(%rsp,%rbp)
 	movzwl	(%r9,%rax,2), %eax
@@ -4081,7 +4081,7 @@
 	movl	%edx, %edi
 	subl	%esi, %edi
 	movzwl	%di, %edi
-	leaq	.Lstatic.19(%rip), %rsi
+	leaq	.Lstatic.18(%rip), %rsi
 	movzwl	(%rsi,%rdi,2), %edi
 	movw	%di, 62(%rsp,%rbp)
 	cmpq	$999, %rdx
@@ -4091,7 +4091,7 @@
 	addq	$-3, %rbp
 	jmp	.LBB10_20
 .LBB10_16:
-	leaq	.Lstatic.19(%rip), %rax
+	leaq	.Lstatic.18(%rip), %rax
 	movzwl	(%rax,%rdx,2), %eax
 	movw	%ax, 62(%rsp,%rbp)
 	addq	$-2, %rbp
@@ -4123,7 +4123,7 @@
 	imull	$100, %eax, %edi
 	subl	%edi, %esi
 	movzwl	%si, %esi
-	leaq	.Lstatic.19(%rip), %rdi
+	leaq	.Lstatic.18(%rip), %rdi
 	movzwl	(%rdi,%rsi,2), %esi
 	movw	%si, 14(%rsp,%r13)
 	movzwl	(%rdi,%rax,2), %eax
@@ -4159,7 +4159,7 @@
 	movl	%edx, %esi
 	subl	%ecx, %esi
 	movzwl	%si, %esi
-	leaq	.Lstatic.19(%rip), %rcx
+	leaq	.Lstatic.18(%rip), %rcx
 	movzwl	(%rcx,%rsi,2), %esi
 	movw	%si, 14(%rsp,%r13)
 	cmpq	$999, %rdx
@@ -4169,7 +4169,7 @@
 	addq	$-3, %r13
 	jmp	.LBB10_30
 .LBB10_26:
-	leaq	.Lstatic.19(%rip), %rax
+	leaq	.Lstatic.18(%rip), %rax
 	movzwl	(%rax,%rdx,2), %eax
 	movw	%ax, 14(%rsp,%r13)
 	addq	$-2, %r13
@@ -4205,7 +4205,7 @@
 	movq	(%r11), %r9
 	leaq	(%r9,%rax), %rcx
 	addq	$7, %rax
-	leaq	.Lstatic.20(%rip), %rdx
+	leaq	.Lstatic.19(%rip), %rdx
 	movq	%rcx, %rsi
 	subq	%rdx, %rsi
 	cmpq	$7, %rsi
@@ -4348,7 +4348,7 @@
 .LBB10_57:
 	leaq	(%r9,%r14), %rax
 	addq	$14, %r14
-	leaq	.Lstatic.21(%rip), %rcx
+	leaq	.Lstatic.20(%rip), %rcx
 	movq	%rax, %rdx
 	subq	%rcx, %rdx
 	cmpq	$14, %rdx
@@ -4485,7 +4485,7 @@
 .LBB10_80:
 	leaq	(%r9,%rbx), %rax
 	addq	$14, %rbx
-	leaq	.Lstatic.22(%rip), %rcx
+	leaq	.Lstatic.21(%rip), %rcx
 	movq	%rax, %rdx
 	subq	%rcx, %rdx
 	cmpq	$14, %rdx
@@ -4950,8 +4950,8 @@
 	movl	%eax, 92(%rsp)
 	cmpl	$55296, %eax
 	sete	%r15b
-	leaq	.Lstatic.24(%rip), %rax
-	leaq	.Lstatic.25(%rip), %rdx
+	leaq	.Lstatic.23(%rip), %rax
+	leaq	.Lstatic.24(%rip), %rdx
 	cmoveq	%rax, %rdx
 	movq	%rdx, 24(%rsp)
 	xorps	%xmm0, %xmm0
@@ -4975,7 +4975,7 @@
 	imull	$100, %eax, %r9d
 	subl	%r9d, %r8d
 	movzwl	%r8w, %r8d
-	leaq	.Lstatic.19(%rip), %r9
+	leaq	.Lstatic.18(%rip), %r9
 	movzwl	(%r9,%r8,2), %r8d
 	movw	%r8w, 94(%rsp,%rbp)
 	movzwl	(%r9,%rax,2), %eax
@@ -5010,7 +5010,7 @@
 	movl	%r8d, %r9d
 	subl	%edi, %r9d
 	movzwl	%r9w, %r9d
-	leaq	.Lstatic.19(%rip), %rdi
+	leaq	.Lstatic.18(%rip), %rdi
 	movzwl	(%rdi,%r9,2), %r9d
 	movw	%r9w, 94(%rsp,%rbp)
 	cmpq	$999, %r8
@@ -5020,7 +5020,7 @@
 	addq	$-3, %rbp
 	jmp	.LBB12_12
 .LBB12_10:
-	leaq	.Lstatic.19(%rip), %rdi
+	leaq	.Lstatic.18(%rip), %rdi
 	movzwl	(%rdi,%rax,2), %eax
 	movw	%ax, 94(%rsp,%rbp)
 	addq	$-2, %rbp
@@ -5085,7 +5085,7 @@
 	movq	(%r11), %r8
 	leaq	(%r8,%r14), %rcx
 	addq	$2, %r14
-	leaq	.Lstatic.16(%rip), %rsi
+	leaq	.Lstatic.15(%rip), %rsi
 	movq	%rcx, %rdi
 	subq	%rsi, %rdi
 	cmpq	$2, %rdi
@@ -5195,7 +5195,7 @@
 .LBB12_32:
 	leaq	(%r8,%r15), %rax
 	addq	$2, %r15
-	leaq	.Lstatic.17(%rip), %rcx
+	leaq	.Lstatic.16(%rip), %rcx
 	movq	%rax, %rdx
 	subq	%rcx, %rdx
 	cmpq	$2, %rdx
@@ -5921,101 +5921,101 @@ proved_main:
 	.size	proved_main, .Lfunc_end14-proved_main
 	.cfi_endproc
 
+	.type	.Lstatic.15,@object
+	.section	.rodata..Lstatic.15,"a",@progbits
+.Lstatic.15:
+	.ascii	"0x"
+	.size	.Lstatic.15, 2
+
 	.type	.Lstatic.16,@object
 	.section	.rodata..Lstatic.16,"a",@progbits
 .Lstatic.16:
-	.ascii	"0x"
+	.ascii	" ("
 	.size	.Lstatic.16, 2
 
 	.type	.Lstatic.17,@object
 	.section	.rodata..Lstatic.17,"a",@progbits
 .Lstatic.17:
-	.ascii	" ("
-	.size	.Lstatic.17, 2
+	.ascii	"): incomplete character\n"
+	.size	.Lstatic.17, 24
 
 	.type	.Lstatic.18,@object
 	.section	.rodata..Lstatic.18,"a",@progbits
 .Lstatic.18:
-	.ascii	"): incomplete character\n"
-	.size	.Lstatic.18, 24
+	.ascii	"00010203040506070809101112131415161718192021222324252627282930313233343536373839404142434445464748495051525354555657585960616263646566676869707172737475767778798081828384858687888990919293949596979899"
+	.size	.Lstatic.18, 200
 
 	.type	.Lstatic.19,@object
 	.section	.rodata..Lstatic.19,"a",@progbits
 .Lstatic.19:
-	.ascii	"00010203040506070809101112131415161718192021222324252627282930313233343536373839404142434445464748495051525354555657585960616263646566676869707172737475767778798081828384858687888990919293949596979899"
-	.size	.Lstatic.19, 200
+	.ascii	"bytes: "
+	.size	.Lstatic.19, 7
 
 	.type	.Lstatic.20,@object
 	.section	.rodata..Lstatic.20,"a",@progbits
 .Lstatic.20:
-	.ascii	"bytes: "
-	.size	.Lstatic.20, 7
+	.ascii	", characters: "
+	.size	.Lstatic.20, 14
 
 	.type	.Lstatic.21,@object
 	.section	.rodata..Lstatic.21,"a",@progbits
 .Lstatic.21:
-	.ascii	", characters: "
+	.ascii	", ill-formed: "
 	.size	.Lstatic.21, 14
 
-	.type	.Lstatic.22,@object
-	.section	.rodata..Lstatic.22,"a",@progbits
-.Lstatic.22:
-	.ascii	", ill-formed: "
-	.size	.Lstatic.22, 14
+	.type	.Lstatic.23,@object
+	.section	.rodata..Lstatic.23,"a",@progbits
+.Lstatic.23:
+	.ascii	"): unpaired leading surrogate "
+	.size	.Lstatic.23, 30
 
 	.type	.Lstatic.24,@object
 	.section	.rodata..Lstatic.24,"a",@progbits
 .Lstatic.24:
-	.ascii	"): unpaired leading surrogate "
-	.size	.Lstatic.24, 30
+	.ascii	"): unpaired trailing surrogate "
+	.size	.Lstatic.24, 31
 
 	.type	.Lstatic.25,@object
 	.section	.rodata..Lstatic.25,"a",@progbits
 .Lstatic.25:
-	.ascii	"): unpaired trailing surrogate "
-	.size	.Lstatic.25, 31
+	.ascii	"usage: "
+	.size	.Lstatic.25, 7
 
 	.type	.Lstatic.26,@object
 	.section	.rodata..Lstatic.26,"a",@progbits
 .Lstatic.26:
-	.ascii	"usage: "
-	.size	.Lstatic.26, 7
+	.ascii	": read failed\n"
+	.size	.Lstatic.26, 14
 
 	.type	.Lstatic.27,@object
 	.section	.rodata..Lstatic.27,"a",@progbits
 .Lstatic.27:
-	.ascii	": read failed\n"
-	.size	.Lstatic.27, 14
+	.ascii	": write failed\n"
+	.size	.Lstatic.27, 15
 
 	.type	.Lstatic.28,@object
-	.section	.rodata..Lstatic.28,"a",@progbits
+	.section	.rodata.cst16,"aM",@progbits,16
 .Lstatic.28:
-	.ascii	": write failed\n"
-	.size	.Lstatic.28, 15
+	.ascii	": out of memory\n"
+	.size	.Lstatic.28, 16
 
 	.type	.Lstatic.29,@object
-	.section	.rodata.cst16,"aM",@progbits,16
+	.section	.rodata..Lstatic.29,"a",@progbits
 .Lstatic.29:
-	.ascii	": out of memory\n"
-	.size	.Lstatic.29, 16
+	.ascii	": input too long\n"
+	.size	.Lstatic.29, 17
 
 	.type	.Lstatic.30,@object
 	.section	.rodata..Lstatic.30,"a",@progbits
 .Lstatic.30:
-	.ascii	": input too long\n"
-	.size	.Lstatic.30, 17
-
-	.type	.Lstatic.31,@object
-	.section	.rodata..Lstatic.31,"a",@progbits
-.Lstatic.31:
 	.ascii	" le|be|auto\n"
-	.size	.Lstatic.31, 12
+	.size	.Lstatic.30, 12
 
-	.type	.Lstatic.35,@object
-	.section	.rodata..Lstatic.35,"a",@progbits
-.Lstatic.35:
+	.type	.Lstatic.34,@object
+	.section	.rodata..Lstatic.34,"a",@progbits
+.Lstatic.34:
 	.ascii	"utf16_check"
-	.size	.Lstatic.35, 11
+	.size	.Lstatic.34, 11
 
 	.ident	"rattle logic=dac8208d650f15bf3e2dc313a14fa4c783a3acf887bdfab66e1714b038d9e11b"
 	.section	".note.GNU-stack","",@progbits

@@ -311,7 +311,7 @@
 	cmpb	$38, (%r13)
 	jne	.LBB0_45
 .LBB0_69:
-	leaq	.Lstatic.29(%rip), %r14
+	leaq	.Lstatic.28(%rip), %r14
 	movl	$16, %r15d
 .LBB0_70:
 	xorl	%ebp, %ebp
@@ -320,7 +320,7 @@
 	xorl	%r15d, %r15d
 	.p2align	4
 .LBB0_46:
-	leaq	.Lstatic.26(%rip), %rsi
+	leaq	.Lstatic.25(%rip), %rsi
 	addq	%r15, %rsi
 	movq	%r15, %r14
 	xorq	$7, %r14
@@ -337,14 +337,14 @@
 	addq	%r14, %r15
 	cmpq	$6, %r15
 	jbe	.LBB0_46
-	leaq	.Lstatic.31(%rip), %r14
+	leaq	.Lstatic.30(%rip), %r14
 	movl	$12, %r15d
 	movb	$1, %bpl
 .LBB0_71:
 	xorl	%r12d, %r12d
 	.p2align	4
 .LBB0_72:
-	leaq	.Lstatic.33(%rip), %rsi
+	leaq	.Lstatic.32(%rip), %rsi
 	addq	%r12, %rsi
 	movl	$9, %ebx
 	subq	%r12, %rbx
@@ -942,7 +942,7 @@
 	callq	rattle_dealloc@PLT
 	movb	$3, %al
 	movzbl	%al, %ebx
-	leaq	.Lstatic.28(%rip), %r14
+	leaq	.Lstatic.27(%rip), %r14
 	movl	$15, %r15d
 	xorl	%ebp, %ebp
 	leaq	.LJTI0_0(%rip), %rax
@@ -983,7 +983,7 @@
 	callq	rattle_dealloc@PLT
 	movb	$3, %al
 	movzbl	%al, %ebx
-	leaq	.Lstatic.28(%rip), %r14
+	leaq	.Lstatic.27(%rip), %r14
 	movl	$15, %r15d
 	xorl	%ebp, %ebp
 	leaq	.LJTI0_0(%rip), %rax
@@ -1000,7 +1000,7 @@
 	callq	rattle_dealloc@PLT
 	movb	$3, %al
 	movzbl	%al, %ebx
-	leaq	.Lstatic.28(%rip), %r14
+	leaq	.Lstatic.27(%rip), %r14
 	movl	$15, %r15d
 	xorl	%ebp, %ebp
 	leaq	.LJTI0_0(%rip), %rax
@@ -1016,7 +1016,7 @@
 	callq	rattle_dealloc@PLT
 	movb	$2, %al
 	movzbl	%al, %ebx
-	leaq	.Lstatic.28(%rip), %r14
+	leaq	.Lstatic.27(%rip), %r14
 	movl	$15, %r15d
 	xorl	%ebp, %ebp
 	leaq	.LJTI0_0(%rip), %rax
@@ -1052,7 +1052,7 @@
 	callq	rattle_dealloc@PLT
 	movb	$2, %al
 	movzbl	%al, %ebx
-	leaq	.Lstatic.28(%rip), %r14
+	leaq	.Lstatic.27(%rip), %r14
 	movl	$15, %r15d
 	xorl	%ebp, %ebp
 	leaq	.LJTI0_0(%rip), %rax
@@ -1068,7 +1068,7 @@
 	callq	rattle_dealloc@PLT
 	movb	$2, %al
 	movzbl	%al, %ebx
-	leaq	.Lstatic.28(%rip), %r14
+	leaq	.Lstatic.27(%rip), %r14
 	movl	$15, %r15d
 	xorl	%ebp, %ebp
 	leaq	.LJTI0_0(%rip), %rax
@@ -1198,7 +1198,7 @@
 	callq	rattle_dealloc@PLT
 	xorl	%eax, %eax
 	movzbl	%al, %ebx
-	leaq	.Lstatic.28(%rip), %r14
+	leaq	.Lstatic.27(%rip), %r14
 	movl	$15, %r15d
 	xorl	%ebp, %ebp
 	leaq	.LJTI0_0(%rip), %rax
@@ -1224,7 +1224,7 @@
 	callq	rattle_dealloc@PLT
 	movb	$3, %al
 	movzbl	%al, %ebx
-	leaq	.Lstatic.28(%rip), %r14
+	leaq	.Lstatic.27(%rip), %r14
 	movl	$15, %r15d
 	xorl	%ebp, %ebp
 	leaq	.LJTI0_0(%rip), %rax
@@ -1235,7 +1235,7 @@
 	movb	$3, %r15b
 .LBB0_194:
 	movzbl	%r15b, %ebx
-	leaq	.Lstatic.28(%rip), %r14
+	leaq	.Lstatic.27(%rip), %r14
 	movl	$15, %r15d
 	xorl	%ebp, %ebp
 	leaq	.LJTI0_0(%rip), %rax
@@ -1270,7 +1270,7 @@
 	callq	rattle_dealloc@PLT
 	xorl	%eax, %eax
 	movzbl	%al, %ebx
-	leaq	.Lstatic.28(%rip), %r14
+	leaq	.Lstatic.27(%rip), %r14
 	movl	$15, %r15d
 	xorl	%ebp, %ebp
 	leaq	.LJTI0_0(%rip), %rax
@@ -1305,7 +1305,7 @@
 	callq	rattle_dealloc@PLT
 	xorl	%eax, %eax
 	movzbl	%al, %ebx
-	leaq	.Lstatic.28(%rip), %r14
+	leaq	.Lstatic.27(%rip), %r14
 	movl	$15, %r15d
 	xorl	%ebp, %ebp
 	leaq	.LJTI0_0(%rip), %rax
@@ -1328,7 +1328,7 @@
 	callq	rattle_dealloc@PLT
 	movb	$3, %al
 	movzbl	%al, %ebx
-	leaq	.Lstatic.28(%rip), %r14
+	leaq	.Lstatic.27(%rip), %r14
 	movl	$15, %r15d
 	xorl	%ebp, %ebp
 	leaq	.LJTI0_0(%rip), %rax
@@ -1339,7 +1339,7 @@
 	movb	$3, %r12b
 .LBB0_202:
 	movzbl	%r12b, %ebx
-	leaq	.Lstatic.28(%rip), %r14
+	leaq	.Lstatic.27(%rip), %r14
 	movl	$15, %r15d
 	xorl	%ebp, %ebp
 	leaq	.LJTI0_0(%rip), %rax
@@ -1356,7 +1356,7 @@
 	callq	rattle_dealloc@PLT
 	movb	$3, %al
 	movzbl	%al, %ebx
-	leaq	.Lstatic.28(%rip), %r14
+	leaq	.Lstatic.27(%rip), %r14
 	movl	$15, %r15d
 	xorl	%ebp, %ebp
 	leaq	.LJTI0_0(%rip), %rax
@@ -1367,7 +1367,7 @@
 	movb	$3, %r12b
 .LBB0_204:
 	movzbl	%r12b, %ebx
-	leaq	.Lstatic.28(%rip), %r14
+	leaq	.Lstatic.27(%rip), %r14
 	movl	$15, %r15d
 	xorl	%ebp, %ebp
 	leaq	.LJTI0_0(%rip), %rax
@@ -1375,7 +1375,7 @@
 	addq	%rax, %rcx
 	notrack jmpq	*%rcx
 .LBB0_205:
-	leaq	.Lstatic.27(%rip), %r14
+	leaq	.Lstatic.26(%rip), %r14
 	movl	$14, %r15d
 	jmp	.LBB0_70
 .LBB0_274:
@@ -1385,7 +1385,7 @@
 	callq	rattle_dealloc@PLT
 	movb	$4, %al
 	movzbl	%al, %ebx
-	leaq	.Lstatic.28(%rip), %r14
+	leaq	.Lstatic.27(%rip), %r14
 	movl	$15, %r15d
 	xorl	%ebp, %ebp
 	leaq	.LJTI0_0(%rip), %rax
@@ -1399,7 +1399,7 @@
 	callq	rattle_dealloc@PLT
 	movb	$4, %al
 	movzbl	%al, %ebx
-	leaq	.Lstatic.28(%rip), %r14
+	leaq	.Lstatic.27(%rip), %r14
 	movl	$15, %r15d
 	xorl	%ebp, %ebp
 	leaq	.LJTI0_0(%rip), %rax
@@ -1413,7 +1413,7 @@
 	callq	rattle_dealloc@PLT
 	movb	$4, %al
 	movzbl	%al, %ebx
-	leaq	.Lstatic.28(%rip), %r14
+	leaq	.Lstatic.27(%rip), %r14
 	movl	$15, %r15d
 	xorl	%ebp, %ebp
 	leaq	.LJTI0_0(%rip), %rax
@@ -1421,7 +1421,7 @@
 	addq	%rax, %rcx
 	notrack jmpq	*%rcx
 .LBB0_273:
-	leaq	.Lstatic.30(%rip), %r14
+	leaq	.Lstatic.29(%rip), %r14
 	movl	$17, %r15d
 	jmp	.LBB0_70
 .LBB0_280:
@@ -3844,8 +3844,8 @@
 	.cfi_def_cfa_offset 48
 	pushq	%rbx
 	.cfi_def_cfa_offset 56
-	subq	$376, %rsp
-	.cfi_def_cfa_offset 432
+	subq	$392, %rsp
+	.cfi_def_cfa_offset 448
 	.cfi_offset %rbx, -56
 	.cfi_offset %r12, -48
 	.cfi_offset %r13, -40
@@ -3854,7 +3854,7 @@
 	.cfi_offset %rbp, -16
 	movq	%r9, %rbp
 	movq	%rdx, %rbx
-	movq	432(%rsp), %r9
+	movq	448(%rsp), %r9
 	subq	%rbp, %rdx
 	cmpq	$2, %rdx
 	jae	.LBB8_3
@@ -4036,6 +4036,7 @@
 	cmpq	$23, %rbx
 	jbe	.LBB8_22
 	vpxor	%xmm0, %xmm0, %xmm0
+	vmovdqu	%ymm0, 356(%rsp)
 	vmovdqu	%ymm0, 336(%rsp)
 	vmovdqu	%ymm0, 304(%rsp)
 	vmovdqu	%ymm0, 272(%rsp)
@@ -4044,8 +4045,7 @@
 	vmovdqu	%ymm0, 176(%rsp)
 	vmovdqu	%ymm0, 144(%rsp)
 	vmovdqu	%ymm0, 112(%rsp)
-	movl	$0, 368(%rsp)
-	cmpq	$63, %r8
+	cmpq	$65, %r8
 	ja	.LBB8_52
 	leaq	112(%rsp), %rdx
 	movq	%r12, %rdi
@@ -4228,8 +4228,8 @@
 	movl	%r15d, %eax
 	shrl	%eax
 	leaq	(%rax,%rax,2), %rax
-	cmpq	$132, %rax
-	movl	$132, %r8d
+	cmpq	$148, %rax
+	movl	$148, %r8d
 	cmovbq	%rax, %r8
 	subq	$-128, %r8
 	leaq	64(%rsp), %rdi
@@ -4247,7 +4247,7 @@
 	cmoveq	%rcx, %rsi
 	subq	%rsi, %r15
 	shrq	%r15
-	movl	$260, %ecx
+	movl	$276, %ecx
 	subq	%rax, %rcx
 	cmpq	%r15, %rcx
 	cmovaeq	%r15, %rcx
@@ -4492,7 +4492,7 @@
 	movb	%al, 16(%rdx)
 	movb	%cl, 17(%rdx)
 .LBB8_101:
-	addq	$376, %rsp
+	addq	$392, %rsp
 	.cfi_def_cfa_offset 56
 	popq	%rbx
 	.cfi_def_cfa_offset 48
@@ -9774,8 +9774,8 @@
 	.cfi_def_cfa_offset 48
 	pushq	%rbx
 	.cfi_def_cfa_offset 56
-	subq	$376, %rsp
-	.cfi_def_cfa_offset 432
+	subq	$392, %rsp
+	.cfi_def_cfa_offset 448
 	.cfi_offset %rbx, -56
 	.cfi_offset %r12, -48
 	.cfi_offset %r13, -40
@@ -9784,7 +9784,7 @@
 	.cfi_offset %rbp, -16
 	movq	%r9, %rbp
 	movq	%rdx, %rbx
-	movq	432(%rsp), %r9
+	movq	448(%rsp), %r9
 	subq	%rbp, %rdx
 	cmpq	$2, %rdx
 	jae	.LBB25_3
@@ -9965,6 +9965,7 @@
 	cmpq	$23, %rbx
 	jbe	.LBB25_22
 	vpxor	%xmm0, %xmm0, %xmm0
+	vmovdqu	%ymm0, 356(%rsp)
 	vmovdqu	%ymm0, 336(%rsp)
 	vmovdqu	%ymm0, 304(%rsp)
 	vmovdqu	%ymm0, 272(%rsp)
@@ -9973,8 +9974,7 @@
 	vmovdqu	%ymm0, 176(%rsp)
 	vmovdqu	%ymm0, 144(%rsp)
 	vmovdqu	%ymm0, 112(%rsp)
-	movl	$0, 368(%rsp)
-	cmpq	$63, %r8
+	cmpq	$65, %r8
 	ja	.LBB25_52
 	leaq	112(%rsp), %rdx
 	movq	%r12, %rdi
@@ -10161,8 +10161,8 @@
 	movl	%r15d, %eax
 	shrl	%eax
 	leaq	(%rax,%rax,2), %rax
-	cmpq	$132, %rax
-	movl	$132, %r8d
+	cmpq	$148, %rax
+	movl	$148, %r8d
 	cmovbq	%rax, %r8
 	subq	$-128, %r8
 	leaq	64(%rsp), %rdi
@@ -10180,7 +10180,7 @@
 	cmoveq	%rcx, %rsi
 	subq	%rsi, %r15
 	shrq	%r15
-	movl	$260, %ecx
+	movl	$276, %ecx
 	subq	%rax, %rcx
 	cmpq	%r15, %rcx
 	cmovaeq	%r15, %rcx
@@ -10423,7 +10423,7 @@
 	movb	%al, 16(%rdx)
 	movb	%cl, 17(%rdx)
 .LBB25_101:
-	addq	$376, %rsp
+	addq	$392, %rsp
 	.cfi_def_cfa_offset 56
 	popq	%rbx
 	.cfi_def_cfa_offset 48
@@ -13161,47 +13161,47 @@ proved_main:
 	.ascii	"\200\200\200\200\200\200\200\200\200\200\200\200\200\200\200\200\017\200\200\200\200\200\200\200\200\200\200\200\200\200\200\200\016\017\200\200\200\200\200\200\200\200\200\200\200\200\200\200\r\016\017\200\200\200\200\200\200\200\200\200\200\200\200\200\f\r\016\017\200\200\200\200\200\200\200\200\200\200\200\200\013\f\r\016\017\200\200\200\200\200\200\200\200\200\200\200\n\013\f\r\016\017\200\200\200\200\200\200\200\200\200\200\t\n\013\f\r\016\017\200\200\200\200\200\200\200\200\200\b\t\n\013\f\r\016\017\200\200\200\200\200\200\200\200\007\b\t\n\013\f\r\016\017\200\200\200\200\200\200\200\006\007\b\t\n\013\f\r\016\017\200\200\200\200\200\200\005\006\007\b\t\n\013\f\r\016\017\200\200\200\200\200\004\005\006\007\b\t\n\013\f\r\016\017\200\200\200\200\003\004\005\006\007\b\t\n\013\f\r\016\017\200\200\200\002\003\004\005\006\007\b\t\n\013\f\r\016\017\200\200\001\002\003\004\005\006\007\b\t\n\013\f\r\016\017\200\000\001\002\003\004\005\006\007\b\t\n\013\f\r\016\017"
 	.size	.Lstatic.10, 272
 
+	.type	.Lstatic.25,@object
+	.section	.rodata..Lstatic.25,"a",@progbits
+.Lstatic.25:
+	.ascii	"usage: "
+	.size	.Lstatic.25, 7
+
 	.type	.Lstatic.26,@object
 	.section	.rodata..Lstatic.26,"a",@progbits
 .Lstatic.26:
-	.ascii	"usage: "
-	.size	.Lstatic.26, 7
+	.ascii	": read failed\n"
+	.size	.Lstatic.26, 14
 
 	.type	.Lstatic.27,@object
 	.section	.rodata..Lstatic.27,"a",@progbits
 .Lstatic.27:
-	.ascii	": read failed\n"
-	.size	.Lstatic.27, 14
+	.ascii	": write failed\n"
+	.size	.Lstatic.27, 15
 
 	.type	.Lstatic.28,@object
-	.section	.rodata..Lstatic.28,"a",@progbits
+	.section	.rodata.cst16,"aM",@progbits,16
 .Lstatic.28:
-	.ascii	": write failed\n"
-	.size	.Lstatic.28, 15
+	.ascii	": out of memory\n"
+	.size	.Lstatic.28, 16
 
 	.type	.Lstatic.29,@object
-	.section	.rodata.cst16,"aM",@progbits,16
+	.section	.rodata..Lstatic.29,"a",@progbits
 .Lstatic.29:
-	.ascii	": out of memory\n"
-	.size	.Lstatic.29, 16
+	.ascii	": input too long\n"
+	.size	.Lstatic.29, 17
 
 	.type	.Lstatic.30,@object
 	.section	.rodata..Lstatic.30,"a",@progbits
 .Lstatic.30:
-	.ascii	": input too long\n"
-	.size	.Lstatic.30, 17
-
-	.type	.Lstatic.31,@object
-	.section	.rodata..Lstatic.31,"a",@progbits
-.Lstatic.31:
 	.ascii	" le|be|auto\n"
-	.size	.Lstatic.31, 12
+	.size	.Lstatic.30, 12
 
-	.type	.Lstatic.33,@object
-	.section	.rodata..Lstatic.33,"a",@progbits
-.Lstatic.33:
+	.type	.Lstatic.32,@object
+	.section	.rodata..Lstatic.32,"a",@progbits
+.Lstatic.32:
 	.ascii	"utf16_cat"
-	.size	.Lstatic.33, 9
+	.size	.Lstatic.32, 9
 
 	.ident	"rattle logic=dac8208d650f15bf3e2dc313a14fa4c783a3acf887bdfab66e1714b038d9e11b"
 	.section	".note.GNU-stack","",@progbits

@@ -527,7 +527,7 @@
 	cmpb	$38, (%r13)
 	jne	.LBB0_45
 .LBB0_68:
-	leaq	.Lstatic.29(%rip), %r14
+	leaq	.Lstatic.28(%rip), %r14
 	movl	$16, %r15d
 .LBB0_69:
 	xorl	%ebp, %ebp
@@ -536,7 +536,7 @@
 	xorl	%r15d, %r15d
 	.p2align	4
 .LBB0_46:
-	leaq	.Lstatic.26(%rip), %rsi
+	leaq	.Lstatic.25(%rip), %rsi
 	addq	%r15, %rsi
 	movq	%r15, %r14
 	xorq	$7, %r14
@@ -553,14 +553,14 @@
 	addq	%r14, %r15
 	cmpq	$6, %r15
 	jbe	.LBB0_46
-	leaq	.Lstatic.31(%rip), %r14
+	leaq	.Lstatic.30(%rip), %r14
 	movl	$12, %r15d
 	movb	$1, %bpl
 .LBB0_70:
 	xorl	%r12d, %r12d
 	.p2align	4
 .LBB0_71:
-	leaq	.Lstatic.35(%rip), %rsi
+	leaq	.Lstatic.34(%rip), %rsi
 	addq	%r12, %rsi
 	movl	$11, %ebx
 	subq	%r12, %rbx
@@ -2050,7 +2050,7 @@
 	jne	.LBB0_282
 .LBB0_283:
 	movzbl	%bl, %ebx
-	leaq	.Lstatic.28(%rip), %r14
+	leaq	.Lstatic.27(%rip), %r14
 	movl	$15, %r15d
 	xorl	%ebp, %ebp
 	leaq	.LJTI0_0(%rip), %rax
@@ -2068,7 +2068,7 @@
 	movq	144(%rsp), %rdi
 	callq	rattle_dealloc@PLT
 	movzbl	%bl, %ebx
-	leaq	.Lstatic.28(%rip), %r14
+	leaq	.Lstatic.27(%rip), %r14
 	movl	$15, %r15d
 	xorl	%ebp, %ebp
 	leaq	.LJTI0_0(%rip), %rax
@@ -2107,7 +2107,7 @@
 	movq	%rbx, %rdi
 	callq	rattle_dealloc@PLT
 .LBB0_286:
-	leaq	.Lstatic.27(%rip), %r14
+	leaq	.Lstatic.26(%rip), %r14
 	movl	$14, %r15d
 	jmp	.LBB0_69
 .LBB0_287:
@@ -2159,7 +2159,7 @@
 	imull	$100, %r8d, %r9d
 	subl	%r9d, %esi
 	movzwl	%si, %esi
-	leaq	.Lstatic.19(%rip), %r9
+	leaq	.Lstatic.18(%rip), %r9
 	movzwl	(%r9,%rsi,2), %esi
 	movw	%si, 190(%rsp,%r15)
 	movzwl	(%r9,%r8,2), %esi
@@ -2176,7 +2176,7 @@
 	vzeroupper
 	callq	rattle_dealloc@PLT
 .LBB0_294:
-	leaq	.Lstatic.30(%rip), %r14
+	leaq	.Lstatic.29(%rip), %r14
 	movl	$17, %r15d
 	jmp	.LBB0_69
 .LBB0_295:
@@ -2207,7 +2207,7 @@
 	movl	%ecx, %r8d
 	subl	%esi, %r8d
 	movzwl	%r8w, %r8d
-	leaq	.Lstatic.19(%rip), %rsi
+	leaq	.Lstatic.18(%rip), %rsi
 	movzwl	(%rsi,%r8,2), %r8d
 	movw	%r8w, 190(%rsp,%r15)
 	cmpq	$999, %rcx
@@ -2245,7 +2245,7 @@
 	movq	%rbx, %rdi
 	jmp	.LBB0_66
 .LBB0_311:
-	leaq	.Lstatic.19(%rip), %rdx
+	leaq	.Lstatic.18(%rip), %rdx
 	movzwl	(%rdx,%rcx,2), %ecx
 	movw	%cx, 190(%rsp,%r15)
 	addq	$-2, %r15
@@ -2275,7 +2275,7 @@
 	movq	32(%rsp), %rbp
 	leaq	(%r12,%rbp), %rax
 	addq	$2, %r12
-	leaq	.Lstatic.16(%rip), %rcx
+	leaq	.Lstatic.15(%rip), %rcx
 	movq	%rax, %rsi
 	subq	%rcx, %rsi
 	cmpq	$1, %rsi
@@ -2310,7 +2310,7 @@
 .LBB0_317:
 	leaq	(%r9,%r14), %rax
 	addq	$2, %r14
-	leaq	.Lstatic.17(%rip), %rcx
+	leaq	.Lstatic.16(%rip), %rcx
 	movq	%rax, %rdx
 	subq	%rcx, %rdx
 	cmpq	$1, %rdx
@@ -2462,7 +2462,7 @@
 	vmovdqu	%xmm0, (%rax)
 	leaq	(%r9,%r13), %rax
 	addq	$24, %r13
-	leaq	.Lstatic.18(%rip), %rcx
+	leaq	.Lstatic.17(%rip), %rcx
 	movq	%rax, %rdx
 	subq	%rcx, %rdx
 	movabsq	$752775638282236513, %rcx
@@ -2471,7 +2471,7 @@
 	vmovdqa	.LCPI0_15(%rip), %xmm0
 	jmp	.LBB0_347
 .LBB0_346:
-	vmovdqu	.Lstatic.18(%rip), %xmm0
+	vmovdqu	.Lstatic.17(%rip), %xmm0
 .LBB0_347:
 	vmovdqu	%xmm0, (%rax)
 	movq	%rcx, 16(%rax)
@@ -2495,7 +2495,7 @@
 	callq	rattle_dealloc@PLT
 	movb	$4, %al
 	movzbl	%al, %ebx
-	leaq	.Lstatic.28(%rip), %r14
+	leaq	.Lstatic.27(%rip), %r14
 	movl	$15, %r15d
 	xorl	%ebp, %ebp
 	leaq	.LJTI0_0(%rip), %rax
@@ -2544,7 +2544,7 @@
 	callq	rattle_dealloc@PLT
 	xorl	%eax, %eax
 	movzbl	%al, %ebx
-	leaq	.Lstatic.28(%rip), %r14
+	leaq	.Lstatic.27(%rip), %r14
 	movl	$15, %r15d
 	xorl	%ebp, %ebp
 	leaq	.LJTI0_0(%rip), %rax
@@ -2561,7 +2561,7 @@
 	callq	rattle_dealloc@PLT
 	movb	$3, %al
 	movzbl	%al, %ebx
-	leaq	.Lstatic.28(%rip), %r14
+	leaq	.Lstatic.27(%rip), %r14
 	movl	$15, %r15d
 	xorl	%ebp, %ebp
 	leaq	.LJTI0_0(%rip), %rax
@@ -2575,7 +2575,7 @@
 	xorl	%ebp, %ebp
 .LBB0_367:
 	movzbl	%bpl, %ebx
-	leaq	.Lstatic.28(%rip), %r14
+	leaq	.Lstatic.27(%rip), %r14
 	movl	$15, %r15d
 	xorl	%ebp, %ebp
 	leaq	.LJTI0_0(%rip), %rax
@@ -4299,7 +4299,7 @@
 	imull	$100, %r8d, %r10d
 	subl	%r10d, %r9d
 	movzwl	%r9w, %r9d
-	leaq	.Lstatic.19(%rip), %r10
+	leaq	.Lstatic.18(%rip), %r10
 	movzwl	(%r10,%r9,2), %r9d
 	movw	%r9w, 110(%rsp,%rbx)
 	movzwl	(%r10,%r8,2), %r8d
@@ -4331,7 +4331,7 @@
 	movl	%edi, %r9d
 	subl	%r8d, %r9d
 	movzwl	%r9w, %r9d
-	leaq	.Lstatic.19(%rip), %r8
+	leaq	.Lstatic.18(%rip), %r8
 	movzwl	(%r8,%r9,2), %r9d
 	movw	%r9w, 110(%rsp,%rbx)
 	cmpq	$999, %rdi
@@ -4341,7 +4341,7 @@
 	addq	$-3, %rbx
 	jmp	.LBB10_10
 .LBB10_6:
-	leaq	.Lstatic.19(%rip), %rdx
+	leaq	.Lstatic.18(%rip), %rdx
 	movzwl	(%rdx,%rdi,2), %edx
 	movw	%dx, 110(%rsp,%rbx)
 	addq	$-2, %rbx
@@ -4372,7 +4372,7 @@
 	imull	$100, %edi, %r9d
 	subl	%r9d, %r8d
 	movzwl	%r8w, %r8d
-	leaq	.Lstatic.19(%rip), %r9
+	leaq	.Lstatic.18(%rip), %r9
 	movzwl	(%r9,%r8,2), %r8d
 	movw	%r8w, 62(%rsp,%rbp)
 	movzwl	(%r9,%rdi,2), %edi
@@ -4404,7 +4404,7 @@
 	movl	%edx, %r8d
 	subl	%edi, %r8d
 	movzwl	%r8w, %r8d
-	leaq	.Lstatic.19(%rip), %rdi
+	leaq	.Lstatic.18(%rip), %rdi
 	movzwl	(%rdi,%r8,2), %r8d
 	movw	%r8w, 62(%rsp,%rbp)
 	cmpq	$999, %rdx
@@ -4414,7 +4414,7 @@
 	addq	$-3, %rbp
 	jmp	.LBB10_20
 .LBB10_16:
-	leaq	.Lstatic.19(%rip), %rsi
+	leaq	.Lstatic.18(%rip), %rsi
 	movzwl	(%rsi,%rdx,2), %edx
 	movw	%dx, 62(%rsp,%rbp)
 	addq	$-2, %rbp
@@ -4445,7 +4445,7 @@
 	imull	$100, %esi, %r8d
 	subl	%r8d, %edi
 	movzwl	%di, %edi
-	leaq	.Lstatic.19(%rip), %r8
+	leaq	.Lstatic.18(%rip), %r8
 	movzwl	(%r8,%rdi,2), %edi
 	movw	%di, 14(%rsp,%r13)
 	movzwl	(%r8,%rsi,2), %esi
@@ -4481,7 +4481,7 @@
 	movl	%edx, %esi
 	subl	%ecx, %esi
 	movzwl	%si, %esi
-	leaq	.Lstatic.19(%rip), %rcx
+	leaq	.Lstatic.18(%rip), %rcx
 	movzwl	(%rcx,%rsi,2), %esi
 	movw	%si, 14(%rsp,%r13)
 	cmpq	$999, %rdx
@@ -4491,7 +4491,7 @@
 	addq	$-3, %r13
 	jmp	.LBB10_30
 .LBB10_26:
-	leaq	.Lstatic.19(%rip), %rax
+	leaq	.Lstatic.18(%rip), %rax
 	movzwl	(%rax,%rdx,2), %eax
 	movw	%ax, 14(%rsp,%r13)
 	addq	$-2, %r13
@@ -4527,7 +4527,7 @@
 	movq	(%r11), %r9
 	leaq	(%r9,%rax), %rcx
 	addq	$7, %rax
-	leaq	.Lstatic.20(%rip), %rdx
+	leaq	.Lstatic.19(%rip), %rdx
 	movq	%rcx, %rsi
 	subq	%rdx, %rsi
 	cmpq	$7, %rsi
@@ -4677,7 +4677,7 @@
 .LBB10_57:
 	leaq	(%r9,%r14), %rax
 	addq	$14, %r14
-	leaq	.Lstatic.21(%rip), %rcx
+	leaq	.Lstatic.20(%rip), %rcx
 	movq	%rax, %rdx
 	subq	%rcx, %rdx
 	cmpq	$14, %rdx
@@ -4821,7 +4821,7 @@
 .LBB10_80:
 	leaq	(%r9,%rbx), %rax
 	addq	$14, %rbx
-	leaq	.Lstatic.22(%rip), %rcx
+	leaq	.Lstatic.21(%rip), %rcx
 	movq	%rax, %rdx
 	subq	%rcx, %rdx
 	cmpq	$14, %rdx
@@ -5295,8 +5295,8 @@
 	xorl	%r15d, %r15d
 	movl	%eax, 92(%rsp)
 	cmpl	$55296, %eax
-	leaq	.Lstatic.24(%rip), %rax
-	leaq	.Lstatic.25(%rip), %rdi
+	leaq	.Lstatic.23(%rip), %rax
+	leaq	.Lstatic.24(%rip), %rdi
 	cmoveq	%rax, %rdi
 	movq	%rdi, 16(%rsp)
 	vxorps	%xmm0, %xmm0, %xmm0
@@ -5319,7 +5319,7 @@
 	imull	$100, %edi, %r9d
 	subl	%r9d, %r8d
 	movzwl	%r8w, %r8d
-	leaq	.Lstatic.19(%rip), %r9
+	leaq	.Lstatic.18(%rip), %r9
 	movzwl	(%r9,%r8,2), %r8d
 	movw	%r8w, 94(%rsp,%rbp)
 	movzwl	(%r9,%rdi,2), %edi
@@ -5355,7 +5355,7 @@
 	movl	%eax, %r9d
 	subl	%r8d, %r9d
 	movzwl	%r9w, %r9d
-	leaq	.Lstatic.19(%rip), %r8
+	leaq	.Lstatic.18(%rip), %r8
 	movzwl	(%r8,%r9,2), %r9d
 	movw	%r9w, 94(%rsp,%rbp)
 	cmpq	$999, %rax
@@ -5365,7 +5365,7 @@
 	addq	$-3, %rbp
 	jmp	.LBB12_12
 .LBB12_10:
-	leaq	.Lstatic.19(%rip), %rdi
+	leaq	.Lstatic.18(%rip), %rdi
 	movzwl	(%rdi,%rax,2), %eax
 	movw	%ax, 94(%rsp,%rbp)
 	addq	$-2, %rbp
@@ -5430,7 +5430,7 @@
 	movq	(%r11), %r8
 	leaq	(%r8,%r14), %rcx
 	addq	$2, %r14
-	leaq	.Lstatic.16(%rip), %rsi
+	leaq	.Lstatic.15(%rip), %rsi
 	movq	%rcx, %rdi
 	subq	%rsi, %rdi
 	cmpq	$2, %rdi
@@ -5538,7 +5538,7 @@
 .LBB12_32:
 	leaq	(%r8,%r15), %rax
 	addq	$2, %r15
-	leaq	.Lstatic.17(%rip), %rcx
+	leaq	.Lstatic.16(%rip), %rcx
 	movq	%rax, %rdx
 	subq	%rcx, %rdx
 	cmpq	$2, %rdx
@@ -6310,101 +6310,101 @@ proved_main:
 	.size	proved_main, .Lfunc_end14-proved_main
 	.cfi_endproc
 
+	.type	.Lstatic.15,@object
+	.section	.rodata..Lstatic.15,"a",@progbits
+.Lstatic.15:
+	.ascii	"0x"
+	.size	.Lstatic.15, 2
+
 	.type	.Lstatic.16,@object
 	.section	.rodata..Lstatic.16,"a",@progbits
 .Lstatic.16:
-	.ascii	"0x"
+	.ascii	" ("
 	.size	.Lstatic.16, 2
 
 	.type	.Lstatic.17,@object
 	.section	.rodata..Lstatic.17,"a",@progbits
 .Lstatic.17:
-	.ascii	" ("
-	.size	.Lstatic.17, 2
+	.ascii	"): incomplete character\n"
+	.size	.Lstatic.17, 24
 
 	.type	.Lstatic.18,@object
 	.section	.rodata..Lstatic.18,"a",@progbits
 .Lstatic.18:
-	.ascii	"): incomplete character\n"
-	.size	.Lstatic.18, 24
+	.ascii	"00010203040506070809101112131415161718192021222324252627282930313233343536373839404142434445464748495051525354555657585960616263646566676869707172737475767778798081828384858687888990919293949596979899"
+	.size	.Lstatic.18, 200
 
 	.type	.Lstatic.19,@object
 	.section	.rodata..Lstatic.19,"a",@progbits
 .Lstatic.19:
-	.ascii	"00010203040506070809101112131415161718192021222324252627282930313233343536373839404142434445464748495051525354555657585960616263646566676869707172737475767778798081828384858687888990919293949596979899"
-	.size	.Lstatic.19, 200
+	.ascii	"bytes: "
+	.size	.Lstatic.19, 7
 
 	.type	.Lstatic.20,@object
 	.section	.rodata..Lstatic.20,"a",@progbits
 .Lstatic.20:
-	.ascii	"bytes: "
-	.size	.Lstatic.20, 7
+	.ascii	", characters: "
+	.size	.Lstatic.20, 14
 
 	.type	.Lstatic.21,@object
 	.section	.rodata..Lstatic.21,"a",@progbits
 .Lstatic.21:
-	.ascii	", characters: "
+	.ascii	", ill-formed: "
 	.size	.Lstatic.21, 14
 
-	.type	.Lstatic.22,@object
-	.section	.rodata..Lstatic.22,"a",@progbits
-.Lstatic.22:
-	.ascii	", ill-formed: "
-	.size	.Lstatic.22, 14
+	.type	.Lstatic.23,@object
+	.section	.rodata..Lstatic.23,"a",@progbits
+.Lstatic.23:
+	.ascii	"): unpaired leading surrogate "
+	.size	.Lstatic.23, 30
 
 	.type	.Lstatic.24,@object
 	.section	.rodata..Lstatic.24,"a",@progbits
 .Lstatic.24:
-	.ascii	"): unpaired leading surrogate "
-	.size	.Lstatic.24, 30
+	.ascii	"): unpaired trailing surrogate "
+	.size	.Lstatic.24, 31
 
 	.type	.Lstatic.25,@object
 	.section	.rodata..Lstatic.25,"a",@progbits
 .Lstatic.25:
-	.ascii	"): unpaired trailing surrogate "
-	.size	.Lstatic.25, 31
+	.ascii	"usage: "
+	.size	.Lstatic.25, 7
 
 	.type	.Lstatic.26,@object
 	.section	.rodata..Lstatic.26,"a",@progbits
 .Lstatic.26:
-	.ascii	"usage: "
-	.size	.Lstatic.26, 7
+	.ascii	": read failed\n"
+	.size	.Lstatic.26, 14
 
 	.type	.Lstatic.27,@object
 	.section	.rodata..Lstatic.27,"a",@progbits
 .Lstatic.27:
-	.ascii	": read failed\n"
-	.size	.Lstatic.27, 14
+	.ascii	": write failed\n"
+	.size	.Lstatic.27, 15
 
 	.type	.Lstatic.28,@object
-	.section	.rodata..Lstatic.28,"a",@progbits
+	.section	.rodata.cst16,"aM",@progbits,16
 .Lstatic.28:
-	.ascii	": write failed\n"
-	.size	.Lstatic.28, 15
+	.ascii	": out of memory\n"
+	.size	.Lstatic.28, 16
 
 	.type	.Lstatic.29,@object
-	.section	.rodata.cst16,"aM",@progbits,16
+	.section	.rodata..Lstatic.29,"a",@progbits
 .Lstatic.29:
-	.ascii	": out of memory\n"
-	.size	.Lstatic.29, 16
+	.ascii	": input too long\n"
+	.size	.Lstatic.29, 17
 
 	.type	.Lstatic.30,@object
 	.section	.rodata..Lstatic.30,"a",@progbits
 .Lstatic.30:
-	.ascii	": input too long\n"
-	.size	.Lstatic.30, 17
-
-	.type	.Lstatic.31,@object
-	.section	.rodata..Lstatic.31,"a",@progbits
-.Lstatic.31:
 	.ascii	" le|be|auto\n"
-	.size	.Lstatic.31, 12
+	.size	.Lstatic.30, 12
 
-	.type	.Lstatic.35,@object
-	.section	.rodata..Lstatic.35,"a",@progbits
-.Lstatic.35:
+	.type	.Lstatic.34,@object
+	.section	.rodata..Lstatic.34,"a",@progbits
+.Lstatic.34:
 	.ascii	"utf16_check"
-	.size	.Lstatic.35, 11
+	.size	.Lstatic.34, 11
 
 	.ident	"rattle logic=dac8208d650f15bf3e2dc313a14fa4c783a3acf887bdfab66e1714b038d9e11b"
 	.section	".note.GNU-stack","",@progbits

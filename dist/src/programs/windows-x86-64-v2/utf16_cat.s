@@ -290,7 +290,7 @@ L_0:
 	cmpb	$38, (%r13)
 	jne	.LBB0_46
 .LBB0_70:
-	leaq	.Lstatic.29(%rip), %r14
+	leaq	.Lstatic.28(%rip), %r14
 	movl	$16, %r15d
 .LBB0_71:
 	xorl	%ebp, %ebp
@@ -299,7 +299,7 @@ L_0:
 	xorl	%r15d, %r15d
 	.p2align	4
 .LBB0_47:
-	leaq	.Lstatic.26(%rip), %rsi
+	leaq	.Lstatic.25(%rip), %rsi
 	addq	%r15, %rsi
 	movq	%r15, %r14
 	xorq	$7, %r14
@@ -316,14 +316,14 @@ L_0:
 	addq	%r14, %r15
 	cmpq	$6, %r15
 	jbe	.LBB0_47
-	leaq	.Lstatic.31(%rip), %r14
+	leaq	.Lstatic.30(%rip), %r14
 	movl	$12, %r15d
 	movb	$1, %bpl
 .LBB0_72:
 	xorl	%r12d, %r12d
 	.p2align	4
 .LBB0_73:
-	leaq	.Lstatic.33(%rip), %rsi
+	leaq	.Lstatic.32(%rip), %rsi
 	addq	%r12, %rsi
 	movl	$9, %ebx
 	subq	%r12, %rbx
@@ -913,7 +913,7 @@ L_0:
 	callq	rattle_dealloc
 	movb	$3, %al
 	movzbl	%al, %ebx
-	leaq	.Lstatic.28(%rip), %r14
+	leaq	.Lstatic.27(%rip), %r14
 	movl	$15, %r15d
 	xorl	%ebp, %ebp
 	leaq	.LJTI0_0(%rip), %rax
@@ -953,7 +953,7 @@ L_0:
 	callq	rattle_dealloc
 	movb	$3, %al
 	movzbl	%al, %ebx
-	leaq	.Lstatic.28(%rip), %r14
+	leaq	.Lstatic.27(%rip), %r14
 	movl	$15, %r15d
 	xorl	%ebp, %ebp
 	leaq	.LJTI0_0(%rip), %rax
@@ -970,7 +970,7 @@ L_0:
 	callq	rattle_dealloc
 	movb	$3, %al
 	movzbl	%al, %ebx
-	leaq	.Lstatic.28(%rip), %r14
+	leaq	.Lstatic.27(%rip), %r14
 	movl	$15, %r15d
 	xorl	%ebp, %ebp
 	leaq	.LJTI0_0(%rip), %rax
@@ -986,7 +986,7 @@ L_0:
 	callq	rattle_dealloc
 	movb	$2, %al
 	movzbl	%al, %ebx
-	leaq	.Lstatic.28(%rip), %r14
+	leaq	.Lstatic.27(%rip), %r14
 	movl	$15, %r15d
 	xorl	%ebp, %ebp
 	leaq	.LJTI0_0(%rip), %rax
@@ -1022,7 +1022,7 @@ L_0:
 	callq	rattle_dealloc
 	movb	$2, %al
 	movzbl	%al, %ebx
-	leaq	.Lstatic.28(%rip), %r14
+	leaq	.Lstatic.27(%rip), %r14
 	movl	$15, %r15d
 	xorl	%ebp, %ebp
 	leaq	.LJTI0_0(%rip), %rax
@@ -1038,7 +1038,7 @@ L_0:
 	callq	rattle_dealloc
 	movb	$2, %al
 	movzbl	%al, %ebx
-	leaq	.Lstatic.28(%rip), %r14
+	leaq	.Lstatic.27(%rip), %r14
 	movl	$15, %r15d
 	xorl	%ebp, %ebp
 	leaq	.LJTI0_0(%rip), %rax
@@ -1168,7 +1168,7 @@ L_0:
 	callq	rattle_dealloc
 	xorl	%eax, %eax
 	movzbl	%al, %ebx
-	leaq	.Lstatic.28(%rip), %r14
+	leaq	.Lstatic.27(%rip), %r14
 	movl	$15, %r15d
 	xorl	%ebp, %ebp
 	leaq	.LJTI0_0(%rip), %rax
@@ -1194,7 +1194,7 @@ L_0:
 	callq	rattle_dealloc
 	movb	$3, %al
 	movzbl	%al, %ebx
-	leaq	.Lstatic.28(%rip), %r14
+	leaq	.Lstatic.27(%rip), %r14
 	movl	$15, %r15d
 	xorl	%ebp, %ebp
 	leaq	.LJTI0_0(%rip), %rax
@@ -1205,7 +1205,7 @@ L_0:
 	movb	$3, %r15b
 .LBB0_195:
 	movzbl	%r15b, %ebx
-	leaq	.Lstatic.28(%rip), %r14
+	leaq	.Lstatic.27(%rip), %r14
 	movl	$15, %r15d
 	xorl	%ebp, %ebp
 	leaq	.LJTI0_0(%rip), %rax
@@ -1240,7 +1240,7 @@ L_0:
 	callq	rattle_dealloc
 	xorl	%eax, %eax
 	movzbl	%al, %ebx
-	leaq	.Lstatic.28(%rip), %r14
+	leaq	.Lstatic.27(%rip), %r14
 	movl	$15, %r15d
 	xorl	%ebp, %ebp
 	leaq	.LJTI0_0(%rip), %rax
@@ -1275,7 +1275,7 @@ L_0:
 	callq	rattle_dealloc
 	xorl	%eax, %eax
 	movzbl	%al, %ebx
-	leaq	.Lstatic.28(%rip), %r14
+	leaq	.Lstatic.27(%rip), %r14
 	movl	$15, %r15d
 	xorl	%ebp, %ebp
 	leaq	.LJTI0_0(%rip), %rax
@@ -1298,7 +1298,7 @@ L_0:
 	callq	rattle_dealloc
 	movb	$3, %al
 	movzbl	%al, %ebx
-	leaq	.Lstatic.28(%rip), %r14
+	leaq	.Lstatic.27(%rip), %r14
 	movl	$15, %r15d
 	xorl	%ebp, %ebp
 	leaq	.LJTI0_0(%rip), %rax
@@ -1309,7 +1309,7 @@ L_0:
 	movb	$3, %r12b
 .LBB0_203:
 	movzbl	%r12b, %ebx
-	leaq	.Lstatic.28(%rip), %r14
+	leaq	.Lstatic.27(%rip), %r14
 	movl	$15, %r15d
 	xorl	%ebp, %ebp
 	leaq	.LJTI0_0(%rip), %rax
@@ -1326,7 +1326,7 @@ L_0:
 	callq	rattle_dealloc
 	movb	$3, %al
 	movzbl	%al, %ebx
-	leaq	.Lstatic.28(%rip), %r14
+	leaq	.Lstatic.27(%rip), %r14
 	movl	$15, %r15d
 	xorl	%ebp, %ebp
 	leaq	.LJTI0_0(%rip), %rax
@@ -1337,7 +1337,7 @@ L_0:
 	movb	$3, %r12b
 .LBB0_205:
 	movzbl	%r12b, %ebx
-	leaq	.Lstatic.28(%rip), %r14
+	leaq	.Lstatic.27(%rip), %r14
 	movl	$15, %r15d
 	xorl	%ebp, %ebp
 	leaq	.LJTI0_0(%rip), %rax
@@ -1345,7 +1345,7 @@ L_0:
 	addq	%rax, %rcx
 	jmpq	*%rcx
 .LBB0_206:
-	leaq	.Lstatic.27(%rip), %r14
+	leaq	.Lstatic.26(%rip), %r14
 	movl	$14, %r15d
 	jmp	.LBB0_71
 .LBB0_275:
@@ -1355,7 +1355,7 @@ L_0:
 	callq	rattle_dealloc
 	movb	$4, %al
 	movzbl	%al, %ebx
-	leaq	.Lstatic.28(%rip), %r14
+	leaq	.Lstatic.27(%rip), %r14
 	movl	$15, %r15d
 	xorl	%ebp, %ebp
 	leaq	.LJTI0_0(%rip), %rax
@@ -1369,7 +1369,7 @@ L_0:
 	callq	rattle_dealloc
 	movb	$4, %al
 	movzbl	%al, %ebx
-	leaq	.Lstatic.28(%rip), %r14
+	leaq	.Lstatic.27(%rip), %r14
 	movl	$15, %r15d
 	xorl	%ebp, %ebp
 	leaq	.LJTI0_0(%rip), %rax
@@ -1383,7 +1383,7 @@ L_0:
 	callq	rattle_dealloc
 	movb	$4, %al
 	movzbl	%al, %ebx
-	leaq	.Lstatic.28(%rip), %r14
+	leaq	.Lstatic.27(%rip), %r14
 	movl	$15, %r15d
 	xorl	%ebp, %ebp
 	leaq	.LJTI0_0(%rip), %rax
@@ -1391,7 +1391,7 @@ L_0:
 	addq	%rax, %rcx
 	jmpq	*%rcx
 .LBB0_274:
-	leaq	.Lstatic.30(%rip), %r14
+	leaq	.Lstatic.29(%rip), %r14
 	movl	$17, %r15d
 	jmp	.LBB0_71
 .LBB0_281:
@@ -3766,11 +3766,11 @@ L_10:
 	pushq	%r13
 	pushq	%r12
 	pushq	%rbx
-	subq	$376, %rsp
+	subq	$392, %rsp
 	movq	%r9, %rbp
 	movq	%r8, %r14
 	movq	%rdx, %rbx
-	movq	432(%rsp), %r8
+	movq	448(%rsp), %r8
 	subq	%r9, %rdx
 	cmpq	$2, %rdx
 	jae	.LBB8_3
@@ -3947,13 +3947,15 @@ L_10:
 	jbe	.LBB8_22
 	movq	%r8, (%rsp)
 	leaq	112(%rsp), %rdi
-	movl	$260, %edx
+	movl	$276, %edx
 	xorl	%esi, %esi
 	callq	sysv_memset
-	cmpq	$63, %r14
+	cmpq	$65, %r14
 	ja	.LBB8_58
+	cmpq	$64, %r14
+	movl	$64, %esi
+	cmovbq	%r14, %rsi
 	movq	%r13, %rdi
-	movq	%r14, %rsi
 	callq	L_14
 	movq	%rax, %r15
 	leaq	112(%rsp), %rdx
@@ -4161,8 +4163,8 @@ L_10:
 	movl	%r15d, %eax
 	shrl	%eax
 	leaq	(%rax,%rax,2), %rax
-	cmpq	$132, %rax
-	movl	$132, %r8d
+	cmpq	$148, %rax
+	movl	$148, %r8d
 	cmovbq	%rax, %r8
 	subq	$-128, %r8
 	leaq	64(%rsp), %rdi
@@ -4179,7 +4181,7 @@ L_10:
 	cmoveq	%rcx, %r8
 	subq	%r8, %r15
 	shrq	%r15
-	movl	$260, %ecx
+	movl	$276, %ecx
 	subq	%rax, %rcx
 	cmpq	%r15, %rcx
 	cmovaeq	%r15, %rcx
@@ -4344,7 +4346,7 @@ L_10:
 	movb	%al, 16(%rdx)
 	movb	%cl, 17(%rdx)
 .LBB8_99:
-	addq	$376, %rsp
+	addq	$392, %rsp
 	popq	%rbx
 	popq	%r12
 	popq	%r13
@@ -9358,11 +9360,11 @@ L_26:
 	pushq	%r13
 	pushq	%r12
 	pushq	%rbx
-	subq	$376, %rsp
+	subq	$392, %rsp
 	movq	%r9, %rbp
 	movq	%r8, %r13
 	movq	%rdx, %r14
-	movq	432(%rsp), %r8
+	movq	448(%rsp), %r8
 	subq	%r9, %rdx
 	cmpq	$2, %rdx
 	jae	.LBB25_3
@@ -9537,13 +9539,15 @@ L_26:
 	jbe	.LBB25_22
 	movq	%r8, (%rsp)
 	leaq	112(%rsp), %rdi
-	movl	$260, %edx
+	movl	$276, %edx
 	xorl	%esi, %esi
 	callq	sysv_memset
-	cmpq	$63, %r13
+	cmpq	$65, %r13
 	ja	.LBB25_58
+	cmpq	$64, %r13
+	movl	$64, %esi
+	cmovbq	%r13, %rsi
 	movq	%rbx, %rdi
-	movq	%r13, %rsi
 	callq	L_30
 	movq	%rax, %r15
 	leaq	112(%rsp), %rdx
@@ -9751,8 +9755,8 @@ L_26:
 	movl	%r15d, %eax
 	shrl	%eax
 	leaq	(%rax,%rax,2), %rax
-	cmpq	$132, %rax
-	movl	$132, %r8d
+	cmpq	$148, %rax
+	movl	$148, %r8d
 	cmovbq	%rax, %r8
 	subq	$-128, %r8
 	leaq	64(%rsp), %rdi
@@ -9769,7 +9773,7 @@ L_26:
 	cmoveq	%rcx, %r8
 	subq	%r8, %r15
 	shrq	%r15
-	movl	$260, %ecx
+	movl	$276, %ecx
 	subq	%rax, %rcx
 	cmpq	%r15, %rcx
 	cmovaeq	%r15, %rcx
@@ -9930,7 +9934,7 @@ L_26:
 	movb	%al, 16(%rdx)
 	movb	%cl, 17(%rdx)
 .LBB25_98:
-	addq	$376, %rsp
+	addq	$392, %rsp
 	popq	%rbx
 	popq	%r12
 	popq	%r13
@@ -12240,30 +12244,30 @@ proved_main:
 	.ascii	"\200\200\200\200\200\200\200\200\200\200\200\200\200\200\200\200\017\200\200\200\200\200\200\200\200\200\200\200\200\200\200\200\016\017\200\200\200\200\200\200\200\200\200\200\200\200\200\200\r\016\017\200\200\200\200\200\200\200\200\200\200\200\200\200\f\r\016\017\200\200\200\200\200\200\200\200\200\200\200\200\013\f\r\016\017\200\200\200\200\200\200\200\200\200\200\200\n\013\f\r\016\017\200\200\200\200\200\200\200\200\200\200\t\n\013\f\r\016\017\200\200\200\200\200\200\200\200\200\b\t\n\013\f\r\016\017\200\200\200\200\200\200\200\200\007\b\t\n\013\f\r\016\017\200\200\200\200\200\200\200\006\007\b\t\n\013\f\r\016\017\200\200\200\200\200\200\005\006\007\b\t\n\013\f\r\016\017\200\200\200\200\200\004\005\006\007\b\t\n\013\f\r\016\017\200\200\200\200\003\004\005\006\007\b\t\n\013\f\r\016\017\200\200\200\002\003\004\005\006\007\b\t\n\013\f\r\016\017\200\200\001\002\003\004\005\006\007\b\t\n\013\f\r\016\017\200\000\001\002\003\004\005\006\007\b\t\n\013\f\r\016\017"
 
 	.section	.rdata$042,"dr"
-.Lstatic.26:
+.Lstatic.25:
 	.ascii	"usage: "
 
 	.section	.rdata$043,"dr"
-.Lstatic.27:
+.Lstatic.26:
 	.ascii	": read failed\n"
 
 	.section	.rdata$044,"dr"
-.Lstatic.28:
+.Lstatic.27:
 	.ascii	": write failed\n"
 
 	.section	.rdata$004,"dr"
-.Lstatic.29:
+.Lstatic.28:
 	.ascii	": out of memory\n"
 
 	.section	.rdata$045,"dr"
-.Lstatic.30:
+.Lstatic.29:
 	.ascii	": input too long\n"
 
 	.section	.rdata$046,"dr"
-.Lstatic.31:
+.Lstatic.30:
 	.ascii	" le|be|auto\n"
 
 	.section	.rdata$047,"dr"
-.Lstatic.33:
+.Lstatic.32:
 	.ascii	"utf16_cat"
 

@@ -475,7 +475,7 @@ L_0:
 	cmpb	$38, (%r13)
 	jne	.LBB0_46
 .LBB0_69:
-	leaq	.Lstatic.29(%rip), %r14
+	leaq	.Lstatic.28(%rip), %r14
 	movl	$16, %r15d
 .LBB0_70:
 	xorl	%ebp, %ebp
@@ -484,7 +484,7 @@ L_0:
 	xorl	%r15d, %r15d
 	.p2align	4
 .LBB0_47:
-	leaq	.Lstatic.26(%rip), %rsi
+	leaq	.Lstatic.25(%rip), %rsi
 	addq	%r15, %rsi
 	movq	%r15, %r14
 	xorq	$7, %r14
@@ -501,14 +501,14 @@ L_0:
 	addq	%r14, %r15
 	cmpq	$6, %r15
 	jbe	.LBB0_47
-	leaq	.Lstatic.31(%rip), %r14
+	leaq	.Lstatic.30(%rip), %r14
 	movl	$12, %r15d
 	movb	$1, %bpl
 .LBB0_71:
 	xorl	%r12d, %r12d
 	.p2align	4
 .LBB0_72:
-	leaq	.Lstatic.35(%rip), %rsi
+	leaq	.Lstatic.34(%rip), %rsi
 	addq	%r12, %rsi
 	movl	$11, %ebx
 	subq	%r12, %rbx
@@ -1656,7 +1656,7 @@ L_0:
 	jne	.LBB0_249
 .LBB0_250:
 	movzbl	%bl, %ebx
-	leaq	.Lstatic.28(%rip), %r14
+	leaq	.Lstatic.27(%rip), %r14
 	movl	$15, %r15d
 	xorl	%ebp, %ebp
 	leaq	.LJTI0_0(%rip), %rax
@@ -1674,7 +1674,7 @@ L_0:
 	movq	136(%rsp), %rdi
 	callq	rattle_dealloc
 	movzbl	%bl, %ebx
-	leaq	.Lstatic.28(%rip), %r14
+	leaq	.Lstatic.27(%rip), %r14
 	movl	$15, %r15d
 	xorl	%ebp, %ebp
 	leaq	.LJTI0_0(%rip), %rax
@@ -1712,7 +1712,7 @@ L_0:
 	movq	%rbx, %rdi
 	callq	rattle_dealloc
 .LBB0_253:
-	leaq	.Lstatic.27(%rip), %r14
+	leaq	.Lstatic.26(%rip), %r14
 	movl	$14, %r15d
 	jmp	.LBB0_70
 .LBB0_254:
@@ -1765,7 +1765,7 @@ L_0:
 	imull	$100, %eax, %r9d
 	subl	%r9d, %esi
 	movzwl	%si, %esi
-	leaq	.Lstatic.19(%rip), %r9
+	leaq	.Lstatic.18(%rip), %r9
 	movzwl	(%r9,%rsi,2), %esi
 	movw	%si, 174(%rsp,%r14)
 	movzwl	(%r9,%rax,2), %eax
@@ -1781,7 +1781,7 @@ L_0:
 	movq	%rbx, %rdi
 	callq	rattle_dealloc
 .LBB0_261:
-	leaq	.Lstatic.30(%rip), %r14
+	leaq	.Lstatic.29(%rip), %r14
 	movl	$17, %r15d
 	jmp	.LBB0_70
 .LBB0_262:
@@ -1814,7 +1814,7 @@ L_0:
 	movl	%edx, %r8d
 	subl	%esi, %r8d
 	movzwl	%r8w, %r8d
-	leaq	.Lstatic.19(%rip), %rsi
+	leaq	.Lstatic.18(%rip), %rsi
 	movzwl	(%rsi,%r8,2), %r8d
 	movw	%r8w, 174(%rsp,%r14)
 	cmpq	$999, %rdx
@@ -1852,7 +1852,7 @@ L_0:
 	movq	%rbx, %rdi
 	jmp	.LBB0_67
 .LBB0_278:
-	leaq	.Lstatic.19(%rip), %rax
+	leaq	.Lstatic.18(%rip), %rax
 	movzwl	(%rax,%rdx,2), %eax
 	movw	%ax, 174(%rsp,%r14)
 	addq	$-2, %r14
@@ -1882,7 +1882,7 @@ L_0:
 	movq	32(%rsp), %rbp
 	leaq	(%r12,%rbp), %rax
 	addq	$2, %r12
-	leaq	.Lstatic.16(%rip), %rcx
+	leaq	.Lstatic.15(%rip), %rcx
 	movq	%rax, %rsi
 	subq	%rcx, %rsi
 	cmpq	$1, %rsi
@@ -1916,7 +1916,7 @@ L_0:
 .LBB0_284:
 	leaq	(%r9,%rbx), %rax
 	addq	$2, %rbx
-	leaq	.Lstatic.17(%rip), %rcx
+	leaq	.Lstatic.16(%rip), %rcx
 	movq	%rax, %rdx
 	subq	%rcx, %rdx
 	cmpq	$1, %rdx
@@ -2062,7 +2062,7 @@ L_0:
 	movdqu	%xmm0, (%rax)
 	leaq	(%r9,%r13), %rax
 	addq	$24, %r13
-	leaq	.Lstatic.18(%rip), %rcx
+	leaq	.Lstatic.17(%rip), %rcx
 	movq	%rax, %rdx
 	subq	%rcx, %rdx
 	movabsq	$752775638282236513, %rcx
@@ -2071,7 +2071,7 @@ L_0:
 	movdqa	.LCPI0_14(%rip), %xmm0
 	jmp	.LBB0_314
 .LBB0_313:
-	movdqu	.Lstatic.18(%rip), %xmm0
+	movdqu	.Lstatic.17(%rip), %xmm0
 .LBB0_314:
 	movdqu	%xmm0, (%rax)
 	movq	%rcx, 16(%rax)
@@ -2095,7 +2095,7 @@ L_0:
 	callq	rattle_dealloc
 	movb	$4, %al
 	movzbl	%al, %ebx
-	leaq	.Lstatic.28(%rip), %r14
+	leaq	.Lstatic.27(%rip), %r14
 	movl	$15, %r15d
 	xorl	%ebp, %ebp
 	leaq	.LJTI0_0(%rip), %rax
@@ -2144,7 +2144,7 @@ L_0:
 	callq	rattle_dealloc
 	xorl	%eax, %eax
 	movzbl	%al, %ebx
-	leaq	.Lstatic.28(%rip), %r14
+	leaq	.Lstatic.27(%rip), %r14
 	movl	$15, %r15d
 	xorl	%ebp, %ebp
 	leaq	.LJTI0_0(%rip), %rax
@@ -2161,7 +2161,7 @@ L_0:
 	callq	rattle_dealloc
 	movb	$3, %al
 	movzbl	%al, %ebx
-	leaq	.Lstatic.28(%rip), %r14
+	leaq	.Lstatic.27(%rip), %r14
 	movl	$15, %r15d
 	xorl	%ebp, %ebp
 	leaq	.LJTI0_0(%rip), %rax
@@ -2175,7 +2175,7 @@ L_0:
 	xorl	%ebp, %ebp
 .LBB0_334:
 	movzbl	%bpl, %ebx
-	leaq	.Lstatic.28(%rip), %r14
+	leaq	.Lstatic.27(%rip), %r14
 	movl	$15, %r15d
 	xorl	%ebp, %ebp
 	leaq	.LJTI0_0(%rip), %rax
@@ -3841,7 +3841,7 @@ L_12:
 	imull	$100, %eax, %r10d
 	subl	%r10d, %r9d
 	movzwl	%r9w, %r9d
-	leaq	.Lstatic.19(%rip), %r10
+	leaq	.Lstatic.18(%rip), %r10
 	movzwl	(%r10,%r9,2), %r9d
 	movw	%r9w, 110(%rsp,%rbx)
 	movzwl	(%r10,%rax,2), %eax
@@ -3873,7 +3873,7 @@ L_12:
 	movl	%edx, %r9d
 	subl	%edi, %r9d
 	movzwl	%r9w, %r9d
-	leaq	.Lstatic.19(%rip), %rdi
+	leaq	.Lstatic.18(%rip), %rdi
 	movzwl	(%rdi,%r9,2), %r9d
 	movw	%r9w, 110(%rsp,%rbx)
 	cmpq	$999, %rdx
@@ -3883,7 +3883,7 @@ L_12:
 	addq	$-3, %rbx
 	jmp	.LBB10_10
 .LBB10_6:
-	leaq	.Lstatic.19(%rip), %rax
+	leaq	.Lstatic.18(%rip), %rax
 	movzwl	(%rax,%rdx,2), %eax
 	movw	%ax, 110(%rsp,%rbx)
 	addq	$-2, %rbx
@@ -3915,7 +3915,7 @@ L_12:
 	imull	$100, %eax, %r9d
 	subl	%r9d, %edi
 	movzwl	%di, %edi
-	leaq	.Lstatic.19(%rip), %r9
+	leaq	.Lstatic.18(%rip), %r9
 	movzwl	(%r9,%rdi,2), %edi
 	movw	%di, 62(%rsp,%rbp)
 	movzwl	(%r9,%rax,2), %eax
@@ -3947,7 +3947,7 @@ L_12:
 	movl	%edx, %edi
 	subl	%esi, %edi
 	movzwl	%di, %edi
-	leaq	.Lstatic.19(%rip), %rsi
+	leaq	.Lstatic.18(%rip), %rsi
 	movzwl	(%rsi,%rdi,2), %edi
 	movw	%di, 62(%rsp,%rbp)
 	cmpq	$999, %rdx
@@ -3957,7 +3957,7 @@ L_12:
 	addq	$-3, %rbp
 	jmp	.LBB10_20
 .LBB10_16:
-	leaq	.Lstatic.19(%rip), %rax
+	leaq	.Lstatic.18(%rip), %rax
 	movzwl	(%rax,%rdx,2), %eax
 	movw	%ax, 62(%rsp,%rbp)
 	addq	$-2, %rbp
@@ -3989,7 +3989,7 @@ L_12:
 	imull	$100, %eax, %edi
 	subl	%edi, %esi
 	movzwl	%si, %esi
-	leaq	.Lstatic.19(%rip), %rdi
+	leaq	.Lstatic.18(%rip), %rdi
 	movzwl	(%rdi,%rsi,2), %esi
 	movw	%si, 14(%rsp,%r13)
 	movzwl	(%rdi,%rax,2), %eax
@@ -4025,7 +4025,7 @@ L_12:
 	movl	%edx, %esi
 	subl	%ecx, %esi
 	movzwl	%si, %esi
-	leaq	.Lstatic.19(%rip), %rcx
+	leaq	.Lstatic.18(%rip), %rcx
 	movzwl	(%rcx,%rsi,2), %esi
 	movw	%si, 14(%rsp,%r13)
 	cmpq	$999, %rdx
@@ -4035,7 +4035,7 @@ L_12:
 	addq	$-3, %r13
 	jmp	.LBB10_30
 .LBB10_26:
-	leaq	.Lstatic.19(%rip), %rax
+	leaq	.Lstatic.18(%rip), %rax
 	movzwl	(%rax,%rdx,2), %eax
 	movw	%ax, 14(%rsp,%r13)
 	addq	$-2, %r13
@@ -4071,7 +4071,7 @@ L_12:
 	movq	(%r11), %r9
 	leaq	(%r9,%rax), %rcx
 	addq	$7, %rax
-	leaq	.Lstatic.20(%rip), %rdx
+	leaq	.Lstatic.19(%rip), %rdx
 	movq	%rcx, %rsi
 	subq	%rdx, %rsi
 	cmpq	$7, %rsi
@@ -4214,7 +4214,7 @@ L_12:
 .LBB10_57:
 	leaq	(%r9,%r14), %rax
 	addq	$14, %r14
-	leaq	.Lstatic.21(%rip), %rcx
+	leaq	.Lstatic.20(%rip), %rcx
 	movq	%rax, %rdx
 	subq	%rcx, %rdx
 	cmpq	$14, %rdx
@@ -4351,7 +4351,7 @@ L_12:
 .LBB10_80:
 	leaq	(%r9,%rbx), %rax
 	addq	$14, %rbx
-	leaq	.Lstatic.22(%rip), %rcx
+	leaq	.Lstatic.21(%rip), %rcx
 	movq	%rax, %rdx
 	subq	%rcx, %rdx
 	cmpq	$14, %rdx
@@ -4787,8 +4787,8 @@ L_8:
 	movl	%eax, 92(%rsp)
 	cmpl	$55296, %eax
 	sete	%r15b
-	leaq	.Lstatic.24(%rip), %rax
-	leaq	.Lstatic.25(%rip), %rdx
+	leaq	.Lstatic.23(%rip), %rax
+	leaq	.Lstatic.24(%rip), %rdx
 	cmoveq	%rax, %rdx
 	movq	%rdx, 24(%rsp)
 	xorps	%xmm0, %xmm0
@@ -4812,7 +4812,7 @@ L_8:
 	imull	$100, %eax, %r9d
 	subl	%r9d, %r8d
 	movzwl	%r8w, %r8d
-	leaq	.Lstatic.19(%rip), %r9
+	leaq	.Lstatic.18(%rip), %r9
 	movzwl	(%r9,%r8,2), %r8d
 	movw	%r8w, 94(%rsp,%rbp)
 	movzwl	(%r9,%rax,2), %eax
@@ -4847,7 +4847,7 @@ L_8:
 	movl	%r8d, %r9d
 	subl	%edi, %r9d
 	movzwl	%r9w, %r9d
-	leaq	.Lstatic.19(%rip), %rdi
+	leaq	.Lstatic.18(%rip), %rdi
 	movzwl	(%rdi,%r9,2), %r9d
 	movw	%r9w, 94(%rsp,%rbp)
 	cmpq	$999, %r8
@@ -4857,7 +4857,7 @@ L_8:
 	addq	$-3, %rbp
 	jmp	.LBB12_12
 .LBB12_10:
-	leaq	.Lstatic.19(%rip), %rdi
+	leaq	.Lstatic.18(%rip), %rdi
 	movzwl	(%rdi,%rax,2), %eax
 	movw	%ax, 94(%rsp,%rbp)
 	addq	$-2, %rbp
@@ -4922,7 +4922,7 @@ L_8:
 	movq	(%r11), %r8
 	leaq	(%r8,%r14), %rcx
 	addq	$2, %r14
-	leaq	.Lstatic.16(%rip), %rsi
+	leaq	.Lstatic.15(%rip), %rsi
 	movq	%rcx, %rdi
 	subq	%rsi, %rdi
 	cmpq	$2, %rdi
@@ -5032,7 +5032,7 @@ L_8:
 .LBB12_32:
 	leaq	(%r8,%r15), %rax
 	addq	$2, %r15
-	leaq	.Lstatic.17(%rip), %rcx
+	leaq	.Lstatic.16(%rip), %rcx
 	movq	%rax, %rdx
 	subq	%rcx, %rdx
 	cmpq	$2, %rdx
@@ -5733,66 +5733,66 @@ proved_main:
 .Lfunc_end14:
 
 	.section	.rdata$018,"dr"
-.Lstatic.16:
+.Lstatic.15:
 	.ascii	"0x"
 
 	.section	.rdata$019,"dr"
-.Lstatic.17:
+.Lstatic.16:
 	.ascii	" ("
 
 	.section	.rdata$020,"dr"
-.Lstatic.18:
+.Lstatic.17:
 	.ascii	"): incomplete character\n"
 
 	.section	.rdata$021,"dr"
-.Lstatic.19:
+.Lstatic.18:
 	.ascii	"00010203040506070809101112131415161718192021222324252627282930313233343536373839404142434445464748495051525354555657585960616263646566676869707172737475767778798081828384858687888990919293949596979899"
 
 	.section	.rdata$022,"dr"
-.Lstatic.20:
+.Lstatic.19:
 	.ascii	"bytes: "
 
 	.section	.rdata$023,"dr"
-.Lstatic.21:
+.Lstatic.20:
 	.ascii	", characters: "
 
 	.section	.rdata$024,"dr"
-.Lstatic.22:
+.Lstatic.21:
 	.ascii	", ill-formed: "
 
 	.section	.rdata$025,"dr"
-.Lstatic.24:
+.Lstatic.23:
 	.ascii	"): unpaired leading surrogate "
 
 	.section	.rdata$026,"dr"
-.Lstatic.25:
+.Lstatic.24:
 	.ascii	"): unpaired trailing surrogate "
 
 	.section	.rdata$027,"dr"
-.Lstatic.26:
+.Lstatic.25:
 	.ascii	"usage: "
 
 	.section	.rdata$028,"dr"
-.Lstatic.27:
+.Lstatic.26:
 	.ascii	": read failed\n"
 
 	.section	.rdata$029,"dr"
-.Lstatic.28:
+.Lstatic.27:
 	.ascii	": write failed\n"
 
 	.section	.rdata$000,"dr"
-.Lstatic.29:
+.Lstatic.28:
 	.ascii	": out of memory\n"
 
 	.section	.rdata$030,"dr"
-.Lstatic.30:
+.Lstatic.29:
 	.ascii	": input too long\n"
 
 	.section	.rdata$031,"dr"
-.Lstatic.31:
+.Lstatic.30:
 	.ascii	" le|be|auto\n"
 
 	.section	.rdata$032,"dr"
-.Lstatic.35:
+.Lstatic.34:
 	.ascii	"utf16_check"
 

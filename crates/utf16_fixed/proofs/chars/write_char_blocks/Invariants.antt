@@ -8,6 +8,7 @@ abbrev pub invariant-loop-done : goal.invariant-loop-done
 invariant-loop-done g l = record {
   wrote : Wrote (TranscodesFromUtf32 g.E.Utf16Order.BIG) l.utf32 l.to l.done.read l.done.written;
   after : l.fn.from.read ≤ l.done.read;
+  plain : l.plain ≤ 4;
 }
 
 abbrev pub decreases-loop-done : goal.decreases-loop-done

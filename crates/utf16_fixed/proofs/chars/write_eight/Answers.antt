@@ -1,29 +1,16 @@
-use Rattle.std.proofs.Common.{◌≡◌, ◌+◌, arith, rules, slice_index, subst}
-use Rattle.utf16_transcode.proofs.WroteLemmas.{Wrote-then}
-use Rattle.utf16_transcode.specs.Wrote.{Wrote}
-use Rattle.utf16_units.specs.Encoding.{char_bytes}
-use Rattle.utf16_fixed.proofs.CharsLemmas.{char_at}
-use Rattle.utf16_fixed.proofs.PartLemmas.{length-rest}
-use Rattle.utf16_fixed.proofs.TextLemmas.{utf16_joins}
-use Rattle.utf16_fixed.specs.Utf32.{TranscodesFromUtf32}
+use Rattle.std.proofs.Common.{◌++◌, ◌∙◌, ap, ap₂, flat_map, sym, take}
+use Rattle.utf16_units.specs.Unit.{unit_bytes}
+use Rattle.utf16_from_utf8.specs.Lanes.{kept_pairs}
+use Rattle.utf16_from_utf8.proofs.BlockLemmas.{halves}
+use Rattle.utf16_fixed.specs.Pairs.{halved}
+use Rattle.utf16_fixed.proofs.CharsLemmas.{kept-chars}
 use Rattle.utf16_fixed.proofs.chars.write_eight.Goals as goal
 
-pub loop-i-preserved : goal.loop-i-preserved
-loop-i-preserved g c =
+pub returns-clause-bytes : goal.returns-clause-bytes
+returns-clause-bytes g c =
     let big = g.E.Utf16Order.BIG in
-    let utf32 = c.args.utf32.now in
-    let read = c.args.from.read + c.loop-i.i in
-    let put = c.put_char-written in
-    let on : read + 1 ≡ c.args.from.read + (c.loop-i.i + 1) = omega arith in
-    record {
-      wrote = subst (λ n. Wrote (TranscodesFromUtf32 big) utf32 put.new.to n put.result) on
-          (Wrote-then (utf16_joins big) _ _ _ _ _ 1 _ c.loop-i.invariant.wrote
-          (record {
-            within = omega (arith, length-rest utf32 read, c.requires.within, c.loop-i-test.true);
-            fits = search rules;
-            added = char_bytes big (slice_index utf32 read);
-            gives = char_at big utf32 read (omega (arith, c.requires.within, c.loop-i-test.true)) (c.requires.scalars c.loop-i.i c.loop-i-test.true);
-            bytes = put.ensures.bytes;
-          }));
-      space = omega (arith, c.loop-i.invariant.space, put.ensures.most);
-    }
+    let bytes = c.bytes16 in
+    let pairs =
+    ap₂ (λ x y. x ++ y) c.parts.ensures.first c.parts.ensures.second ∙ sym (halves bytes.result bytes.ensures.len) ∙ bytes.ensures.bytes ∙ ap (flat_map (unit_bytes big)) (c.halved.ensures ∙ ap halved c.lanes_of.ensures.lanes) in
+    c.write_kept.ensures.pairs
+    ∙ ap (λ t. take c.args.at c.args.to.now ++ t) (ap₂ kept_pairs c.kept_bits.ensures.bits pairs ∙ kept-chars big c.args.chars c.requires.scalars)

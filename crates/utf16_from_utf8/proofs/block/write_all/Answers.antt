@@ -6,22 +6,19 @@ use Rattle.utf16_from_utf8.proofs.LimitLemmas.{limit-some}
 use Rattle.utf16_from_utf8.proofs.block.write_all.Goals as goal
 
 pub write_sixteen-end-requires-clause-follow : goal.write_sixteen-end-requires-clause-follow
-write_sixteen-end-requires-clause-follow g c most =
-    first-lanes (FollowsTwo (limit_of g.row.MOST)) c.args.bytes.now _ _ c.args.from.read 64 (omega arith) (follows-two _ _ _ 64 (limit-some g.row.MOST) most c.requires.below c.requires.follow) c.before-2.ensures
-
-pub write_sixteen-end-requires-clause-follow_any : goal.write_sixteen-end-requires-clause-follow_any
-write_sixteen-end-requires-clause-follow_any g c = first-lanes FollowsAny c.args.bytes.now _ _ c.args.from.read 64 (omega arith) (follows-any _ _ 64 c.requires.follow) c.before-2.ensures
+write_sixteen-end-requires-clause-follow g c i few = (
+  (λ most. first-lanes (FollowsTwo (limit_of g.row.MOST)) c.args.bytes.now _ _ c.args.from.read 64 (omega arith) (follows-two _ _ _ 64 (limit-some g.row.MOST) most c.requires.below c.requires.follow) c.before-2.ensures i few),
+  first-lanes FollowsAny c.args.bytes.now _ _ c.args.from.read 64 (omega arith) (follows-any _ _ 64 c.requires.follow) c.before-2.ensures i few,
+)
 
 pub write_sixteen-end-requires-in-loop-k-clause-follow : goal.write_sixteen-end-requires-in-loop-k-clause-follow
-write_sixteen-end-requires-in-loop-k-clause-follow g c most =
+write_sixteen-end-requires-in-loop-k-clause-follow g c i few =
     let now = c.loop-k.invariant in
-    next-lanes (FollowsTwo (limit_of g.row.MOST)) c.args.bytes.now _ _ c.args.from.read 64 c.loop-k.k now.some (omega (arith, now.steps, now.most, c.loop-k-test.true))
-    (follows-two _ _ _ 64 (limit-some g.row.MOST) most c.requires.below c.requires.follow) c.before_at.ensures
-
-pub write_sixteen-end-requires-in-loop-k-clause-follow_any : goal.write_sixteen-end-requires-in-loop-k-clause-follow_any
-write_sixteen-end-requires-in-loop-k-clause-follow_any g c =
-    let now = c.loop-k.invariant in
-    next-lanes FollowsAny c.args.bytes.now _ _ c.args.from.read 64 c.loop-k.k now.some (omega (arith, now.steps, now.most, c.loop-k-test.true)) (follows-any _ _ 64 c.requires.follow) c.before_at.ensures
+    let within : c.loop-k.k + 16 ≤ 64 = omega (arith, now.steps, now.most, c.loop-k-test.true) in (
+      (λ most. next-lanes (FollowsTwo (limit_of g.row.MOST)) c.args.bytes.now _ _ c.args.from.read 64 c.loop-k.k now.some within
+          (λ j after. follows-two _ _ _ 64 (limit-some g.row.MOST) most c.requires.below c.requires.follow j) c.before_at.ensures i few),
+      next-lanes FollowsAny c.args.bytes.now _ _ c.args.from.read 64 c.loop-k.k now.some within (λ j after. follows-any _ _ 64 c.requires.follow j) c.before_at.ensures i few,
+    )
 
 pub loop-k-init : goal.loop-k-init
 loop-k-init g c = record {

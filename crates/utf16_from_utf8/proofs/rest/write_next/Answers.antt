@@ -1,24 +1,20 @@
-use Rattle.std.proofs.Common.{◌-◌, ◌++◌, ◌∙◌, ap, arith, take}
-use Rattle.std.proofs.lemmas.Simd.{get_or-chunk}
-use Rattle.utf16_from_utf8.proofs.FollowLemmas.{before-one, before-two, follows-at}
-use Rattle.utf16_from_utf8.proofs.RestLemmas.{ascii-added, text-follow, text-lanes}
+use Rattle.std.proofs.Common.{◌++◌, take, ap, ◌∙◌}
+use Rattle.utf16_from_utf8.proofs.LaneLemmas.{greatest-below}
+use Rattle.utf16_from_utf8.proofs.LimitLemmas.{below-greatest}
+use Rattle.utf16_from_utf8.proofs.RestLemmas.{left-added, more-tried}
 use Rattle.utf16_from_utf8.proofs.rest.write_next.Goals as goal
 
-pub returns-then-is_ascii-clause-bytes : goal.returns-then-is_ascii-clause-bytes
-returns-then-is_ascii-clause-bytes g c =
-    c.write_ascii_block.ensures.bytes
-    ∙ ap (λ t. take c.args.end c.args.out.now ++ t)
-    (ascii-added g.E.Utf16Order.BIG c.args.text.now c.args.at c.requires.well_formed (omega (arith, c.requires.some)) c.requires.more (c.is_ascii.ensures.0 c.if-is_ascii.true))
-
-pub write_shortest-requires-clause-follow : goal.write_shortest-requires-clause-follow
-write_shortest-requires-clause-follow g c i below =
-    let text = c.args.text.now in
+pub returns : goal.returns
+returns g c start tried =
+    let big = g.E.Utf16Order.BIG in
+    let bytes = c.args.bytes.now in
     let at = c.args.at in
-    let one = c.before_at.ensures.one in
-    follows-at _ _ _ _ _ _ _ _ (get_or-chunk (at - 3) 16 text i 0 below)
-    (c.before_at.ensures.two.lanes i below ∙ before-two text _ at i (omega (arith, c.requires.some)) below one.lanes)
-    (one.lanes i below ∙ before-one text at i (omega (arith, c.requires.some)) below)
-    (get_or-chunk at 16 text i 0 below) (text-follow text at c.requires.well_formed (omega (arith, c.requires.some)) c.requires.more i below)
-
-pub write_shortest-requires-clause-follow_any : goal.write_shortest-requires-clause-follow_any
-write_shortest-requires-clause-follow_any g c = text-lanes c.args.text.now _ _ c.args.at c.requires.well_formed c.requires.some c.requires.more c.before_at.ensures
+    let from = c.args.from in
+    let old = take c.args.tried.written c.args.out.now in
+    let read = c.read_sixteen-next.ensures in
+    more-tried big bytes c.args.out.now c.write_units.new.out c.args.tried.faults c.greater.result start at from c.args.tried.written c.write_units.result c.requires.after c.requires.before c.requires.more (
+      (λ none. let both = greatest-below 1 _ _ _ c.greater.ensures none in (both.0, read.faults.0 both.1)),
+      (λ both. below-greatest 1 _ _ _ c.greater.ensures both.0 (read.faults.1 both.1)),
+    )
+    (λ all. c.write_units.ensures.pairs ∙ ap (λ t. old ++ t) (left-added big g.row.MOST bytes _ _ _ at from c.requires.more c.requires.after c.requires.before c.requires.below all read.units))
+    c.write_units.ensures.written_to tried
