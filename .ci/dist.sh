@@ -4,9 +4,9 @@
 # compiler's, and that make and CMake build libraries and programs of this machine that pass the
 # tables of cases, with gcc and clang and without rt. With an argument, library or programs, it
 # compares only these with the crates. qemu emulates a processor with AVX2 for x86-64-v3, so this
-# needs none. The other platforms are tested by .ci/arm.sh and .ci/windows.sh. If this runs as root,
-# apt-get installs missing tools; a tool that is still missing is a failure. The last line is
-# 'N passed, M failed'.
+# needs none. The other platforms are tested by .ci/arm.sh, .ci/windows.sh and .ci/macos.sh. If this
+# runs as root, apt-get installs missing tools; a tool that is still missing is a failure. The last
+# line is 'N passed, M failed'.
 set -uo pipefail
 top=$(cd "$(dirname "$0")/.." && pwd)
 room=$(mktemp -d)
@@ -14,6 +14,7 @@ trap 'rm -rf "$room"' EXIT
 . "$top/.ci/checks.sh"
 tools=(aarch64-linux-gnu-gcc:gcc-aarch64-linux-gnu cmake:cmake clang:clang)
 tools+=(x86_64-w64-mingw32-gcc:gcc-mingw-w64-x86-64 qemu-x86_64:qemu-user gdb:gdb)
+tools+=(llvm-objdump:llvm)
 
 # Builds and tests dist/ with make, without rt.
 with_make() {

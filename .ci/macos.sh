@@ -1,0 +1,90 @@
+#!/usr/bin/env bash
+# Tests the library for macOS, which clang and LLVM's linker build from dist/: its symbols, and the
+# tables of cases, which here run over the linked code under Linux. .ci/macos.py puts this into
+# memory like the loader of macOS, and qemu emulates ARM64. Nothing of macOS itself is here. If this
+# runs as root, apt-get installs missing tools; a tool that is still missing is a failure. The last
+# line is 'N passed, M failed'.
+set -uo pipefail
+top=$(cd "$(dirname "$0")/.." && pwd)
+room=$(mktemp -d)
+trap 'rm -rf "$room"' EXIT
+. "$top/.ci/checks.sh"
+clang=$(dirname "$(readlink -f "$(command -v clang)")")
+tools=(clang:clang "$clang/ld64.lld:lld" llvm-nm:llvm cmake:cmake qemu-aarch64:qemu-user)
+linker="-fuse-ld=lld -nostdlib -mlinker-version=700 $room/system.tbd"
+
+# The functions of libSystem that a program links with.
+printf '%s\n' '--- !tapi-tbd' 'tbd-version: 4' 'targets: [ x86_64-macos, arm64-macos ]' \
+    "install-name: '/usr/lib/libSystem.B.dylib'" 'exports:' \
+    '  - targets: [ x86_64-macos, arm64-macos ]' \
+    '    symbols: [ _memcmp, _memcpy, _memmove, _memset, dyld_stub_binder ]' ... > "$room/system.tbd"
+
+# Prints the names of C that llvm-nm prints with these options.
+names() {
+    llvm-nm "$@" | sed 's/ _/ /'
+}
+
+with_make() {
+    make -s -C "$top/dist" "CC=clang --target=$1" AR=llvm-ar "LDFLAGS=$linker" "BUILD=$room/$1" &&
+        exports_header names -g --defined-only "$room/$1/libdethrux.dylib" &&
+        calls_memory_alone names -u "$room/$1/libdethrux.a"
+}
+
+# Tests that a library which contains the static one does not export its calls.
+hides_calls() {
+    clang --target=$1 -dynamiclib $linker -Wl,-all_load "$room/$1/libdethrux.a" -o "$room/all" &&
+        [ -z "$(llvm-nm -g --defined-only "$room/all")" ]
+}
+
+with_cmake() {
+    local option options=(-DCMAKE_{C,ASM}_COMPILER=clang -DCMAKE_{C,ASM}_COMPILER_TARGET=$1)
+    options+=(-DCMAKE_SYSTEM_NAME=Darwin -DCMAKE_SYSTEM_PROCESSOR=${1%%-*} -Wno-dev)
+    options+=(-DCMAKE_C_COMPILER_WORKS=1 -DCMAKE_INSTALL_NAME_TOOL=true)
+    for option in AR RANLIB; do
+        options+=("-DCMAKE_$option=$(command -v llvm-${option,,})")
+    done
+    options+=("-DCMAKE_SHARED_LINKER_FLAGS=$linker")
+    cmake -S "$top/dist" -B "$room/cmake-$1" "${options[@]}" &&
+        cmake --build "$room/cmake-$1" --target dethrux_shared dethrux_static &&
+        exports_header names -g --defined-only "$room/cmake-$1/libdethrux.dylib" &&
+        calls_memory_alone names -u "$room/cmake-$1/libdethrux.a"
+}
+
+# Runs a program of examples/c over a linked library, with a compiler for Linux.
+tables() {
+    local target=$1 program=$2 standard=$3 compiler=$4
+    shift 4
+    "$top/.ci/macos.py" "$room/$target/libdethrux.dylib" "$room/memory.s" &&
+        $compiler -O2 -std=$standard -I "$top/dist/include" "$top/examples/c/$program.c" \
+            "$room/memory.s" -o "$room/program" && "$@"
+}
+
+# Tests that the words of make on a Mac with an ARM64 processor are these, and that it refuses to
+# install.
+words_of_make() {
+    printf '#!/bin/sh\necho arm64-apple-darwin23.6.0\n' > "$room/cc" && chmod +x "$room/cc" &&
+        make -n -C "$top/dist" "CC=$room/cc" check > "$room/words" &&
+        grep -F -- '-install_name @rpath/libdethrux.' "$room/words" &&
+        grep -c 'src/macos-aarch64\.s' "$room/words" | grep -x 2 &&
+        [ "$(grep -c '^out/.*_\(static\|shared\)' "$room/words")" = 5 ] &&
+        ! make -n -C "$top/dist" "CC=$room/cc" install
+}
+
+need "${tools[@]}" "${for_arm64[@]}" || finish
+for target in arm64-apple-macosx11 x86_64-apple-macosx10.15; do
+    compiler=gcc
+    run=("$room/program")
+    if [[ $target == arm64* ]]; then
+        compiler=aarch64-linux-gnu-gcc
+        run=(qemu-aarch64 -L /usr/aarch64-linux-gnu "$room/program")
+    fi
+    check "make for $target" with_make $target || continue
+    check "a library around it for $target" hides_calls $target
+    check "CMake for $target" with_cmake $target
+    count "cases for $target" tables $target check c99 $compiler "${run[@]}" "$top"/cases/*.txt
+    count "code units for $target" tables $target units c11 $compiler "${run[@]}"
+    count "UTF-32 for $target" tables $target fixed c11 $compiler "${run[@]}"
+    count "allocations for $target" tables $target alloc c99 $compiler "${run[@]}"
+done
+check 'make on a Mac' words_of_make
+finish
