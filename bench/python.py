@@ -12,6 +12,8 @@ FAST is a number of rounds instead of 25.
 """
 
 import codecs
+import itertools
+import random
 import sys
 import timeit
 
@@ -29,6 +31,16 @@ SIZES = {"10 chars": 2000, "100 chars": 2000, "1 MiB": 2}
 ORDERS = {"little": "utf-16-le", "big": "utf-16-be"}
 HANDLERS = ("replace", "ignore", "backslashreplace", "surrogatepass")
 ROUNDS = int(sys.argv[1]) if len(sys.argv) > 1 else 25
+
+
+def with_emoji(sample):
+    """Return 2,000 characters of a sample, of which on average one in twenty is an emoji."""
+    chance = random.Random(0)
+    letters = itertools.islice(itertools.cycle(sample), 2000)
+    return "".join("😀" if chance.randrange(20) == 0 else it for it in letters)
+
+
+TEXTS |= {f"{name}, emoji": with_emoji(TEXTS[name]) for name in ("ASCII", "Latin", "CJK")}
 
 
 def text_of(sample, size):

@@ -1,7 +1,7 @@
 """Builds the package: an extension in C, into which the library's assembly is linked.
 
-For x86-64 there are two, for x86-64-v2 and x86-64-v3: `_load.py` chooses one. CC names another
-compiler.
+For Linux on x86-64 there are two, for x86-64-v2 and x86-64-v3: `_load.py` chooses one. CC names
+another compiler.
 """
 
 import os
@@ -27,16 +27,21 @@ ASSEMBLY = {
     "x86_64": ["linux-x86-64-v2.s", "linux-x86-64-v3.s"],
     "aarch64": ["linux-aarch64.s"],
 }
+# This includes the assembly of each architecture that Python's own build was for.
+MACOS = "macos.S"
 LICENCES = ["LICENSE-MIT", "LICENSE-APACHE", "THIRD-PARTY.md"]
 # What a source distribution has from around this folder.
 AROUND = [*LICENCES, "include/dethrux.h"]
 AROUND += [f"dist/src/{name}" for found in ASSEMBLY.values() for name in found]
+AROUND += [f"dist/src/{name}" for name in (MACOS, "macos-aarch64.s", "macos-x86-64-v2.s")]
 SOURCES = "src/dethrux"
 # These come after the options of Python's own build. Other packages may have the library too, so
 # the map hides all but the function that Python calls.
 COMPILE = ["-std=c11", "-O2", "-g0", "-DNDEBUG"]
 LINK = ["-Wl,-z,relro,-z,now", "-Wl,--build-id=sha1", "-Wl,--strip-all"]
 LINK += [f"-Wl,--version-script={SOURCES}/_native.map"]
+if sys.platform == "darwin":
+    LINK = ["-Wl,-exported_symbol,_PyInit__native"]
 
 
 def fail(message):
@@ -67,9 +72,11 @@ def assembly():
     target = call("-dumpmachine")
     if target is None:
         fail(f"{shlex.join(compiler())} failed: set CC to a gcc or clang of this machine")
+    if sys.platform == "darwin" and "-apple-" in target:
+        return [MACOS]
     machine = target.split("-")[0]
     if machine not in ASSEMBLY or "-linux" not in target or "x32" in target:
-        fail(f"there is no assembly for {target}: only for Linux on x86-64 and ARM64")
+        fail(f"there is no assembly for {target}: only for Linux and macOS on x86-64 and ARM64")
     return ASSEMBLY[machine]
 
 
@@ -94,6 +101,13 @@ class Build(build_ext):
         super().run()
 
     def build_extension(self, extension):
+        if self.assembly == [MACOS]:
+            # Python's own options say for which architectures.
+            self.compiler.src_extensions = [*self.compiler.src_extensions, ".S"]
+            extension.sources.append(str(DIST / MACOS))
+            extension.include_dirs.append(str(DIST))
+            super().build_extension(extension)
+            return
         at = self.extensions.index(extension)
         made = Path(self.build_temp, f"{self.assembly[at]}.o")
         made.parent.mkdir(parents=True, exist_ok=True)
@@ -134,6 +148,7 @@ setup(
     classifiers=[
         "Development Status :: 4 - Beta",
         "Intended Audience :: Developers",
+        "Operating System :: MacOS",
         "Operating System :: POSIX :: Linux",
         "Programming Language :: Python :: 3",
         "Topic :: Software Development :: Libraries",

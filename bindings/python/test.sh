@@ -64,7 +64,8 @@ page_has_program() {
 
 # Whether the types of the package agree.
 check_types() {
-    has mypy mypy && mypy --strict --cache-dir "$room/mypy" "$here/src/dethrux"
+    has mypy mypy && MYPYPATH=$here/src mypy --strict --cache-dir "$room/mypy" \
+        "$here/src/dethrux" "$here/tests/typed.py"
 }
 
 # Runs the tests of a module, and counts each by the summary of unittest.
@@ -173,7 +174,8 @@ check 'pip install' install_with_pip "$room/tree/bindings/python" || finish
 check 'what the tests build with' install_with_pip setuptools || finish
 check 'the first program' first_program
 check 'the page has the first program' page_has_program
-modules=(test_build test_calls test_codecs test_cpython test_native test_package test_wtf8)
+modules=(test_build test_calls test_codecs test_cpython test_fixed test_native test_package)
+modules+=(test_program test_wtf8)
 check 'each module of tests' runs_all
 for module in "${modules[@]}"; do
     unit_tests $module

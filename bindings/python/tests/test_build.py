@@ -19,6 +19,7 @@ FAST = f"_x86_64_v3/{EXTENSION}"
 # What a source distribution takes from around the folder of the package.
 AROUND = ["LICENSE-MIT", "LICENSE-APACHE", "THIRD-PARTY.md", "include/dethrux.h"]
 AROUND += [f"dist/src/linux-{it}.s" for it in ("x86-64-v2", "x86-64-v3", "aarch64")]
+AROUND += [f"dist/src/macos{it}" for it in (".S", "-aarch64.s", "-x86-64-v2.s")]
 # The number of each machine in the header of an ELF file.
 MACHINES = {"x86_64": 62, "aarch64": 183}
 
@@ -142,8 +143,27 @@ class Build(unittest.TestCase):
             compiler = self.room / "compiler"
             compiler.write_text(f"#!/bin/sh\necho {target}\n")
             compiler.chmod(0o755)
-            message = f"there is no assembly for {target}: only for Linux on x86-64 and ARM64"
+            message = f"there is no assembly for {target}: only for Linux and macOS on x86-64 and ARM64"
             self.assert_refused(message, CC=str(compiler))
+
+    def test_macos(self):
+        """The assembly is compiled like the code in C, and one function is visible."""
+        compiler, said = self.room / "compiler", self.room / "said"
+        compiler.write_text(
+            f'#!/bin/sh\n[ $1 = -dumpmachine ] && echo arm64-apple-darwin23 && exit\n'
+            f'echo "$*" >> {said}\n'
+            'while [ $# != 0 ]; do [ "$1" != -o ] || : > "$2"; shift; done\n'
+        )
+        compiler.chmod(0o755)
+        before = "import sysconfig\nsysconfig.get_config_vars()\nsys.platform = 'darwin'"
+        built = self.built(before=before, CC=str(compiler))
+        self.assertEqual([it for it in built if it.endswith(".so")], [EXTENSION])
+        assembled, compiled, linked = said.read_text().splitlines()
+        words = [[it for it in line.split() if it[0] == "-"] for line in (assembled, compiled)]
+        self.assertEqual(*words)
+        self.assertIn(f"-c {self.room}/top/dist/src/macos.S ", assembled)
+        self.assertTrue(linked.endswith(" -Wl,-exported_symbol,_PyInit__native"))
+        self.assertNotIn("-z,relro", linked)
 
     def test_the_package_and_its_sources(self):
         """A source distribution takes nothing from around it, and makes the same extension."""

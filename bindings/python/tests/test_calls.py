@@ -42,7 +42,17 @@ NAMES += ("to_utf8_replacements",)
 NAMES += ("decode", "decode_to_utf8", "encode_from_utf8")
 WTF8 = ("to_wtf8", "to_wtf8_partial", "from_wtf8", "from_wtf8_partial")
 NAMES += (*WTF8, "to_wtf8_len", "decode_to_wtf8", "encode_from_wtf8")
+FIXED = ("to_utf32", "to_utf32_lossy", "from_utf32", "from_utf32_lossy", "to_latin1", "from_latin1")
+NAMES += (*FIXED, "to_utf32_lossy_len", "inspect")
+INTO = [f"{name}_into" for name in (*CONVERSIONS, *WTF8, *FIXED)]
 WITH_ORDER = {name: getattr(dethrux, name) for name in NAMES}
+WITH_ORDER.update(
+    {
+        name: lambda data, order, call=getattr(dethrux, name): call(data, order, bytearray(99))
+        for name in INTO
+    }
+)
+WITH_ORDER["iter_errors"] = lambda data, order: list(dethrux.iter_errors(data, order))
 WITH_ORDER.update(
     {
         "is_char_boundary": lambda data, order: dethrux.is_char_boundary(data, order, 2),
@@ -67,6 +77,8 @@ READERS = {
     "from_utf8_replacements": lambda data, order: dethrux.from_utf8_replacements(data),
     "nul_offset": lambda data, order: dethrux.nul_offset(data),
     "from_wtf8_len": lambda data, order: dethrux.from_wtf8_len(data),
+    "validate_utf32": lambda data, order: dethrux.validate_utf32(data),
+    "from_utf32_lossy_len": lambda data, order: dethrux.from_utf32_lossy_len(data),
     "detect_bom": lambda data, order: dethrux.detect_bom(data, order),
     "utf_16_le_decode": lambda data, order: _codecs.utf_16_le_decode(data),
     "utf_16_be_decode": lambda data, order: _codecs.utf_16_be_decode(data),
@@ -81,7 +93,7 @@ PAIR = b"\x3d\xd8\x00\xde"
 # All numbers that a call takes: the name, and a function of the number.
 CAPACITIES = [
     ("capacity", lambda number, call=call: call(PAIR, "little", number))
-    for call in (getattr(dethrux, name) for name in (*CONVERSIONS, *WTF8))
+    for call in (getattr(dethrux, name) for name in (*CONVERSIONS, *WTF8, *FIXED))
 ] + [
     ("capacity", lambda number, kind=kind: kind("little").feed_partial(PAIR, number))
     for kind in DECODERS
@@ -190,7 +202,8 @@ class Functions(unittest.TestCase):
     def test_fields(self):
         self.assertEqual(typing.get_args(dethrux.ByteOrder), ORDERS)
         for kind, names in (
-            (Status, ["DONE", "ILL_FORMED", "INCOMPLETE", "NO_SPACE"]),
+            (Status, ["DONE", "ILL_FORMED", "INCOMPLETE", "NO_SPACE", "NOT_LATIN1"]),
+            (dethrux.Repertoire, ["ASCII", "LATIN1", "BMP", "UNICODE"]),
             (BomStatus, ["ABSENT", "PRESENT", "UNDECIDED"]),
         ):
             self.assertEqual([each.name for each in kind], names)
@@ -261,9 +274,11 @@ LEAN = {name: call for name, call in LEAN.items() if "encode" not in name.lower(
 LEAN.update(
     {
         name: lambda data, order, call=getattr(dethrux, name): call(data, order, 0)
-        for name in (*CONVERSIONS, *WTF8)
+        for name in (*CONVERSIONS, *WTF8, *FIXED)
     }
 )
+# A buffer of UTF-32 may also be copied because of its address.
+LEAN = {name: call for name, call in LEAN.items() if "m_utf32" not in name and "e_utf32" not in name}
 LEAN.update(
     {
         kind.__name__: lambda data, order, kind=kind: kind(order).feed_partial(data, 0)
@@ -297,13 +312,13 @@ class Reading(unittest.TestCase):
                     held.append(len(buffer))
                     return 7
 
-            for name in (*CONVERSIONS, *WTF8):
+            for name in (*CONVERSIONS, *WTF8, *FIXED):
                 held_fails = self.assertRaises(BufferError)
                 getattr(dethrux, name)(buffer, "little", Changes())
             for kind in DECODERS:
                 held_fails = self.assertRaises(BufferError)
                 kind("little").feed_partial(buffer, Changes())
-            self.assertEqual(held, [2] * (len(CONVERSIONS) + len(WTF8) + len(DECODERS)))
+            self.assertEqual(held, [2] * (len(CONVERSIONS + WTF8 + FIXED) + len(DECODERS)))
             change(buffer)
 
     def test_held_for_an_error_handler(self):

@@ -95,6 +95,7 @@ def arguments(name, raw=b"a\0b\0", text="ab", utf8=b"ab"):
     rest = {"byteorder": "little", "first_byteorder": "little", "second_byteorder": "big"}
     rest |= {"state": bytearray(4), "order": 0, "chunk": raw, "at": 1, "pattern": raw}
     rest |= {"length": 9, "count": 2, "index": 1, "second": raw, "default": "little"}
+    rest |= {"buffer": bytearray(16)}
     names = parameters(name)
     if name.startswith("feed_"):
         return bytearray(4), 0, raw, None
@@ -547,8 +548,14 @@ static dethrux_progress p(size_t len, size_t capacity) {
     return done;
 }
 dethrux_validity dethrux_validate(P) { HELD; dethrux_validity v = {len, 0, 0}; return v; }
+dethrux_validity dethrux_validate_utf32(const uint32_t *u, size_t len) {
+    HELD;
+    dethrux_validity v = {len, 0, 0};
+    return v;
+}
 #define SIZE(name) size_t dethrux_##name(P) { HELD; return len; }
 SIZE(count_chars) SIZE(to_utf8_lossy_len) SIZE(to_utf8_replacements) SIZE(to_wtf8_len)
+SIZE(to_utf32_lossy_len)
 bool dethrux_is_ascii(P) { HELD; return len; }
 size_t dethrux_from_utf8_len(const void *b, size_t len) { HELD; return len; }
 size_t dethrux_from_utf8_lossy_len(const void *b, size_t len) { HELD; return len; }
@@ -573,6 +580,8 @@ dethrux_progress dethrux_to_utf32(P, uint32_t *to, size_t capacity) { return p(l
 dethrux_progress dethrux_to_utf32_lossy(P, uint32_t *to, size_t capacity) { return p(len, 0); }
 dethrux_progress dethrux_from_utf32(dethrux_byte_order order, const uint32_t *utf32, size_t len,
                                     TO) { return p(len, capacity); }
+dethrux_progress dethrux_from_utf32_lossy(dethrux_byte_order order, const uint32_t *utf32,
+                                          size_t len, TO) { return p(len, capacity); }
 size_t dethrux_from_utf32_lossy_len(const uint32_t *u, size_t len) { HELD; return 4 * len; }
 void dethrux_swap_byte_order(void *utf16, size_t len) { HELD; }
 size_t dethrux_make_well_formed(dethrux_byte_order o, void *b, size_t len) { HELD; return len; }
@@ -597,6 +606,8 @@ held, repertoire = (ctypes.c_int.in_dll(library, it) for it in ("held", "reperto
 # Calls that read a few bytes, and those that make no call of the library that tells.
 SHORT = {"is_char_boundary", "floor_char_boundary", "floor_char_boundary_around", "shard_offset"}
 SHORT |= {"finish_decoder", "finish_encoder"}
+# From an offset that is not 0 on it keeps the GIL.
+SHORT |= {"next_error"}
 TELL = set(C) - {"detect_bom", "order_number"}
 count = 0
 
@@ -625,6 +636,7 @@ for size in (2, LONG - 2, LONG):
                 is_given_up = size >= LONG if name in IN_PLACE else is_given_up
                 check(is_given_up, name, *arguments(name, buffer, "", buffer))
         check(size >= LONG, "decode", raw, "big")
+        check(size >= LONG, "next_error", raw, "big", 0)
     for one, other in ((raw, b"a\0"), (b"a\0", raw)):
         for first, second, is_constant in (
             (one, other, True),
@@ -696,6 +708,17 @@ class Memory(unittest.TestCase):
             found.append((C[name], (None,) * len(parameters(name))))
             if name not in IN_PLACE | OF_STREAMS:
                 found.append((C[name], arguments(name, memoryview(b""), "", memoryview(b""))))
+            if name.endswith("_into"):
+                # A buffer that overlaps the input or is too small, and what is not a buffer.
+                same = bytearray(8)
+                for wrong in (same, memoryview(same)[1:], bytearray(1), b"", None):
+                    found.append((C[name], (same, "little", wrong)))
+            if name.endswith("find"):
+                for ends in ((1, -1), (None, 3), (9, 1), ("no",), (0, 1.5), (1 << 70, -(1 << 70))):
+                    found.append((C[name], (*arguments(name), *ends)))
+            if "utf32" in name and name.startswith(("from", "validate")):
+                for raw in (memoryview(b"aaa\0\0\0\xff")[1:], b"a\0\0\0\0\xd8\0\0b"):
+                    found.append((C[name], arguments(name, raw)))
             for last in (-1, 5, 1 << 70, "no"):
                 if parameters(name)[-1] in ("capacity", "at", "index", "byteorder"):
                     given = dict(zip(parameters(name), arguments(name)))
@@ -913,6 +936,8 @@ class Threads(unittest.TestCase):
 
 
 class Interpreters(unittest.TestCase):
+    TYPES = ("Validity", "Progress", "Bom", "Status", "BomStatus", "IllFormed", "Inspection")
+    TYPES += ("ProgressInto", "Repertoire")
     SCRIPT = (
         "import dethrux\n"
         "assert dethrux.decode(b'a\\0', 'little') == 'a'\n"
@@ -957,6 +982,8 @@ class Interpreters(unittest.TestCase):
         kept = [dethrux.Validity, dethrux.Progress, dethrux.Bom, statuses[0], codecs.lookup_error]
         kept += [codecs.replace_errors, codecs.ignore_errors, codecs.backslashreplace_errors]
         kept += [codecs.lookup_error("surrogatepass"), tuple(dethrux.BomStatus)[0]]
+        kept += [dethrux.IllFormed, dethrux.Inspection, dethrux.ProgressInto]
+        kept += [tuple(dethrux.Repertoire)[0]]
         words = "little", "big", "strict"
         gc.collect()
         before = [sys.getrefcount(each) for each in kept]
@@ -982,11 +1009,11 @@ class Interpreters(unittest.TestCase):
                 return "", error.end
 
         def fake(name, kept):
-            if name.endswith("Status"):
+            if name.endswith("Status") or name == "Repertoire":
                 return Members([kept])
             return kept if name.islower() else type("Type", (), {"it": kept})
 
-        names = [(_types, it) for it in ("Validity", "Progress", "Bom", "Status", "BomStatus")]
+        names = [(_types, it) for it in self.TYPES]
         names += [(codecs, "lookup_error"), (codecs, "replace_errors")]
         names += [(codecs, "ignore_errors"), (codecs, "backslashreplace_errors")]
         for place, name in names:
@@ -1001,7 +1028,7 @@ class Interpreters(unittest.TestCase):
     def test_a_module_that_cannot_be_made(self):
         """Without what it keeps, or without memory, there is no module and no crash."""
         for place, name in (
-            *((_types, name) for name in ("Validity", "Progress", "Bom", "Status", "BomStatus")),
+            *((_types, name) for name in self.TYPES),
             (codecs, "lookup_error"),
             (codecs, "backslashreplace_errors"),
         ):
@@ -1009,7 +1036,7 @@ class Interpreters(unittest.TestCase):
                 delattr(place, name)
                 with self.assertRaises(AttributeError):
                     self.other()
-        for name in ("Status", "BomStatus"):
+        for name in ("Status", "BomStatus", "Repertoire"):
             with mock.patch.object(_types, name, 5), self.assertRaises(TypeError):
                 self.other()
         for name in ("dethrux._types", "codecs"):

@@ -7,11 +7,21 @@
 #include "_native_places.h"
 #include "_native_text.h"
 
+/* The documentation of a conversion to a buffer. */
+#define INTO(name) \
+    "Convert like ``" name "``, but write to a buffer that you own, and overlaps no other.\n\n" \
+    "The bytes after those that were written have no meaning."
+
 /* Each function of the module, how many arguments it requires, its parameters, and its
  * documentation. `_native.pyi` has their types. */
 #define EACH_FUNCTION(X) \
     X(validate, 2, UTF16, "utf16, byteorder", \
       "Return the length of the longest well-formed prefix, and what follows it.") \
+    X(next_error, 3, UTF16_AT, "utf16, byteorder, at", \
+      "Return the first ill-formed sequence of the bytes from an offset on, or None.") \
+    X(inspect, 2, UTF16, "utf16, byteorder", \
+      "Return the longest well-formed prefix, its characters, and what follows it.\n\n" \
+      "That is their number, and the smallest repertoire that has them all.") \
     X(count_chars, 2, UTF16, "utf16, byteorder", \
       "Return the number of characters.\n\n" \
       "For ill-formed input: the number of complete code units that are not\n" \
@@ -66,6 +76,46 @@
       "Convert a chunk like ``from_wtf8``, but leave what more bytes could change unread.\n\n" \
       "The status is then ``Status.INCOMPLETE``, and the at most six bytes after\n" \
       "those that were read belong before the next chunk.") \
+    X(to_utf32, 2, UTF16_CAPACITY, "utf16, byteorder, capacity=None", \
+      "Convert UTF-16 to UTF-32, up to the first ill-formed sequence.\n\n" \
+      "Each character is four bytes, in the machine's byte order.") \
+    X(to_utf32_lossy, 2, UTF16_CAPACITY, "utf16, byteorder, capacity=None", \
+      "Convert UTF-16 to UTF-32, with U+FFFD for what is ill formed, as in ``to_utf8_lossy``.") \
+    X(to_utf32_lossy_len, 2, UTF16, "utf16, byteorder", \
+      "Return the length of what ``to_utf32_lossy`` returns for the whole input.") \
+    X(validate_utf32, 1, UTF32, "utf32", \
+      "Return the length of the longest prefix that is UTF-32, and what follows it.\n\n" \
+      "It is in the machine's byte order. A code unit is ill formed if it is a\n" \
+      "surrogate or above 0x10FFFF.") \
+    X(from_utf32, 2, UTF32_CAPACITY, "utf32, byteorder, capacity=None", \
+      "Convert UTF-32 in the machine's byte order to UTF-16, up to the first error.\n\n" \
+      "``byteorder`` is of the UTF-16. With ``Status.INCOMPLETE`` at most three bytes\n" \
+      "at the end are not read.") \
+    X(from_utf32_lossy, 2, UTF32_CAPACITY, "utf32, byteorder, capacity=None", \
+      "Convert UTF-32 to UTF-16, with U+FFFD for each ill-formed code unit.\n\n" \
+      "An incomplete code unit at the end is also replaced.") \
+    X(from_utf32_lossy_len, 1, UTF32, "utf32", \
+      "Return the length of what ``from_utf32_lossy`` returns for the whole input.") \
+    X(to_latin1, 2, UTF16_CAPACITY, "utf16, byteorder, capacity=None", \
+      "Convert UTF-16 to Latin-1, up to the first ill-formed sequence.\n\n" \
+      "It also stops before a character above U+00FF, with ``Status.NOT_LATIN1``.") \
+    X(from_latin1, 2, LATIN1_CAPACITY, "latin1, byteorder, capacity=None", \
+      "Convert Latin-1 to UTF-16. Latin-1 is never ill formed.") \
+    X(to_utf8_into, 3, UTF16_INTO, "utf16, byteorder, buffer", INTO("to_utf8")) \
+    X(to_utf8_lossy_into, 3, UTF16_INTO, "utf16, byteorder, buffer", INTO("to_utf8_lossy")) \
+    X(to_utf8_partial_into, 3, UTF16_INTO, "utf16, byteorder, buffer", INTO("to_utf8_partial")) \
+    X(to_wtf8_into, 3, UTF16_INTO, "utf16, byteorder, buffer", INTO("to_wtf8")) \
+    X(to_wtf8_partial_into, 3, UTF16_INTO, "utf16, byteorder, buffer", INTO("to_wtf8_partial")) \
+    X(to_utf32_into, 3, UTF16_INTO, "utf16, byteorder, buffer", INTO("to_utf32")) \
+    X(to_utf32_lossy_into, 3, UTF16_INTO, "utf16, byteorder, buffer", INTO("to_utf32_lossy")) \
+    X(to_latin1_into, 3, UTF16_INTO, "utf16, byteorder, buffer", INTO("to_latin1")) \
+    X(from_utf8_into, 3, UTF8_INTO, "utf8, byteorder, buffer", INTO("from_utf8")) \
+    X(from_utf8_lossy_into, 3, UTF8_INTO, "utf8, byteorder, buffer", INTO("from_utf8_lossy")) \
+    X(from_wtf8_into, 3, WTF8_INTO, "wtf8, byteorder, buffer", INTO("from_wtf8")) \
+    X(from_wtf8_partial_into, 3, WTF8_INTO, "wtf8, byteorder, buffer", INTO("from_wtf8_partial")) \
+    X(from_utf32_into, 3, UTF32_INTO, "utf32, byteorder, buffer", INTO("from_utf32")) \
+    X(from_utf32_lossy_into, 3, UTF32_INTO, "utf32, byteorder, buffer", INTO("from_utf32_lossy")) \
+    X(from_latin1_into, 3, LATIN1_INTO, "latin1, byteorder, buffer", INTO("from_latin1")) \
     X(is_char_boundary, 3, UTF16_AT, "utf16, byteorder, at", \
       "Return whether the text may be cut at this offset.\n\n" \
       "That is the length, or a smaller even offset that is neither inside a\n" \
@@ -91,13 +141,15 @@
       "Return -1, 0 or 1 if the first is less than, equal to or greater than the\n" \
       "second. An unpaired surrogate, and an incomplete character at the end, is\n" \
       "compared as U+FFFD.") \
-    X(find, 3, SEARCH, "utf16, pattern, byteorder", \
+    X(find, 3, SEARCH, "utf16, pattern, byteorder, start=None, end=None", \
       "Return the least offset at which a pattern occurs, or -1 if there is none.\n\n" \
       "The bytes of the pattern are there, and the offset and the end of these\n" \
       "bytes are boundaries between characters, as ``is_char_boundary`` says: unlike\n" \
       "with ``bytes.find``, an occurrence cuts neither a code unit nor a surrogate\n" \
-      "pair. Both buffers are in this byte order, and may be ill formed.") \
-    X(rfind, 3, SEARCH, "utf16, pattern, byteorder", \
+      "pair. Both buffers are in this byte order, and may be ill formed.\n\n" \
+      "``start`` and ``end`` limit the occurrence as in ``bytes.find``. The boundaries\n" \
+      "are those of the whole text.") \
+    X(rfind, 3, SEARCH, "utf16, pattern, byteorder, start=None, end=None", \
       "Return the greatest offset at which a pattern occurs as in ``find``, or -1.") \
     X(nul_offset, 1, ANY_ORDER, "utf16", \
       "Return the offset of the first NUL, or the length if there is none.\n\n" \
@@ -144,21 +196,30 @@
       "Encode to UTF-16; return the bytes and the length of the text.\n\n" \
       "-1 is little endian, 1 is big endian. 0 is the machine's byte order, after a BOM.")
 
-#define MOST_ARGUMENTS 4
-typedef const char *parameters[MOST_ARGUMENTS];
+#define MOST_ARGUMENTS 5
+/* The names of the parameters, and NULL after them. */
+typedef const char *parameters[MOST_ARGUMENTS + 1];
 static const parameters UTF16 = {"utf16", "byteorder"};
 static const parameters UTF16_AT = {"utf16", "byteorder", "at"};
 static const parameters UTF16_CAPACITY = {"utf16", "byteorder", "capacity"};
 static const parameters UTF16_ERRORS = {"utf16", "byteorder", "errors"};
+static const parameters UTF16_INTO = {"utf16", "byteorder", "buffer"};
 static const parameters UTF8 = {"utf8"};
 static const parameters UTF8_CAPACITY = {"utf8", "byteorder", "capacity"};
 static const parameters UTF8_ERRORS = {"utf8", "byteorder", "errors"};
+static const parameters UTF8_INTO = {"utf8", "byteorder", "buffer"};
 static const parameters WTF8 = {"wtf8"};
 static const parameters WTF8_CAPACITY = {"wtf8", "byteorder", "capacity"};
+static const parameters WTF8_INTO = {"wtf8", "byteorder", "buffer"};
+static const parameters UTF32 = {"utf32"};
+static const parameters UTF32_CAPACITY = {"utf32", "byteorder", "capacity"};
+static const parameters UTF32_INTO = {"utf32", "byteorder", "buffer"};
+static const parameters LATIN1_CAPACITY = {"latin1", "byteorder", "capacity"};
+static const parameters LATIN1_INTO = {"latin1", "byteorder", "buffer"};
 static const parameters AROUND = {"around", "byteorder", "at"};
 static const parameters SHARDS = {"length", "count", "index"};
 static const parameters COMPARE = {"first", "first_byteorder", "second", "second_byteorder"};
-static const parameters SEARCH = {"utf16", "pattern", "byteorder"};
+static const parameters SEARCH = {"utf16", "pattern", "byteorder", "start", "end"};
 static const parameters BOM = {"data", "default"};
 static const parameters ORDER = {"byteorder"};
 static const parameters ANY_ORDER = {"utf16"};
@@ -177,7 +238,7 @@ static bool in_order(const char *function, const char *const *names, Py_ssize_t 
                      PyObject *const *given, Py_ssize_t count, PyObject *keywords,
                      PyObject **found) {
     Py_ssize_t most = 0;
-    while (most < MOST_ARGUMENTS && names[most]) {
+    while (names[most]) {
         most++;
     }
     if (count > most) {
@@ -279,8 +340,12 @@ static bool find_types(native *it) {
     PyObject *types = PyImport_ImportModule("dethrux._types");
     bool is_found = types && take(types, "Validity", &it->validity)
         && take(types, "Progress", &it->progress) && take(types, "Bom", &it->bom)
+        && take(types, "IllFormed", &it->ill_formed)
+        && take(types, "Inspection", &it->inspection)
+        && take(types, "ProgressInto", &it->progress_into)
         && take_members(types, "Status", &it->statuses)
-        && take_members(types, "BomStatus", &it->bom_statuses);
+        && take_members(types, "BomStatus", &it->bom_statuses)
+        && take_members(types, "Repertoire", &it->repertoires);
     Py_XDECREF(types);
     return is_found;
 }
@@ -297,7 +362,8 @@ static int fill(PyObject *module) {
 
 /* The fields of `native`, which are all the objects that a module keeps. */
 #define EACH_FIELD(X) \
-    X(validity) X(progress) X(bom) X(statuses) X(bom_statuses) X(little) X(big) X(strict) \
+    X(validity) X(progress) X(bom) X(ill_formed) X(inspection) X(progress_into) X(statuses) \
+    X(bom_statuses) X(repertoires) X(little) X(big) X(strict) \
     X(lookup_error) X(replace_errors) X(ignore_errors) X(backslashreplace_errors) \
     X(surrogatepass_errors)
 

@@ -32,8 +32,12 @@ typedef struct {
     PyObject *validity; /* The named tuples `Validity`, `Progress` and `Bom`. */
     PyObject *progress;
     PyObject *bom;
-    PyObject *statuses; /* The members of `Status` and `BomStatus`, tuples. */
+    PyObject *ill_formed; /* `IllFormed`, `Inspection` and `ProgressInto`. */
+    PyObject *inspection;
+    PyObject *progress_into;
+    PyObject *statuses; /* The members of `Status`, `BomStatus` and `Repertoire`, tuples. */
     PyObject *bom_statuses;
+    PyObject *repertoires;
     PyObject *little; /* The words for the byte orders. */
     PyObject *big;
     PyObject *strict;         /* The name of the handler that raises. */
@@ -154,6 +158,13 @@ static bool hold_copy(PyObject *object, Py_buffer *held) {
     return is_held;
 }
 
+/* Sets the bytes of a view that is held. */
+static void take_view(PyObject *object, input *held) {
+    held->bytes = held->view.buf;
+    held->len = (size_t) held->view.len;
+    held->without_gil = held->len >= LONG && stays(object, held);
+}
+
 /* Holds a buffer for a call, or a copy of one in pieces. Returns whether it did. */
 static bool hold(PyObject *object, input *held) {
     if (PyBytes_CheckExact(object)) {
@@ -167,15 +178,40 @@ static bool hold(PyObject *object, input *held) {
         && !hold_copy(object, &held->view)) {
         return false;
     }
-    held->bytes = held->view.buf;
-    held->len = (size_t) held->view.len;
-    held->without_gil = held->len >= LONG && stays(object, held);
+    take_view(object, held);
     return true;
 }
 
 /* Lets a buffer go. */
 static void release(input *held) {
     PyBuffer_Release(&held->view);
+}
+
+/* Holds UTF-32, or a copy of a buffer in pieces or at an address that the library does not take.
+ * Returns whether it did. */
+static bool hold_utf32(PyObject *object, input *held) {
+    if (!hold(object, held)) {
+        return false;
+    }
+    if ((uintptr_t) held->bytes % sizeof(uint32_t) == 0) {
+        return true;
+    }
+    release(held);
+    if (!hold_copy(object, &held->view)) {
+        return false;
+    }
+    take_view(object, held);
+    return true;
+}
+
+/* Holds a buffer that a call changes. Returns whether it did. */
+static bool hold_writable(PyObject *object, Py_buffer *held) {
+    if (PyObject_GetBuffer(object, held, PyBUF_WRITABLE) == 0) {
+        return true;
+    }
+    PyErr_Format(PyExc_TypeError, "a writable buffer in one piece is required, not '%s'",
+                 Py_TYPE(object)->tp_name);
+    return false;
 }
 
 /* Gives up the GIL, if this is wanted, until `with_gil`. */
@@ -233,6 +269,14 @@ static PyObject *member(PyObject *members, uint32_t number) {
 
 /* The properties of a text. */
 
+/* Returns a `Validity`. */
+static PyObject *validity_of(const native *it, const dethrux_validity *found) {
+    PyObject *fields[] = {PyLong_FromSize_t(found->valid_up_to),
+                          member(it->statuses, found->status),
+                          PyLong_FromUnsignedLong(found->error_len)};
+    return named_tuple(it->validity, fields, 3);
+}
+
 static PyObject *validate(const native *it, arguments given) {
     int order = order_of(it, given[1]);
     input utf16;
@@ -244,9 +288,71 @@ static PyObject *validate(const native *it, arguments given) {
         dethrux_validate((dethrux_byte_order) order, utf16.bytes, utf16.len);
     with_gil(saved);
     release(&utf16);
-    PyObject *fields[] = {PyLong_FromSize_t(found.valid_up_to), member(it->statuses, found.status),
+    return validity_of(it, &found);
+}
+
+/* Returns the first ill-formed sequence from an offset on, or None. */
+static PyObject *next_error(const native *it, arguments given) {
+    int order = order_of(it, given[1]);
+    size_t at;
+    input utf16;
+    if (order < 0 || !size_of(given[2], "at", &at) || !hold(given[0], &utf16)) {
+        return NULL;
+    }
+    size_t len = utf16.len;
+    at = at < len ? at : len;
+    /* The next error may be near: to give up the GIL for each could take longer than the search. */
+    PyThreadState *saved = without_gil(at == 0 && utf16.without_gil);
+    dethrux_validity found =
+        dethrux_validate((dethrux_byte_order) order, utf16.bytes + at, len - at);
+    with_gil(saved);
+    release(&utf16);
+    if (found.status == DETHRUX_DONE) {
+        Py_RETURN_NONE;
+    }
+    at += found.valid_up_to;
+    bool is_ill_formed = found.status == DETHRUX_ILL_FORMED;
+    PyObject *fields[] = {PyLong_FromSize_t(at),
+                          PyLong_FromSize_t(is_ill_formed ? found.error_len : len - at),
+                          member(it->statuses, found.status)};
+    return named_tuple(it->ill_formed, fields, 3);
+}
+
+static PyObject *inspect(const native *it, arguments given) {
+    int order = order_of(it, given[1]);
+    input utf16;
+    if (order < 0 || !hold(given[0], &utf16)) {
+        return NULL;
+    }
+    PyThreadState *saved = without_gil(utf16.without_gil);
+    dethrux_inspection found =
+        dethrux_inspect((dethrux_byte_order) order, utf16.bytes, utf16.len);
+    with_gil(saved);
+    release(&utf16);
+    PyObject *fields[] = {PyLong_FromSize_t(found.valid_up_to), PyLong_FromSize_t(found.chars),
+                          member(it->repertoires, found.repertoire),
+                          member(it->statuses, found.status),
                           PyLong_FromUnsignedLong(found.error_len)};
-    return named_tuple(it->validity, fields, 3);
+    return named_tuple(it->inspection, fields, 5);
+}
+
+static PyObject *validate_utf32(const native *it, arguments given) {
+    input utf32;
+    if (!hold_utf32(given[0], &utf32)) {
+        return NULL;
+    }
+    size_t left = utf32.len % 4;
+    PyThreadState *saved = without_gil(utf32.without_gil);
+    dethrux_validity found =
+        dethrux_validate_utf32((const void *) utf32.bytes, utf32.len / 4);
+    with_gil(saved);
+    release(&utf32);
+    found.valid_up_to *= 4;
+    found.error_len *= 4;
+    if (found.status == DETHRUX_DONE && left != 0) {
+        found.status = DETHRUX_INCOMPLETE;
+    }
+    return validity_of(it, &found);
 }
 
 /* Returns a number that a call has for UTF-16. */
@@ -274,6 +380,15 @@ NUMBER_OF_UTF16(to_utf8_lossy_len)
 NUMBER_OF_UTF16(to_utf8_replacements)
 NUMBER_OF_UTF16(to_wtf8_len)
 
+/* A code unit of UTF-32 has four bytes. */
+static size_t bytes_of_utf32(dethrux_byte_order order, const void *utf16, size_t len) {
+    return dethrux_to_utf32_lossy_len(order, utf16, len) * 4;
+}
+
+static PyObject *to_utf32_lossy_len(const native *it, arguments given) {
+    return number_of_utf16(it, given, bytes_of_utf32);
+}
+
 static PyObject *is_ascii(const native *it, arguments given) {
     int order = order_of(it, given[1]);
     input utf16;
@@ -287,10 +402,11 @@ static PyObject *is_ascii(const native *it, arguments given) {
     return PyBool_FromLong(found);
 }
 
-/* Returns a number that a call has for bytes without a byte order. */
-static PyObject *number_of_bytes(arguments given, size_t (*number)(const void *, size_t)) {
+/* Returns a number that a call has for bytes that `take` holds, without a byte order. */
+static PyObject *number_of_bytes(arguments given, bool (*take)(PyObject *, input *),
+                                 size_t (*number)(const void *, size_t)) {
     input data;
-    if (!hold(given[0], &data)) {
+    if (!take(given[0], &data)) {
         return NULL;
     }
     PyThreadState *saved = without_gil(data.without_gil);
@@ -303,7 +419,7 @@ static PyObject *number_of_bytes(arguments given, size_t (*number)(const void *,
 #define NUMBER_OF_BYTES(name) \
     static PyObject *name(const native *it, arguments given) { \
         (void) it; \
-        return number_of_bytes(given, dethrux_##name); \
+        return number_of_bytes(given, hold, dethrux_##name); \
     }
 NUMBER_OF_BYTES(from_utf8_len)
 NUMBER_OF_BYTES(from_utf8_lossy_len)
@@ -311,7 +427,80 @@ NUMBER_OF_BYTES(from_utf8_replacements)
 NUMBER_OF_BYTES(nul_offset)
 NUMBER_OF_BYTES(from_wtf8_len)
 
+/* An incomplete code unit at the end becomes U+FFFD. */
+static size_t bytes_from_utf32(const void *utf32, size_t len) {
+    return dethrux_from_utf32_lossy_len(utf32, len / 4) + (len % 4 != 0 ? 2 : 0);
+}
+
+static PyObject *from_utf32_lossy_len(const native *it, arguments given) {
+    (void) it;
+    return number_of_bytes(given, hold_utf32, bytes_from_utf32);
+}
+
 /* Bytes to bytes. */
+
+/* What a conversion reads and writes. All but UTF-16 and UTF-32 are bytes. */
+typedef enum { TO_UTF8, TO_LATIN1, TO_UTF32, FROM_BYTES, FROM_UTF32 } direction;
+
+/* Returns the length of the longest output for an input of this length. */
+static size_t most(direction way, size_t len) {
+    switch (way) {
+    case TO_LATIN1:
+        return len / 2;
+    case TO_UTF32:
+        return DETHRUX_UTF32_MAX(len) * 4;
+    case FROM_BYTES:
+        return DETHRUX_UTF16_MAX(len);
+    case FROM_UTF32:
+        return DETHRUX_FROM_UTF32_MAX((len + 3) / 4);
+    default:
+        return DETHRUX_UTF8_MAX(len);
+    }
+}
+
+/* The conversions of UTF-32, with all lengths in bytes. */
+
+static dethrux_progress to_bytes_of_utf32(
+    dethrux_byte_order order, const void *utf16, size_t len, void *to, size_t capacity) {
+    dethrux_progress done = dethrux_to_utf32(order, utf16, len, to, capacity / 4);
+    done.written *= 4;
+    return done;
+}
+
+static dethrux_progress to_bytes_of_utf32_lossy(
+    dethrux_byte_order order, const void *utf16, size_t len, void *to, size_t capacity) {
+    dethrux_progress done = dethrux_to_utf32_lossy(order, utf16, len, to, capacity / 4);
+    done.written *= 4;
+    return done;
+}
+
+/* With DETHRUX_INCOMPLETE the input ends inside a code unit. */
+static dethrux_progress from_bytes_of_utf32(
+    dethrux_byte_order order, const void *utf32, size_t len, void *to, size_t capacity) {
+    dethrux_progress done = dethrux_from_utf32(order, utf32, len / 4, to, capacity);
+    done.read *= 4;
+    done.error_len *= 4;
+    if (done.status == DETHRUX_DONE && len % 4 != 0) {
+        done.status = DETHRUX_INCOMPLETE;
+    }
+    return done;
+}
+
+/* An incomplete code unit at the end becomes U+FFFD. */
+static dethrux_progress from_bytes_of_utf32_lossy(
+    dethrux_byte_order order, const void *utf32, size_t len, void *to, size_t capacity) {
+    dethrux_progress done = dethrux_from_utf32_lossy(order, utf32, len / 4, to, capacity);
+    done.read *= 4;
+    if (done.status == DETHRUX_DONE && len % 4 != 0) {
+        const uint32_t replacement = 0xFFFD;
+        dethrux_progress last = dethrux_from_utf32_lossy(
+            order, &replacement, 1, (uint8_t *) to + done.written, capacity - done.written);
+        done.read = last.status == DETHRUX_DONE ? len : done.read;
+        done.written += last.written;
+        done.status = last.status;
+    }
+    return done;
+}
 
 /* Returns a bytes object of a capacity, to be cut to what is written.
  *
@@ -330,7 +519,7 @@ static PyObject *new_bytes(size_t capacity) {
 static PyObject *converted(conversion *convert, dethrux_byte_order order, const input *from,
                            size_t capacity, dethrux_progress *done) {
     if (capacity <= SMALL) {
-        uint8_t small[SMALL];
+        _Alignas(uint32_t) uint8_t small[SMALL];
         *done = convert(order, from->bytes, from->len, small, capacity);
         return PyBytes_FromStringAndSize((const char *) small, (Py_ssize_t) done->written);
     }
@@ -372,14 +561,19 @@ static PyObject *progress_of(const native *it, PyObject *output, const dethrux_p
     return named_tuple(it->progress, fields, 4);
 }
 
+/* Holds the input of a conversion. Returns whether it did. */
+static bool hold_source(PyObject *object, direction way, input *held) {
+    return way == FROM_UTF32 ? hold_utf32(object, held) : hold(object, held);
+}
+
 /* Returns the progress of a conversion. */
-static PyObject *progress(const native *it, arguments given, conversion *convert, bool is_utf8) {
+static PyObject *progress(const native *it, arguments given, conversion *convert, direction way) {
     int order = order_of(it, given[1]);
     input from;
-    if (order < 0 || !hold(given[0], &from)) {
+    if (order < 0 || !hold_source(given[0], way, &from)) {
         return NULL;
     }
-    size_t capacity = is_utf8 ? DETHRUX_UTF16_MAX(from.len) : DETHRUX_UTF8_MAX(from.len);
+    size_t capacity = most(way, from.len);
     PyObject *found = NULL;
     if (limit(given[2], &capacity)) {
         dethrux_progress done;
@@ -390,20 +584,75 @@ static PyObject *progress(const native *it, arguments given, conversion *convert
     return found;
 }
 
-/* Defines a function that returns the progress of the conversion of its name. */
-#define PROGRESS(name, is_utf8) \
-    static PyObject *name(const native *it, arguments given) { \
-        return progress(it, given, dethrux_##name, is_utf8); \
+/* Returns whether a conversion can write to a buffer, or raises an exception. The library takes
+ * neither buffers that overlap nor UTF-32 at an address that is not a multiple of four. */
+static bool fits(const input *from, direction way, const Py_buffer *to) {
+    uintptr_t source = (uintptr_t) from->bytes, target = (uintptr_t) to->buf;
+    if (source < target + (size_t) to->len && target < source + from->len) {
+        PyErr_SetString(PyExc_ValueError, "the buffers must not overlap");
+        return false;
     }
-PROGRESS(to_utf8, false)
-PROGRESS(to_utf8_lossy, false)
-PROGRESS(to_utf8_partial, false)
-PROGRESS(from_utf8, true)
-PROGRESS(from_utf8_lossy, true)
-PROGRESS(to_wtf8, false)
-PROGRESS(to_wtf8_partial, false)
-PROGRESS(from_wtf8, true)
-PROGRESS(from_wtf8_partial, true)
+    if (way == TO_UTF32 && target % sizeof(uint32_t) != 0) {
+        PyErr_SetString(PyExc_ValueError, "a buffer for UTF-32 must be aligned to four bytes");
+        return false;
+    }
+    return true;
+}
+
+/* Converts to a buffer that is held. Returns a `ProgressInto`. */
+static PyObject *converted_into(const native *it, conversion *convert, dethrux_byte_order order,
+                                const input *from, const Py_buffer *to) {
+    PyThreadState *saved = without_gil(from->without_gil);
+    dethrux_progress done = convert(order, from->bytes, from->len, to->buf, (size_t) to->len);
+    with_gil(saved);
+    PyObject *fields[] = {PyLong_FromSize_t(done.read), PyLong_FromSize_t(done.written),
+                          member(it->statuses, done.status),
+                          PyLong_FromUnsignedLong(done.error_len)};
+    return named_tuple(it->progress_into, fields, 4);
+}
+
+/* Returns the progress of a conversion to a buffer of the caller. */
+static PyObject *into(const native *it, arguments given, conversion *convert, direction way) {
+    int order = order_of(it, given[1]);
+    input from;
+    if (order < 0 || !hold_source(given[0], way, &from)) {
+        return NULL;
+    }
+    PyObject *found = NULL;
+    Py_buffer to;
+    if (hold_writable(given[2], &to)) {
+        if (fits(&from, way, &to)) {
+            found = converted_into(it, convert, (dethrux_byte_order) order, &from, &to);
+        }
+        PyBuffer_Release(&to);
+    }
+    release(&from);
+    return found;
+}
+
+/* Defines a function that returns the progress of a conversion, and one that writes to a buffer. */
+#define PROGRESS(name, convert, way) \
+    static PyObject *name(const native *it, arguments given) { \
+        return progress(it, given, convert, way); \
+    } \
+    static PyObject *name##_into(const native *it, arguments given) { \
+        return into(it, given, convert, way); \
+    }
+PROGRESS(to_utf8, dethrux_to_utf8, TO_UTF8)
+PROGRESS(to_utf8_lossy, dethrux_to_utf8_lossy, TO_UTF8)
+PROGRESS(to_utf8_partial, dethrux_to_utf8_partial, TO_UTF8)
+PROGRESS(from_utf8, dethrux_from_utf8, FROM_BYTES)
+PROGRESS(from_utf8_lossy, dethrux_from_utf8_lossy, FROM_BYTES)
+PROGRESS(to_wtf8, dethrux_to_wtf8, TO_UTF8)
+PROGRESS(to_wtf8_partial, dethrux_to_wtf8_partial, TO_UTF8)
+PROGRESS(from_wtf8, dethrux_from_wtf8, FROM_BYTES)
+PROGRESS(from_wtf8_partial, dethrux_from_wtf8_partial, FROM_BYTES)
+PROGRESS(to_utf32, to_bytes_of_utf32, TO_UTF32)
+PROGRESS(to_utf32_lossy, to_bytes_of_utf32_lossy, TO_UTF32)
+PROGRESS(from_utf32, from_bytes_of_utf32, FROM_UTF32)
+PROGRESS(from_utf32_lossy, from_bytes_of_utf32_lossy, FROM_UTF32)
+PROGRESS(to_latin1, dethrux_to_latin1, TO_LATIN1)
+PROGRESS(from_latin1, dethrux_from_latin1, FROM_BYTES)
 
 /* Streams. */
 

@@ -104,18 +104,59 @@ static PyObject *compare(const native *it, arguments given) {
     return PyLong_FromLong(found);
 }
 
+/* A search in a text, from its first byte on. */
+typedef size_t searching(
+    dethrux_byte_order order, const void *utf16, size_t len, const void *pattern, size_t most);
+
+/* Sets an end of a search, as in `bytes.find`. Returns whether it is one. */
+static bool end_of(PyObject *given, Py_ssize_t *end) {
+    if (given && given != Py_None) {
+        *end = PyNumber_AsSsize_t(given, NULL);
+    }
+    return *end != -1 || !PyErr_Occurred();
+}
+
+/* Returns an offset in a text. A negative one counts from its end. */
+static size_t from_start(Py_ssize_t at, size_t len) {
+    if (at < 0) {
+        at += (Py_ssize_t) len;
+    }
+    return at < 0 ? 0 : (size_t) at;
+}
+
+/* Searches between two offsets. An occurrence is at boundaries of the whole text, so these are moved
+ * to the nearest ones between them. */
+static size_t searched_between(searching *search, dethrux_byte_order order, const inputs *texts,
+                               size_t start, size_t end) {
+    const uint8_t *utf16 = texts->first.bytes;
+    size_t len = texts->first.len;
+    while (!dethrux_is_char_boundary(order, utf16, len, start)) {
+        start++;
+    }
+    end = dethrux_floor_char_boundary(order, utf16, len, end);
+    if (start > end) {
+        return DETHRUX_NOT_FOUND;
+    }
+    size_t found = search(
+        order, utf16 + start, end - start, texts->second.bytes, texts->second.len);
+    return found == DETHRUX_NOT_FOUND ? found : start + found;
+}
+
 /* Returns the offset that a search finds, or -1. */
-static PyObject *searched(const native *it, arguments given,
-                          size_t (*search)(dethrux_byte_order, const void *, size_t,
-                                           const void *, size_t)) {
+static PyObject *searched(const native *it, arguments given, searching *search) {
     int order = order_of(it, given[2]);
+    Py_ssize_t start = 0, end = PY_SSIZE_T_MAX;
     inputs texts;
-    if (order < 0 || !hold_both(given[0], given[1], &texts)) {
+    if (order < 0 || !end_of(given[3], &start) || !end_of(given[4], &end)
+        || !hold_both(given[0], given[1], &texts)) {
         return NULL;
     }
+    size_t len = texts.first.len, found = DETHRUX_NOT_FOUND;
     PyThreadState *saved = without_gil(texts.without_gil);
-    size_t found = search((dethrux_byte_order) order, texts.first.bytes, texts.first.len,
-                          texts.second.bytes, texts.second.len);
+    if (start <= (Py_ssize_t) len) {
+        found = searched_between(search, (dethrux_byte_order) order, &texts,
+                                 from_start(start, len), from_start(end, len));
+    }
     with_gil(saved);
     release_both(&texts);
     return found == DETHRUX_NOT_FOUND ? PyLong_FromLong(-1) : PyLong_FromSize_t(found);
@@ -152,16 +193,6 @@ static PyObject *order_number(const native *it, arguments given) {
 }
 
 /* Changes in place. */
-
-/* Holds a buffer that a call changes. Returns whether it did. */
-static bool hold_writable(PyObject *object, Py_buffer *held) {
-    if (PyObject_GetBuffer(object, held, PyBUF_WRITABLE) == 0) {
-        return true;
-    }
-    PyErr_Format(PyExc_TypeError, "a writable buffer in one piece is required, not '%s'",
-                 Py_TYPE(object)->tp_name);
-    return false;
-}
 
 static PyObject *swap_byte_order(const native *it, arguments given) {
     (void) it;

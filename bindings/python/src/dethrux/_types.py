@@ -1,12 +1,27 @@
 """The types of the arguments and of the results."""
 
 import enum
-import mmap
-from typing import Literal, NamedTuple, Union
+from typing import TYPE_CHECKING, Any, Literal, NamedTuple, Protocol, Union, cast
+
+if TYPE_CHECKING:
+    import _typeshed
+
+
+class Array(Protocol):
+    """An array of NumPy, or of a package that is like it."""
+
+    @property
+    def __array_interface__(self) -> dict[str, Any]: ...
+
 
 ByteOrder = Literal["little", "big"]
-ReadableBuffer = Union[bytes, bytearray, memoryview, mmap.mmap]
-WritableBuffer = Union[bytearray, memoryview, mmap.mmap]
+ReadableBuffer = Union["_typeshed.ReadableBuffer", Array]
+WritableBuffer = Union["_typeshed.WriteableBuffer", Array]
+
+
+def view_of(buffer: ReadableBuffer) -> memoryview:
+    """Return a view of a buffer."""
+    return memoryview(cast(Any, buffer))
 
 
 class Status(enum.IntEnum):
@@ -16,6 +31,16 @@ class Status(enum.IntEnum):
     ILL_FORMED = 1
     INCOMPLETE = 2
     NO_SPACE = 3
+    NOT_LATIN1 = 4
+
+
+class Repertoire(enum.IntEnum):
+    """A set of characters. Each contains those before it."""
+
+    ASCII = 0
+    LATIN1 = 1
+    BMP = 2
+    UNICODE = 3
 
 
 class BomStatus(enum.IntEnum):
@@ -35,6 +60,44 @@ class Progress(NamedTuple):
 
     output: bytes
     read: int
+    status: Status
+    error_len: int
+
+
+class ProgressInto(NamedTuple):
+    """How many bytes a conversion read and wrote to a buffer, and why it stopped.
+
+    ``error_len`` is as in ``Progress``.
+    """
+
+    read: int
+    written: int
+    status: Status
+    error_len: int
+
+
+class IllFormed(NamedTuple):
+    """The offset and the length of an ill-formed sequence, which U+FFFD replaces.
+
+    It is an unpaired surrogate, of two bytes, with ``Status.ILL_FORMED``. With
+    ``Status.INCOMPLETE`` it is an incomplete character at the end, of one to
+    three bytes.
+    """
+
+    offset: int
+    len: int
+    status: Status
+
+
+class Inspection(NamedTuple):
+    """The longest well-formed prefix, its characters, and what follows it.
+
+    ``repertoire`` is the smallest one that has all the characters.
+    """
+
+    valid_up_to: int
+    chars: int
+    repertoire: Repertoire
     status: Status
     error_len: int
 

@@ -1,7 +1,7 @@
 """WTF-8: any code units of UTF-16, without loss."""
 
 from ._native import from_wtf8, to_wtf8
-from ._types import ByteOrder, ReadableBuffer, Status
+from ._types import ByteOrder, ReadableBuffer, Status, view_of
 
 
 def decode_to_wtf8(utf16: ReadableBuffer, byteorder: ByteOrder) -> bytes:
@@ -15,7 +15,7 @@ def decode_to_wtf8(utf16: ReadableBuffer, byteorder: ByteOrder) -> bytes:
     if found.status == Status.DONE:
         return found.output
     codec = "utf-16-be" if byteorder == "big" else "utf-16-le"
-    raw = memoryview(utf16).tobytes()
+    raw = view_of(utf16).tobytes()
     raise UnicodeDecodeError(codec, raw, found.read, len(raw), "truncated data")
 
 
@@ -27,7 +27,7 @@ def encode_from_wtf8(wtf8: ReadableBuffer, byteorder: ByteOrder) -> bytes:
     found = from_wtf8(wtf8, byteorder)
     if found.status == Status.DONE:
         return found.output
-    raw = memoryview(wtf8).tobytes()
+    raw = view_of(wtf8).tobytes()
     if found.status == Status.INCOMPLETE:
         raise UnicodeDecodeError("wtf-8", raw, found.read, len(raw), "unexpected end of data")
     end = found.read + found.error_len
