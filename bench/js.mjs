@@ -1,5 +1,5 @@
-// Times the package next to Node's own way, on up to 64 KiB of UTF-16: `node js.mjs TEXTS`, in a
-// folder where the package is installed. Prints gigabytes of UTF-16 in a second, and the ratio.
+// Times the package next to Node's own way: `node js.mjs TEXTS`, in a folder where the package is
+// installed. Prints how many times as fast it is, on 64 KiB of each text and on short ones.
 import { readFileSync, readdirSync } from "node:fs";
 import { join } from "node:path";
 import { load } from "dethrux";
@@ -7,31 +7,68 @@ import { load } from "dethrux";
 const dethrux = await load();
 const [encoder, utf8Decoder] = [new TextEncoder(), new TextDecoder()];
 const utf16Decoder = new TextDecoder("utf-16le");
+const strictDecoder = new TextDecoder("utf-16le", { fatal: true });
+const bigDecoder = new TextDecoder("utf-16be");
 
-/** Returns the speed of the fastest of some calls. */
-function speed(len, call) {
+/** Returns the nanoseconds of the fastest of some calls. */
+function fastest(call, times) {
     let best = Infinity;
-    for (let at = 0; at < 2000; at += 1) {
+    for (let round = 0; round < 300; round += 1) {
         const start = process.hrtime.bigint();
-        call();
-        best = Math.min(best, Number(process.hrtime.bigint() - start));
+        for (let at = 0; at < times; at += 1) {
+            call();
+        }
+        best = Math.min(best, Number(process.hrtime.bigint() - start) / times);
     }
-    return len / best;
+    return best;
 }
 
-console.log("| Text | to UTF-8 | ratio | from UTF-8 | ratio |\n|---|---:|---:|---:|---:|");
-for (const file of readdirSync(process.argv[2]).filter((it) => it.endsWith(".txt"))) {
-    const text = readFileSync(join(process.argv[2], file), "utf8").slice(0, 32768).toWellFormed();
-    const [utf8, utf16] = [encoder.encode(text), Buffer.from(text, "utf16le")];
-    const shown = [
-        [() => dethrux.toUtf8(utf16, "le"), () => encoder.encode(utf16Decoder.decode(utf16))],
-        [() => dethrux.fromUtf8(utf8, "le"), () => Buffer.from(utf8Decoder.decode(utf8), "utf16le")],
-    ].map(([call, other]) => {
-        if (Buffer.compare(call().output, other())) {
-            throw new Error(`${file}: the results differ`);
+/** The package's way and the platform's, by the heading of a column. */
+function ways(text) {
+    const [utf8, le] = [encoder.encode(text), Buffer.from(text, "utf16le")];
+    const [be, fatal] = [Buffer.from(le).swap16(), { fatal: true }];
+    return {
+        decode: [() => dethrux.decode(le, "le"), () => utf16Decoder.decode(le)],
+        "`fatal`": [() => dethrux.decode(le, "le", fatal), () => strictDecoder.decode(le)],
+        "big endian": [() => dethrux.decode(be, "be"), () => bigDecoder.decode(be)],
+        encode: [() => dethrux.encode(text, "le"), () => Buffer.from(text.toWellFormed(), "utf16le")],
+        toUtf8: [() => dethrux.toUtf8(le, "le").output, () => encoder.encode(utf16Decoder.decode(le))],
+        fromUtf8: [
+            () => dethrux.fromUtf8(utf8, "le").output,
+            () => Buffer.from(utf8Decoder.decode(utf8), "utf16le"),
+        ],
+    };
+}
+
+/** Returns how many times as fast as the platform each way is. */
+function ratios(text, times) {
+    return Object.entries(ways(text)).map(([way, [ours, its]]) => {
+        const [found, wanted] = [ours(), its()];
+        if (typeof found === "string" ? found !== wanted : Buffer.compare(found, wanted)) {
+            throw new Error(`${way} differs: ${text.slice(0, 40)}`);
         }
-        const [ours, its] = [call, other].map((it) => speed(utf16.length, it));
-        return `${ours.toFixed(2)} | ${(ours / its).toFixed(2)}`;
+        return fastest(its, times) / fastest(ours, times);
     });
-    console.log(`| ${file.replace(".txt", "")} | ${shown.join(" | ")} |`);
+}
+
+const row = (name, numbers) =>
+    console.log(`| ${name} | ${numbers.map((it) => it.toFixed(2)).join(" | ")} |`);
+
+const names = Object.keys(ways(""));
+const files = readdirSync(process.argv[2]).filter((it) => it.endsWith(".txt"));
+const texts = files.map((it) => readFileSync(join(process.argv[2], it), "utf8"));
+
+console.log(`| Text | ${names.join(" | ")} |\n|---|${"---:|".repeat(names.length)}`);
+const rows = texts.map((text, at) => {
+    const found = ratios(text.slice(0, 32768).toWellFormed(), 1);
+    row(files[at].replace(".txt", ""), found);
+    return found;
+});
+const sorted = names.map((_, column) => rows.map((it) => it[column]).sort((a, b) => a - b));
+row("the least", sorted.map((it) => it[0]));
+row("the median", sorted.map((it) => it[it.length >> 1]));
+row("the greatest", sorted.map((it) => it.at(-1)));
+const words = texts[files.findIndex((it) => it.startsWith("german"))] ?? texts[0];
+for (const len of [8, 32, 128, 512, 2048, 8192]) {
+    row(`${len} code units`, ratios(words.slice(5000, 5000 + len).toWellFormed(), Math.ceil(4096 / len)));
 }

@@ -38,6 +38,37 @@ export interface Progress<Output> {
     errorLen: number;
 }
 
+/** How much was written to an array of the caller, and how far a conversion came. */
+export interface Written {
+    /** How much of the input was read. */
+    read: number;
+    /** How much of the array was written; the rest of it is unchanged. */
+    written: number;
+    status: Status;
+    /** The length of the ill-formed sequence with "ill-formed", else 0. */
+    errorLen: number;
+}
+
+/** Whether ill-formed text is an error. */
+export interface StrictOptions {
+    /** Throw an `IllFormedError` for ill-formed text, instead of replacing it with U+FFFD. */
+    fatal?: boolean;
+}
+
+/** The options of the platform's `TextDecoder`. */
+export interface TextOptions extends StrictOptions {
+    /** Keep a BOM at the start in the string. */
+    ignoreBOM?: boolean;
+}
+
+/** What a function or a stream with `fatal` throws for ill-formed text. */
+export class IllFormedError extends TypeError {
+    /** Where the ill-formed sequence begins: in a stream, elements since the stream's start. */
+    readonly offset: number;
+    /** How many elements it has. At the end of the input it is the incomplete character. */
+    readonly length: number;
+}
+
 /** The longest well-formed prefix, its characters, and what follows it. */
 export interface Inspection extends Validity {
     /** The number of its characters. */
@@ -57,7 +88,7 @@ export interface Bom {
 
 /**
  * A stream of UTF-16 in chunks that are cut anywhere. `decoder` replaces what is ill formed with
- * U+FFFD; `wtf8Decoder` keeps unpaired surrogates.
+ * U+FFFD, or with `fatal` throws; `wtf8Decoder` keeps unpaired surrogates.
  */
 export interface Decoder<Chunk> {
     /** What has come and is not decoded yet: at most 3 bytes. */
@@ -68,7 +99,7 @@ export interface Decoder<Chunk> {
     finish(): Uint8Array;
 }
 
-/** A stream of UTF-8 in chunks that are cut anywhere. U+FFFD replaces what is ill formed. */
+/** A stream of UTF-8 in chunks that are cut anywhere. `fatal` decides about errors. */
 export interface Encoder<Output> {
     /** What has come and is not encoded yet: at most 3 bytes. */
     readonly pending: Uint8Array;
@@ -76,6 +107,18 @@ export interface Encoder<Output> {
     feed(chunk: Uint8Array): Output;
     /** Ends the stream: returns U+FFFD if something is pending. The encoder begins a new stream. */
     finish(): Output;
+}
+
+/** A stream of UTF-16 to strings, with the interface of the platform's `TextDecoder`. */
+export interface StringDecoder<Chunk> {
+    readonly encoding: "utf-16le" | "utf-16be";
+    readonly fatal: boolean;
+    readonly ignoreBOM: boolean;
+    /**
+     * Returns the string of the next chunk. With `stream` it keeps an incomplete character for the
+     * next one; without, the stream ends, and a new one begins.
+     */
+    decode(chunk?: Chunk, options?: { stream?: boolean }): string;
 }
 
 /** A question about UTF-16. */
@@ -108,6 +151,18 @@ export interface ToUtf16<Input> {
     (input: Input, order?: undefined, capacity?: number): Progress<Uint16Array>;
 }
 
+/** A conversion from UTF-16 to an array of the caller. */
+export interface FromUtf16Into<Output> {
+    (utf16: Uint8Array, order: ByteOrder, to: Output): Written;
+    (utf16: Uint16Array, to: Output): Written;
+}
+
+/** A conversion to UTF-16 in an array of the caller: bytes in a byte order, or code units. */
+export interface ToUtf16Into<Input> {
+    (input: Input, to: Uint8Array, order: ByteOrder): Written;
+    (input: Input, to: Uint16Array): Written;
+}
+
 /** The length of such UTF-16: in bytes with a byte order, else in code units. */
 export type ForUtf16<Input> = (input: Input, order?: ByteOrder) => number;
 
@@ -115,6 +170,34 @@ export type ForUtf16<Input> = (input: Input, order?: ByteOrder) => number;
 export interface Dethrux {
     /** Returns the version: 1000000 for each major number, 1000 for each minor one. */
     version(): number;
+    /**
+     * Returns the string of UTF-16, as the platform's `TextDecoder` does: without a BOM at the
+     * start, unless `ignoreBOM` is true, and with U+FFFD for what is ill formed.
+     */
+    decode(utf16: Uint8Array, order: ByteOrder, options?: TextOptions): string;
+    decode(utf16: Uint16Array, options?: TextOptions): string;
+    /**
+     * Returns the UTF-16 of a string: bytes in a byte order, or without one code units. U+FFFD
+     * replaces an unpaired surrogate, as in `TextEncoder`. It writes no BOM.
+     */
+    encode(text: string, order: ByteOrder, options?: StrictOptions): Uint8Array;
+    encode(text: string, order?: undefined, options?: StrictOptions): Uint16Array;
+    /**
+     * Writes the UTF-16 of as many characters of a string as fit into an array. Returns the number
+     * of code units of the string, and of elements that it wrote.
+     */
+    encodeInto(
+        text: string,
+        to: Uint8Array,
+        order: ByteOrder,
+        options?: StrictOptions,
+    ): { read: number; written: number };
+    encodeInto(
+        text: string,
+        to: Uint16Array,
+        options?: StrictOptions,
+    ): { read: number; written: number };
+
     /** Returns the length of the longest well-formed prefix, and what follows it. */
     validate: OfUtf16<Validity>;
     /** Returns the number of characters. */
@@ -183,6 +266,37 @@ export interface Dethrux {
     /** Converts Latin-1 to UTF-16. */
     fromLatin1: ToUtf16<Uint8Array>;
 
+    /** Does what `toUtf8` does, into an array of the caller. */
+    toUtf8Into: FromUtf16Into<Uint8Array>;
+    /** Does what `toUtf8Lossy` does, into an array of the caller. */
+    toUtf8LossyInto: FromUtf16Into<Uint8Array>;
+    /** Does what `toUtf8Partial` does, into an array of the caller. */
+    toUtf8PartialInto: FromUtf16Into<Uint8Array>;
+    /** Does what `fromUtf8` does, into an array of the caller. */
+    fromUtf8Into: ToUtf16Into<Uint8Array>;
+    /** Does what `fromUtf8Lossy` does, into an array of the caller. */
+    fromUtf8LossyInto: ToUtf16Into<Uint8Array>;
+    /** Does what `toWtf8` does, into an array of the caller. */
+    toWtf8Into: FromUtf16Into<Uint8Array>;
+    /** Does what `toWtf8Partial` does, into an array of the caller. */
+    toWtf8PartialInto: FromUtf16Into<Uint8Array>;
+    /** Does what `fromWtf8` does, into an array of the caller. */
+    fromWtf8Into: ToUtf16Into<Uint8Array>;
+    /** Does what `fromWtf8Partial` does, into an array of the caller. */
+    fromWtf8PartialInto: ToUtf16Into<Uint8Array>;
+    /** Does what `toUtf32` does, into an array of the caller. */
+    toUtf32Into: FromUtf16Into<Uint32Array>;
+    /** Does what `toUtf32Lossy` does, into an array of the caller. */
+    toUtf32LossyInto: FromUtf16Into<Uint32Array>;
+    /** Does what `fromUtf32` does, into an array of the caller. */
+    fromUtf32Into: ToUtf16Into<Uint32Array>;
+    /** Does what `fromUtf32Lossy` does, into an array of the caller. */
+    fromUtf32LossyInto: ToUtf16Into<Uint32Array>;
+    /** Does what `toLatin1` does, into an array of the caller. */
+    toLatin1Into: FromUtf16Into<Uint8Array>;
+    /** Does what `fromLatin1` does, into an array of the caller. */
+    fromLatin1Into: ToUtf16Into<Uint8Array>;
+
     /** Returns whether an offset is a boundary between characters. */
     isCharBoundary: OfUtf16At<boolean>;
     /** Returns the greatest boundary at or before an offset. */
@@ -229,16 +343,19 @@ export interface Dethrux {
     /** Returns the BOM at the start of a stream. Without one the byte order is `otherwise`. */
     detectBom(bytes: Uint8Array, otherwise?: ByteOrder): Bom;
 
+    /** Returns a decoder to strings of bytes, or without a byte order of code units. */
+    textDecoder(order: ByteOrder, options?: TextOptions): StringDecoder<Uint8Array>;
+    textDecoder(order?: undefined, options?: TextOptions): StringDecoder<Uint16Array>;
     /**
      * Returns a decoder of bytes, or without a byte order of code units. With "bom" the BOM gives
      * the byte order and is not part of the text; without one it is `otherwise`, by default "be".
      */
-    decoder(order: ByteOrder): Decoder<Uint8Array>;
-    decoder(order: "bom", otherwise?: ByteOrder): Decoder<Uint8Array>;
-    decoder(): Decoder<Uint16Array>;
+    decoder(order: ByteOrder, options?: StrictOptions): Decoder<Uint8Array>;
+    decoder(order: "bom", otherwise?: ByteOrder, options?: StrictOptions): Decoder<Uint8Array>;
+    decoder(order?: undefined, options?: StrictOptions): Decoder<Uint16Array>;
     /** Returns an encoder to bytes, or without a byte order to code units. */
-    encoder(order: ByteOrder): Encoder<Uint8Array>;
-    encoder(): Encoder<Uint16Array>;
+    encoder(order: ByteOrder, options?: StrictOptions): Encoder<Uint8Array>;
+    encoder(order?: undefined, options?: StrictOptions): Encoder<Uint16Array>;
     /**
      * Returns a decoder to WTF-8, which keeps unpaired surrogates. If the stream ends with an odd
      * byte, its `finish` throws an `Error` and changes nothing.
@@ -249,12 +366,28 @@ export interface Dethrux {
     wtf8DecoderStream(order: ByteOrder): TransformStream<Uint8Array, Uint8Array>;
     wtf8DecoderStream(): TransformStream<Uint16Array, Uint8Array>;
     /** Returns a stream of the Web that passes its chunks through such a decoder. */
-    decoderStream(order: ByteOrder): TransformStream<Uint8Array, Uint8Array>;
-    decoderStream(order: "bom", otherwise?: ByteOrder): TransformStream<Uint8Array, Uint8Array>;
-    decoderStream(): TransformStream<Uint16Array, Uint8Array>;
+    decoderStream(
+        order: ByteOrder,
+        options?: StrictOptions,
+    ): TransformStream<Uint8Array, Uint8Array>;
+    decoderStream(
+        order: "bom",
+        otherwise?: ByteOrder,
+        options?: StrictOptions,
+    ): TransformStream<Uint8Array, Uint8Array>;
+    decoderStream(
+        order?: undefined,
+        options?: StrictOptions,
+    ): TransformStream<Uint16Array, Uint8Array>;
     /** Returns a stream of the Web that passes its chunks through such an encoder. */
-    encoderStream(order: ByteOrder): TransformStream<Uint8Array, Uint8Array>;
-    encoderStream(): TransformStream<Uint8Array, Uint16Array>;
+    encoderStream(
+        order: ByteOrder,
+        options?: StrictOptions,
+    ): TransformStream<Uint8Array, Uint8Array>;
+    encoderStream(
+        order?: undefined,
+        options?: StrictOptions,
+    ): TransformStream<Uint8Array, Uint16Array>;
 }
 
 /**

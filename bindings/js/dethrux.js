@@ -3,6 +3,7 @@
 import { instantiate } from "./load.js";
 
 export { isSupported, stringOf, unitsOf } from "./load.js";
+export { IllFormedError } from "./streams.js";
 
 /** Loads the library: the module of the package, or another one at a URL or as bytes. */
 export async function load(source = new URL("./dethrux.wasm", import.meta.url)) {

@@ -2,8 +2,8 @@
 
 import { CALLS } from "./calls.js";
 import { Machine } from "./machine.js";
-import { SHAPES } from "./shapes.js";
-import { streams } from "./streams.js";
+import { inWidth, SHAPES, takeForm, takeOptions, takeText, takeUtf16 } from "./shapes.js";
+import { IllFormedError, LE, streams, Text } from "./streams.js";
 
 // The version of the header that has these calls, as dethrux_version returns it.
 const VERSION = 2000;
@@ -36,15 +36,57 @@ export async function instantiate(source) {
 
 /** Returns a function for each call that the module has. */
 function functionsOf(machine) {
-    const call = (...words) => machine.call(...words);
     const functions = {};
     for (const [name, [shape, kind]] of Object.entries(CALLS)) {
         if (machine.has(name) && shape !== "stream") {
             const made = (parts) => machine.call(name, kind, parts);
             functions[camelCase(name)] = (...words) => SHAPES[shape](made, words);
+            if (kind === "progress") {
+                const into = (...words) => SHAPES[shape](made, words, true);
+                functions[`${camelCase(name)}Into`] = into;
+            }
         }
     }
-    return Object.freeze(Object.assign(functions, streams(call, functions)));
+    return Object.freeze(Object.assign(functions, strings(machine), streams(machine, functions)));
+}
+
+/** Returns the functions for strings. */
+function strings(machine) {
+    /** Puts the UTF-16 of a string into the memory, and returns its length. */
+    const put = (text, order, { fatal }) => {
+        const len = machine.putText(text);
+        const error = machine.repairText(len, LE, order, fatal);
+        if (error) {
+            throw new IllFormedError(error.at / 2, error.length / 2);
+        }
+        return len;
+    };
+    return {
+        decode(...words) {
+            const [utf16] = words;
+            const form = takeUtf16(words);
+            return new Text(machine, form, takeOptions(words)).decode(utf16);
+        },
+        encode(...words) {
+            const text = takeText(words);
+            const { order, width } = takeForm(words);
+            const len = put(text, order, takeOptions(words));
+            return inWidth(machine.textBytes(len).slice(), width);
+        },
+        encodeInto(...words) {
+            const text = takeText(words);
+            const { part, order, width } = takeUtf16(words);
+            const read = fitting(text, part.len >> 1);
+            const len = put(text.slice(0, read), order, takeOptions(words));
+            part.bytes.set(machine.textBytes(len));
+            return { read, written: len / width };
+        },
+    };
+}
+
+/** Returns how many code units of a string fit, without half of a surrogate pair at the end. */
+function fitting(text, most) {
+    return text.codePointAt(most - 1) > 0xffff ? most - 1 : Math.min(most, text.length);
 }
 
 function camelCase(name) {

@@ -7,29 +7,38 @@ const STATUSES = ["done", "ill-formed", "incomplete", "no-space", "not-latin1"];
 const REPERTOIRES = ["ascii", "latin1", "bmp", "unicode"];
 const BOMS = ["absent", "present", "undecided"];
 export const ORDERS = ["le", "be"];
+// Makes the strings of well-formed code units where there is no Buffer, which is faster.
+const UTF16LE = new TextDecoder("utf-16le", { ignoreBOM: true });
 
-// How a field of a struct is read at an address.
+// The memory is below 4 GiB, so the low half of a length is all of it.
 const word = (view, at) => view.getUint32(at, true);
-const size = (view, at) => Number(view.getBigUint64(at, true));
-const named = (names) => (view, at) => names[word(view, at)];
+const status = (view, at) => STATUSES[word(view, at)];
 
-// The structs that calls return: the offset of each field in the header's layout, and its type.
+// How the structs that calls return are read, in the header's layout.
 const STRUCTS = {
-    progress: {
-        read: [0, size],
-        written: [8, size],
-        status: [16, named(STATUSES)],
-        errorLen: [20, word],
-    },
-    validity: { validUpTo: [0, size], status: [8, named(STATUSES)], errorLen: [12, word] },
-    inspection: {
-        validUpTo: [0, size],
-        chars: [8, size],
-        repertoire: [16, named(REPERTOIRES)],
-        status: [20, named(STATUSES)],
-        errorLen: [24, word],
-    },
-    bom: { len: [0, size], order: [8, named(ORDERS)], status: [12, named(BOMS)] },
+    progress: (view) => ({
+        read: word(view, 0),
+        written: word(view, 8),
+        status: status(view, 16),
+        errorLen: word(view, 20),
+    }),
+    validity: (view) => ({
+        validUpTo: word(view, 0),
+        status: status(view, 8),
+        errorLen: word(view, 12),
+    }),
+    inspection: (view) => ({
+        validUpTo: word(view, 0),
+        chars: word(view, 8),
+        repertoire: REPERTOIRES[word(view, 16)],
+        status: status(view, 20),
+        errorLen: word(view, 24),
+    }),
+    bom: (view) => ({
+        len: word(view, 0),
+        order: ORDERS[word(view, 8)],
+        status: BOMS[word(view, 12)],
+    }),
 };
 // What a call returns in a register.
 const PLAIN = {
@@ -51,7 +60,9 @@ export const state = (bytes) => ({ bytes });
 
 /** Returns the bytes of an array, without a copy. */
 export function bytesOf(array) {
-    return new Uint8Array(array.buffer, array.byteOffset, array.byteLength);
+    return array instanceof Uint8Array
+        ? array
+        : new Uint8Array(array.buffer, array.byteOffset, array.byteLength);
 }
 
 /**
@@ -59,55 +70,97 @@ export function bytesOf(array) {
  * address `__heap_base` on, and only during a call.
  */
 export class Machine {
-    #exports;
+    #calls = {};
     #memory;
     #base;
+    // The place of the UTF-16 that becomes a string, or of the string's UTF-16.
+    #text;
+    // The memory as bytes, as a Buffer if there are any, and where a struct is returned.
+    #bytes;
+    #buffer;
+    #struct;
 
     constructor(exports) {
-        this.#exports = exports;
+        for (const name of Object.keys(exports)) {
+            this.#calls[name.replace("dethrux_", "")] = exports[name];
+        }
         this.#memory = exports.memory;
         this.#base = aligned(Number(exports.__heap_base.value));
+        this.#text = this.#base + RESULT_LEN;
+        this.#look();
     }
 
     has(name) {
-        return `dethrux_${name}` in this.#exports;
+        return name in this.#calls;
     }
 
     /**
      * Makes a call. A part is a number of 32 bits, a bigint of 64 bits, or a place in the memory:
-     * an input, a room or a state. Returns the result and a function that copies the first bytes of
-     * a part.
+     * an input, a room or a state.
      */
     call(name, kind, parts) {
-        const places = this.#places(parts);
-        const memory = this.#filled(parts, places);
-        const words = parts.flatMap((part, at) => passed(part, places[at]));
-        const result = this.#result(this.#exports[`dethrux_${name}`], kind, words);
-        return { result, bytes: (at, len) => memory.slice(places[at], places[at] + len) };
+        const places = placesOf(parts, this.#base + RESULT_LEN);
+        this.#reach(places[parts.length]);
+        const read = STRUCTS[kind];
+        const words = read ? [BigInt(this.#base)] : [];
+        for (let at = 0; at < parts.length; at += 1) {
+            this.#pass(parts[at], places[at], words);
+        }
+        const returned = this.#calls[name](...words);
+        const result = read ? read(this.#struct) : PLAIN[kind](returned);
+        return new Made(result, places, this.#bytes);
     }
 
-    /** Returns an address for each part, one after another, and last their end. */
-    #places(parts) {
-        let end = this.#base + RESULT_LEN;
-        const places = parts.map((part) => {
-            const at = end;
-            end = aligned(end + sizeOf(part));
-            return at;
-        });
-        return [...places, end];
+    /** Puts UTF-16 where texts are: bytes, or a string in little endian. Returns its length. */
+    putText(source) {
+        const len = typeof source === "string" ? source.length * 2 : source.length;
+        this.#reach(this.#text + len);
+        if (typeof source !== "string") {
+            this.#bytes.set(source, this.#text);
+        } else if (this.#buffer) {
+            this.#buffer.write(source, this.#text, "utf16le");
+        } else {
+            this.#writeUnits(source);
+        }
+        return len;
     }
 
-    /** Copies the bytes of the parts to their addresses, and returns the memory. */
-    #filled(parts, places) {
-        this.#reach(places.at(-1));
-        const memory = new Uint8Array(this.#memory.buffer);
-        parts.forEach(({ bytes }, at) => bytes && memory.set(bytes, places[at]));
-        return memory;
+    /**
+     * Makes the text well formed, and swaps its bytes if the byte orders differ. If errors are
+     * fatal, it returns the place and the length of the first one instead.
+     */
+    repairText(len, from, to, isFatal) {
+        const [at, size] = [BigInt(this.#text), BigInt(len)];
+        if (isFatal) {
+            this.#calls.validate(BigInt(this.#base), from, at, size);
+            const { validUpTo, status, errorLen } = STRUCTS.validity(this.#struct);
+            if (status !== "done") {
+                return { at: validUpTo, length: errorLen || len - validUpTo };
+            }
+        } else {
+            this.#calls.make_well_formed(from, at, size);
+        }
+        if (from !== to) {
+            this.#calls.swap_byte_order(at, size);
+        }
+        return undefined;
+    }
+
+    /** Returns the bytes of the text, which the next call changes. */
+    textBytes(len) {
+        return this.#bytes.subarray(this.#text, this.#text + len);
+    }
+
+    /** Returns the string of the text, which is well formed and in little endian. */
+    textString(len) {
+        return this.#buffer
+            ? this.#buffer.toString("utf16le", this.#text, this.#text + len)
+            : UTF16LE.decode(this.textBytes(len));
     }
 
     /** Makes the memory as long as this. */
     #reach(end) {
-        const missing = end - this.#memory.buffer.byteLength;
+        const missing = end - this.#bytes.length;
         if (missing <= 0) {
             return;
         }
@@ -116,27 +169,72 @@ export class Machine {
         } catch (error) {
             throw new RangeError(`dethrux: no memory for ${end} bytes`, { cause: error });
         }
+        this.#look();
     }
 
-    /** Calls a function. A struct is returned at the address that is its first argument. */
-    #result(call, kind, words) {
-        if (kind in PLAIN) {
-            return PLAIN[kind](call(...words));
+    /** Sets the views of the memory, which has a new buffer after it has grown. */
+    #look() {
+        const { buffer } = this.#memory;
+        this.#bytes = new Uint8Array(buffer);
+        this.#buffer = globalThis.Buffer?.from(buffer);
+        this.#struct = new DataView(buffer, this.#base, RESULT_LEN);
+    }
+
+    /** Copies a part to its address, and adds its arguments: itself, or the address and length. */
+    #pass(part, at, words) {
+        if (typeof part !== "object") {
+            words.push(part);
+            return;
         }
-        call(BigInt(this.#base), ...words);
-        const view = new DataView(this.#memory.buffer, this.#base, RESULT_LEN);
-        const fields = Object.entries(STRUCTS[kind]);
-        return Object.fromEntries(fields.map(([name, [at, read]]) => [name, read(view, at)]));
+        if (part.bytes) {
+            this.#bytes.set(part.bytes, at);
+        }
+        words.push(BigInt(at));
+        if (part.len !== undefined) {
+            words.push(BigInt(part.len));
+        }
+    }
+
+    #writeUnits(text) {
+        const view = new DataView(this.#memory.buffer, this.#text);
+        for (let at = 0; at < text.length; at += 1) {
+            view.setUint16(at * 2, text.charCodeAt(at), true);
+        }
+    }
+}
+
+/** What a call made: its result, and the first bytes of each part. */
+class Made {
+    #places;
+    #bytes;
+
+    constructor(result, places, bytes) {
+        this.result = result;
+        this.#places = places;
+        this.#bytes = bytes;
+    }
+
+    /** Returns a copy of the bytes. */
+    bytes(at, len) {
+        return this.#bytes.slice(this.#places[at], this.#places[at] + len);
+    }
+
+    /** Returns the bytes, which the next call changes. */
+    view(at, len) {
+        return this.#bytes.subarray(this.#places[at], this.#places[at] + len);
     }
 }
 
 const aligned = (address) => Math.ceil(address / 8) * 8;
 const sizeOf = ({ bytes, byteLength = bytes?.byteLength ?? 0 }) => byteLength;
 
-/** Returns the arguments for a part: itself, or its address and its length if it has one. */
-function passed(part, at) {
-    if (typeof part !== "object") {
-        return [part];
+/** Returns an address for each part, one after another from this one on, and last their end. */
+function placesOf(parts, start) {
+    const places = [start];
+    let end = start;
+    for (const part of parts) {
+        end = aligned(end + sizeOf(part));
+        places.push(end);
     }
-    return part.len === undefined ? [BigInt(at)] : [BigInt(at), BigInt(part.len)];
+    return places;
 }

@@ -38,7 +38,7 @@ export function takeOrder(words) {
 }
 
 /** Takes UTF-16 from the front of the arguments: a byte order follows bytes, but not code units. */
-function takeUtf16(words) {
+export function takeUtf16(words) {
     const array = words.shift();
     if (isArray(array, "Uint16Array")) {
         return { part: input(bytesOf(array)), order: NATIVE, width: 2 };
@@ -63,6 +63,15 @@ export function takeForm(words) {
         return { order: NATIVE, width: 2 };
     }
     return { order: takeOrder(words), width: 1 };
+}
+
+/** Takes a string from the front of the arguments. */
+export function takeText(words) {
+    const text = words.shift();
+    if (typeof text !== "string") {
+        throw new TypeError(`dethrux: give a string, not ${shown(text)}`);
+    }
+    return text;
 }
 
 /** Takes a number of elements from the front of the arguments. */
@@ -100,38 +109,60 @@ function end(words) {
     }
 }
 
+/** Takes the options, which are the last argument. */
+export function takeOptions(words) {
+    const options = words.shift() ?? {};
+    if (typeof options !== "object") {
+        throw new TypeError(`dethrux: give an object of options, not ${shown(options)}`);
+    }
+    end(words);
+    return options;
+}
+
 /** Returns UTF-16 as bytes, or as code units. */
 export const inWidth = (bytes, width) => (width === 2 ? new Uint16Array(bytes.buffer) : bytes);
 
 /** Divides the lengths of UTF-16 among these fields by the width of an element. */
 function counted(result, width, ...names) {
-    const fields = names.filter((it) => it in result).map((it) => [it, result[it] / width]);
-    return { ...result, ...Object.fromEntries(fields) };
+    for (const name of names.filter((it) => it in result)) {
+        result[name] /= width;
+    }
+    return result;
 }
 
-/** Returns what a conversion wrote, and how far it came. */
-function progress(output, { read, status, errorLen }) {
-    return { output, read, status, errorLen };
-}
-
-/** From UTF-16 to what has elements of `width` bytes, with the capacity that always suffices. */
-function fromUtf16(call, words, enough, width, made) {
+/** From UTF-16 to an array of a kind, new or the caller's, with the capacity that suffices. */
+function fromUtf16(call, words, isInto, enough, Kind = Uint8Array) {
     const utf16 = takeUtf16(words);
-    const capacity = takeCapacity(words, enough(utf16.part.len));
+    const most = enough(utf16.part.len);
+    const to = isInto && takeArray(words, Kind.name);
+    const capacity = to ? Math.min(to.length, most) : takeCapacity(words, most);
     end(words);
-    const { result, bytes } = call([utf16.order, utf16.part, room(capacity, width)]);
-    const output = made(bytes(2, result.written * width));
-    return progress(output, counted(result, utf16.width, "read", "errorLen"));
+    const width = Kind.BYTES_PER_ELEMENT;
+    const made = call([utf16.order, utf16.part, room(capacity, width)]);
+    counted(made.result, utf16.width, "read", "errorLen");
+    const { read, written, status, errorLen } = made.result;
+    if (to) {
+        bytesOf(to).set(made.view(2, written * width));
+        return { read, written, status, errorLen };
+    }
+    const output = made.bytes(2, written * width);
+    return { output: width === 1 ? output : new Kind(output.buffer), read, status, errorLen };
 }
 
-/** To UTF-16, from an array of which each element gives at most `most` bytes. */
-function toUtf16(call, words, kind, most) {
+/** To UTF-16, new or the caller's, from an array whose elements give at most `most` bytes each. */
+function toUtf16(call, words, isInto, kind, most) {
     const array = takeArray(words, kind);
-    const { order, width } = takeForm(words);
-    const capacity = takeCapacity(words, (array.length * most) / width) * width;
+    const { part: to, order, width } = isInto ? takeUtf16(words) : takeForm(words);
+    const enough = array.length * most;
+    const capacity = to ? Math.min(to.len, enough) : takeCapacity(words, enough / width) * width;
     end(words);
-    const { result, bytes } = call([order, input(array), room(capacity)]);
-    return progress(inWidth(bytes(2, result.written), width), result);
+    const made = call([order, input(array), room(capacity)]);
+    const { read, written, status, errorLen } = made.result;
+    if (to) {
+        to.bytes.set(made.view(2, written));
+        return { read, written: written / width, status, errorLen };
+    }
+    return { output: inWidth(made.bytes(2, written), width), read, status, errorLen };
 }
 
 /** What is asked of an array that is not UTF-16. */
@@ -149,7 +180,8 @@ function measured(call, words, kind) {
     return call([input(array)]).result / width;
 }
 
-// How the arguments of a function become the call's. Each takes the call and the arguments.
+// How the arguments of a function become the call's. Each takes the call, the arguments, and if it
+// is a conversion whether the output goes into an array of the caller.
 export const SHAPES = {
     nothing(call, words) {
         end(words);
@@ -181,24 +213,23 @@ export const SHAPES = {
         const { result } = call([order, part, input(bytesOf(pattern))]);
         return result < 0 ? result : result / width;
     },
-    utf16ToUtf8(call, words) {
-        return fromUtf16(call, words, (len) => Math.ceil(len / 2) * 3, 1, (it) => it);
+    utf16ToUtf8(call, words, isInto) {
+        return fromUtf16(call, words, isInto, (len) => Math.ceil(len / 2) * 3);
     },
-    utf16ToLatin1(call, words) {
-        return fromUtf16(call, words, (len) => Math.floor(len / 2), 1, (it) => it);
+    utf16ToLatin1(call, words, isInto) {
+        return fromUtf16(call, words, isInto, (len) => Math.floor(len / 2));
     },
-    utf16ToUtf32(call, words) {
-        const made = (it) => new Uint32Array(it.buffer);
-        return fromUtf16(call, words, (len) => Math.ceil(len / 2), 4, made);
+    utf16ToUtf32(call, words, isInto) {
+        return fromUtf16(call, words, isInto, (len) => Math.ceil(len / 2), Uint32Array);
     },
     bytes(call, words) {
         return asked(call, words, "Uint8Array");
     },
-    bytesToUtf16(call, words) {
-        return toUtf16(call, words, "Uint8Array", 2);
+    bytesToUtf16(call, words, isInto) {
+        return toUtf16(call, words, isInto, "Uint8Array", 2);
     },
-    utf32ToUtf16(call, words) {
-        return toUtf16(call, words, "Uint32Array", 4);
+    utf32ToUtf16(call, words, isInto) {
+        return toUtf16(call, words, isInto, "Uint32Array", 4);
     },
     utf32(call, words) {
         return asked(call, words, "Uint32Array");
@@ -228,7 +259,7 @@ export const SHAPES = {
     swapped(call, words) {
         const { array } = takeAnyOrder(words);
         end(words);
-        array.set(call([input(array)]).bytes(0, array.length));
+        array.set(call([input(array)]).view(0, array.length));
     },
     inAnyOrder(call, words) {
         const { array, width } = takeAnyOrder(words);
@@ -239,9 +270,9 @@ export const SHAPES = {
         const array = words[0];
         const { part, order } = takeUtf16(words);
         end(words);
-        const { result, bytes } = call([order, part]);
-        bytesOf(array).set(bytes(1, part.len));
-        return result;
+        const made = call([order, part]);
+        bytesOf(array).set(made.view(1, part.len));
+        return made.result;
     },
     start(call, words) {
         const array = takeArray(words, "Uint8Array");

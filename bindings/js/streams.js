@@ -1,13 +1,25 @@
 // SPDX-License-Identifier: MIT OR Apache-2.0
 
-import { bytesOf, input, room, state } from "./machine.js";
-import { inWidth, isArray, takeForm, takeOrder } from "./shapes.js";
+import { bytesOf, input, ORDERS, room, state } from "./machine.js";
+import { inWidth, isArray, takeForm, takeOptions, takeOrder } from "./shapes.js";
 
 // The bytes of a chunk that one call takes, so that the memory of the module stays small.
 const SLICE = 65536;
+export const LE = ORDERS.indexOf("le");
+const NOTHING = new Uint8Array();
 // The capacities of the header, for a slice of `len` bytes.
 const DECODER = { feed: (len) => Math.floor((len + 3) / 2) * 3, finish: 3 };
 const ENCODER = { feed: (len) => len * 2 + 2, finish: 2 };
+
+/** What a strict call throws: the offset of what is ill formed, in the whole stream. */
+export class IllFormedError extends TypeError {
+    constructor(offset, length) {
+        super(`dethrux: ill-formed text at offset ${offset}, of length ${length}`);
+        this.name = "IllFormedError";
+        this.offset = offset;
+        this.length = length;
+    }
+}
 
 /** Returns arrays of bytes as one. */
 function joined(arrays) {
@@ -41,12 +53,12 @@ class Stream {
      */
     made(name, parts, capacity) {
         const all = [state(this.#state), ...parts, room(capacity)];
-        const { result, bytes } = this.#call(name, "progress", all);
-        if (result.status === "incomplete") {
+        const made = this.#call(name, "progress", all);
+        if (made.result.status === "incomplete") {
             throw new Error("dethrux: the stream ends with an odd byte, which WTF-8 cannot keep");
         }
-        const output = bytes(all.length - 1, result.written);
-        this.#state = bytes(0, 4);
+        const output = made.bytes(all.length - 1, made.result.written);
+        this.#state = made.bytes(0, 4);
         return output;
     }
 
@@ -72,6 +84,8 @@ class Stream {
     }
 }
 
+const kindOf = (width) => (width === 2 ? "Uint16Array" : "Uint8Array");
+
 function checked(chunk, kind) {
     if (!isArray(chunk, kind)) {
         throw new TypeError(`dethrux: a chunk of this stream is a ${kind}`);
@@ -86,10 +100,10 @@ class Decoder {
     #kind;
     #isWtf8;
 
-    constructor(call, words, isWtf8 = false) {
+    constructor(call, form, isWtf8 = false) {
         this.#stream = new Stream(call);
-        this.#form = takeForm(words);
-        this.#kind = this.#form.width === 2 ? "Uint16Array" : "Uint8Array";
+        this.#form = form;
+        this.#kind = kindOf(form.width);
         this.#isWtf8 = isWtf8;
     }
 
@@ -115,9 +129,9 @@ class Encoder {
     #stream;
     #form;
 
-    constructor(call, words) {
+    constructor(call, form) {
         this.#stream = new Stream(call);
-        this.#form = takeForm(words);
+        this.#form = form;
     }
 
     get pending() {
@@ -136,17 +150,74 @@ class Encoder {
     }
 }
 
-/** Decodes UTF-16 whose byte order its BOM gives. */
+/** Converts a stream with a strict call, and throws at the first error. */
+class Strict {
+    #convert;
+    #kind;
+    // The elements of the input and of the output have this many bytes.
+    #width;
+    #made;
+    #rest = new Uint8Array();
+    // How many bytes of the stream are converted, or were left out before.
+    #read;
+
+    /** `convert` takes bytes and returns bytes, and `widths` are those of both arrays. */
+    constructor(convert, widths, start = 0) {
+        this.#convert = convert;
+        this.#width = widths[0];
+        this.#kind = kindOf(this.#width);
+        this.#made = (bytes) => inWidth(bytes, widths[1]);
+        this.#read = start;
+    }
+
+    get pending() {
+        return inWidth(this.#rest.slice(), this.#width);
+    }
+
+    feed(chunk) {
+        const bytes = checked(chunk, this.#kind);
+        const found = [];
+        let [rest, read] = [this.#rest, this.#read];
+        for (let at = 0; at < bytes.length; at += SLICE) {
+            const slice = joined([rest, bytes.subarray(at, at + SLICE)]);
+            const progress = this.#convert(slice);
+            if (progress.status === "ill-formed") {
+                throw this.#error(read + progress.read, progress.errorLen);
+            }
+            found.push(progress.output);
+            rest = slice.slice(progress.read);
+            read += progress.read;
+        }
+        const output = this.#made(joined(found));
+        [this.#rest, this.#read] = [rest, read];
+        return output;
+    }
+
+    finish() {
+        if (this.#rest.length > 0) {
+            throw this.#error(this.#read, this.#rest.length);
+        }
+        this.#read = 0;
+        return this.#made(new Uint8Array());
+    }
+
+    #error(offset, length) {
+        return new IllFormedError(offset / this.#width, length / this.#width);
+    }
+}
+
+/** Decodes UTF-16 whose byte order its BOM gives, with the decoder that `made` returns. */
 class BomDecoder {
     #functions;
     #otherwise;
+    #made;
     #head = new Uint8Array();
     #decoder;
 
-    constructor(functions, otherwise = "be") {
-        takeOrder([otherwise]);
+    constructor(functions, otherwise, made) {
         this.#functions = functions;
         this.#otherwise = otherwise;
+        this.#made = made;
     }
 
     get pending() {
@@ -167,7 +238,7 @@ class BomDecoder {
     }
 
     finish() {
-        const decoder = this.#decoder ?? this.#functions.decoder(this.#otherwise);
+        const decoder = this.#decoder ?? this.#made(this.#otherwise, 0);
         // At most one byte, so it has no text yet.
         decoder.feed(this.#head);
         const text = decoder.finish();
@@ -177,7 +248,7 @@ class BomDecoder {
     }
 
     #begin(head, { order, len }) {
-        const decoder = this.#functions.decoder(order);
+        const decoder = this.#made(order, len);
         const text = decoder.feed(head.subarray(len));
         this.#head = new Uint8Array();
         this.#decoder = decoder;
@@ -194,18 +265,105 @@ function transform(coder) {
     });
 }
 
+/**
+ * Returns how many bytes at the end of UTF-16 are the start of a character: an odd byte, and before
+ * it a leading surrogate.
+ */
+function incompleteLen(bytes, order) {
+    const odd = bytes.length % 2;
+    const high = bytes[bytes.length - odd - (order === 1 ? 2 : 1)];
+    return high >> 2 === 0xd8 >> 2 ? odd + 2 : odd;
+}
+
+/** Decodes UTF-16 to strings, like the platform's TextDecoder. */
+export class Text {
+    #machine;
+    #form;
+    #options;
+    #rest = NOTHING;
+    // How many bytes of the stream are decoded.
+    #read = 0;
+
+    constructor(machine, form, { fatal = false, ignoreBOM = false }) {
+        this.#machine = machine;
+        this.#form = form;
+        this.#options = { fatal: Boolean(fatal), ignoreBOM: Boolean(ignoreBOM) };
+    }
+
+    get encoding() {
+        return `utf-16${ORDERS[this.#form.order]}`;
+    }
+
+    get fatal() {
+        return this.#options.fatal;
+    }
+
+    get ignoreBOM() {
+        return this.#options.ignoreBOM;
+    }
+
+    decode(chunk, { stream = false } = {}) {
+        const { order, width } = this.#form;
+        const given = chunk === undefined ? NOTHING : checked(chunk, kindOf(width));
+        const bytes = this.#rest.length > 0 ? joined([this.#rest, given]) : given;
+        // At the end of the stream an incomplete character is an error, which `#text` throws.
+        const rest = this.fatal && !stream ? 0 : incompleteLen(bytes, order);
+        const whole = bytes.length - rest;
+        const text = this.#text(rest > 0 ? bytes.subarray(0, whole) : bytes);
+        const hasBom = this.#read === 0 && !this.ignoreBOM && text.startsWith("\uFEFF");
+        this.#rest = rest > 0 && stream ? bytes.slice(whole) : NOTHING;
+        this.#read = stream ? this.#read + whole : 0;
+        return (hasBom ? text.slice(1) : text) + (rest > 0 && !stream ? "\uFFFD" : "");
+    }
+
+    /** Returns the string of bytes that end between characters. */
+    #text(bytes) {
+        const { order, width } = this.#form;
+        const len = this.#machine.putText(bytes);
+        const error = this.#machine.repairText(len, order, LE, this.fatal);
+        if (error) {
+            throw new IllFormedError((this.#read + error.at) / width, error.length / width);
+        }
+        return this.#machine.textString(len);
+    }
+}
+
 /** Returns the functions for streams. */
-export function streams(call, functions) {
-    const decoder = (order, otherwise) =>
-        order === "bom" ? new BomDecoder(functions, otherwise) : new Decoder(call, [order]);
-    const encoder = (order) => new Encoder(call, [order]);
-    const wtf8Decoder = (order) => new Decoder(call, [order], true);
+export function streams(machine, functions) {
+    const call = machine.call.bind(machine);
+    const coders = {
+        decoder(form, { fatal }, start) {
+            const convert = (bytes) => functions.toUtf8(bytes, ORDERS[form.order]);
+            return fatal ? new Strict(convert, [form.width, 1], start) : new Decoder(call, form);
+        },
+        encoder(form, { fatal }) {
+            const convert = (bytes) => functions.fromUtf8(bytes, ORDERS[form.order]);
+            return fatal ? new Strict(convert, [1, form.width]) : new Encoder(call, form);
+        },
+        wtf8Decoder: (form) => new Decoder(call, form, true),
+        textDecoder: (form, options) => new Text(machine, form, options),
+    };
+    const made = (name, words) => coders[name](takeForm(words), takeOptions(words));
+    const decoder = (...words) => {
+        if (words[0] !== "bom") {
+            return made("decoder", words);
+        }
+        const [, otherwise = "be", ...more] = words;
+        const options = takeOptions(more);
+        const begun = (order, len) => coders.decoder(takeForm([order]), options, len);
+        takeOrder([otherwise]);
+        return new BomDecoder(functions, otherwise, begun);
+    };
+    const encoder = (...words) => made("encoder", words);
+    const wtf8Decoder = (...words) => made("wtf8Decoder", words);
+    const textDecoder = (...words) => made("textDecoder", words);
     return {
         decoder,
         encoder,
         wtf8Decoder,
-        decoderStream: (order, otherwise) => transform(decoder(order, otherwise)),
-        encoderStream: (order) => transform(encoder(order)),
-        wtf8DecoderStream: (order) => transform(wtf8Decoder(order)),
+        textDecoder,
+        decoderStream: (...words) => transform(decoder(...words)),
+        encoderStream: (...words) => transform(encoder(...words)),
+        wtf8DecoderStream: (...words) => transform(wtf8Decoder(...words)),
     };
 }

@@ -80,6 +80,14 @@ check_types() {
         --moduleResolution nodenext --lib es2022,dom tests/types.mts)
 }
 
+# Whether a bundle of esbuild finds the module: in itself, and next to it.
+runs_bundled() {
+    (cd "$room" && esbuild tests/bundled.mjs --bundle --minify --format=esm \
+        --loader:.wasm=binary --log-level=warning --outfile=bundle/app.mjs) &&
+        cp "$room/node_modules/dethrux/dethrux.wasm" "$room/bundle/" &&
+        run_node bundle/app.mjs > "$room/found" && printf 'Grüße\nGrüße\n' | cmp - "$room/found"
+}
+
 # Whether the page is the same if it is built twice.
 builds_page() {
     "$top/site/build.py" "$room/first.html" && "$top/site/build.py" "$room/second.html" &&
@@ -88,7 +96,7 @@ builds_page() {
 
 test_node() {
     node=${NODE:-node}
-    need "$node:nodejs" npm:npm tsc:node-typescript python3:python3 || return
+    need "$node:nodejs" npm:npm tsc:node-typescript esbuild:esbuild python3:python3 || return
     check 'the package, twice' make_package || return
     check 'its installation' install_package || return
     counts 'the tests of the calls' unit_tests calls.test.mjs
@@ -99,6 +107,7 @@ test_node() {
     check 'the page has the first program' page_has_program
     check "the program of the package's page" program_of_package
     check 'the types' check_types
+    check 'a bundle' runs_bundled
 }
 
 test_page() {

@@ -3,10 +3,22 @@ import { readFileSync } from "node:fs";
 import { createServer } from "node:http";
 import { test } from "node:test";
 import vm from "node:vm";
-import { isSupported, load, stringOf, unitsOf } from "dethrux";
+import { IllFormedError, isSupported, load, stringOf, unitsOf } from "dethrux";
 import { CALLS } from "../node_modules/dethrux/calls.js";
 
+/** The library as in a browser, which has no Buffer. */
+async function loadWithoutBuffer() {
+    const { Buffer } = globalThis;
+    delete globalThis.Buffer;
+    try {
+        return await load();
+    } finally {
+        globalThis.Buffer = Buffer;
+    }
+}
+
 const dethrux = await load();
+const LIBRARIES = [dethrux, await loadWithoutBuffer()];
 const top = process.env.DETHRUX_TOP;
 const utf8 = (text) => new TextEncoder().encode(text);
 const le = (text) => new Uint8Array(unitsOf(text).buffer);
@@ -157,6 +169,46 @@ test("a capacity counts elements of the output", () => {
     assert.equal(dethrux.toUtf8(unitsOf("a"), Number.MAX_SAFE_INTEGER).status, "done");
 });
 
+/** Fails unless a conversion into an array writes what it returns with such a capacity. */
+function checkInto(name, array, order, Kind, isToUtf16) {
+    for (let room = 0; room < 20; room += 1) {
+        const [to, wanted] = [new Kind(room + 2).fill(9), new Kind(room + 2).fill(9)];
+        const inner = to.subarray(1, room + 1);
+        const orders = order ? [order] : [];
+        const { output, ...rest } = dethrux[name](array, ...(isToUtf16 ? [order] : orders), room);
+        const words = isToUtf16 ? [inner, ...orders] : [...orders, inner];
+        const found = dethrux[`${name}Into`](array, ...words);
+        assert.deepEqual(found, { ...rest, written: output.length }, `${name} ${room}`);
+        wanted.set(output, 1);
+        assert.deepEqual(to, wanted);
+    }
+}
+
+test("a conversion into an array of the caller gives what it gives without, and no more", () => {
+    const from = { toLatin1: "a\u00e9\u0100" };
+    for (const name of ["toUtf8", "toUtf8Lossy", "toUtf8Partial", "toWtf8", "toWtf8Partial", "toUtf32", "toUtf32Lossy"]) {
+        from[name] = "a\u00e9\u4e00\u{1f600}\udc00";
+    }
+    for (const [name, text] of Object.entries(from)) {
+        const Kind = name.startsWith("toUtf32") ? Uint32Array : Uint8Array;
+        checkInto(name, le(text), "le", Kind);
+        checkInto(name, be(text), "be", Kind);
+        checkInto(name, unitsOf(text), undefined, Kind);
+    }
+    const to = { fromUtf32: Uint32Array.of(0x61, 0x1f600, 0xd800), fromUtf8: utf8("a\u00e9\u{1f600}") };
+    to.fromUtf32Lossy = to.fromUtf32;
+    for (const name of ["fromUtf8Lossy", "fromWtf8", "fromWtf8Partial", "fromLatin1"]) {
+        to[name] = Uint8Array.of(0x61, 0xed, 0xa0, 0x80, 0xff);
+    }
+    for (const [name, array] of Object.entries(to)) {
+        checkInto(name, array, "le", Uint8Array, true);
+        checkInto(name, array, "be", Uint8Array, true);
+        checkInto(name, array, undefined, Uint16Array, true);
+    }
+    const names = Object.keys(dethrux).filter((it) => /^(to|from).*Into$/.test(it));
+    assert.deepEqual(names.sort(), Object.keys({ ...from, ...to }).map((it) => `${it}Into`).sort());
+});
+
 test("a length of UTF-16 counts code units or bytes", () => {
     assert.equal(dethrux.fromUtf8Len(utf8("a\u00e9")), 2);
     assert.equal(dethrux.fromUtf8Len(utf8("a\u00e9"), "be"), 4);
@@ -227,6 +279,16 @@ test("wrong arguments are refused", () => {
         () => dethrux.fromUtf8Len(bytes, "le", 1),
         () => dethrux.fromUtf8(bytes, "le", 2, 3),
         () => dethrux.floorCharBoundaryAround(bytes, "le", 0, 1),
+        () => dethrux.toUtf8Into(bytes, "le"),
+        () => dethrux.toUtf8Into(bytes, "le", 2),
+        () => dethrux.toUtf8Into(bytes, "le", bytes, 2),
+        () => dethrux.toUtf32Into(bytes, "le", bytes),
+        () => dethrux.fromUtf8Into(bytes, bytes),
+        () => dethrux.fromUtf8Into(bytes, unitsOf("a"), "le"),
+        () => dethrux.fromUtf8Into(bytes, "le", bytes),
+        () => dethrux.decoder("le", "le"),
+        () => dethrux.decoder("bom", "le", true),
+        () => dethrux.encoder("le", true),
         () => dethrux.shardOffset(4, 2, 1, 1),
         () => dethrux.swapByteOrder(bytes, 1),
         () => dethrux.makeWellFormed(bytes, "le", 1),
@@ -294,4 +356,202 @@ test("a module as bytes, compiled, and at a URL", async () => {
     await assert.rejects(load(Uint8Array.from(ofVersion1)), /module has another version/);
     await assert.rejects(load(new URL("file:///no/such/file")), /ENOENT/);
     await assert.rejects(load(Uint8Array.of(1, 2, 3)), WebAssembly.CompileError);
+});
+
+const BYTES = { le, be };
+const OPTIONS = [false, true].flatMap((fatal) => [false, true].map((ignoreBOM) => ({ fatal, ignoreBOM })));
+
+// Letters, a BOM in either byte order, and the first and the last surrogates of both kinds.
+const MARKS = ["", "a", "\u00ff", "\ufeff", "\ufffe", "\ud7ff", "\ud800", "\udbff", "\udc00", "\udfff", "\ue000"];
+const PAIRS = MARKS.flatMap((first) => MARKS.map((second) => first + second));
+const TEXTS = PAIRS.flatMap((pair) => MARKS.map((third) => pair + third));
+
+/** What a call returns, or that it throws. */
+function outcome(call) {
+    try {
+        return call();
+    } catch (error) {
+        assert.ok(error instanceof TypeError, error.stack);
+        return "throws";
+    }
+}
+
+/** Each text in a byte order, also with an odd byte that begins another character or none. */
+function* inputs(order, texts) {
+    for (const text of texts) {
+        for (const odd of [[], [0x61], [0xd8], [0xdc]]) {
+            yield Uint8Array.of(...BYTES[order](text), ...odd);
+        }
+    }
+}
+
+test("decode gives what TextDecoder gives", () => {
+    for (const order of ["le", "be"]) {
+        for (const options of OPTIONS) {
+            const platform = new TextDecoder(`utf-16${order}`, options);
+            for (const bytes of inputs(order, TEXTS)) {
+                const wanted = outcome(() => platform.decode(bytes));
+                for (const library of LIBRARIES) {
+                    const found = outcome(() => library.decode(bytes, order, options));
+                    assert.equal(found, wanted, `${order} ${JSON.stringify(options)} ${bytes}`);
+                }
+            }
+        }
+    }
+});
+
+test("decode on code units is decode on their bytes", () => {
+    for (const text of TEXTS) {
+        for (const options of OPTIONS) {
+            const found = outcome(() => dethrux.decode(unitsOf(text), options));
+            assert.equal(found, outcome(() => dethrux.decode(le(text), "le", options)));
+        }
+    }
+});
+
+/** The string of a stream that is cut at these places. */
+function streamed(decoder, bytes, places) {
+    let [text, start] = ["", 0];
+    for (const place of places) {
+        text += decoder.decode(bytes.subarray(start, place), { stream: true });
+        start = place;
+    }
+    return text + decoder.decode(bytes.subarray(start));
+}
+
+test("a stream that is cut anywhere gives what TextDecoder gives for the whole", () => {
+    for (const order of ["le", "be"]) {
+        for (const options of OPTIONS) {
+            const platform = new TextDecoder(`utf-16${order}`, options);
+            for (const bytes of inputs(order, PAIRS)) {
+                const places = Array.from(bytes, (_, at) => at);
+                const wanted = outcome(() => platform.decode(bytes));
+                for (const cuts of [places, ...places.map((it) => [it])]) {
+                    const decoder = dethrux.textDecoder(order, options);
+                    const found = outcome(() => streamed(decoder, bytes, cuts));
+                    assert.equal(found, wanted, `${order} ${JSON.stringify(options)} ${bytes} ${cuts}`);
+                }
+            }
+        }
+    }
+});
+
+test("a decoder to strings has the properties of TextDecoder, and begins a new stream", () => {
+    const decoder = dethrux.textDecoder("be", { fatal: 1 });
+    assert.deepEqual([decoder.encoding, decoder.fatal, decoder.ignoreBOM], ["utf-16be", true, false]);
+    assert.equal(dethrux.textDecoder("le", { ignoreBOM: true }).ignoreBOM, true);
+    for (let round = 0; round < 2; round += 1) {
+        assert.equal(decoder.decode(be("\ufeffa\ud83d"), { stream: true }), "a");
+        assert.equal(decoder.decode(be("\ude00\ufeff")), "\u{1f600}\ufeff");
+        assert.equal(decoder.decode(), "");
+    }
+    const units = dethrux.textDecoder();
+    assert.equal(units.decode(Uint16Array.of(0xd83d), { stream: true }), "");
+    assert.equal(units.decode(Uint16Array.of(0xde00)), "\u{1f600}");
+    assert.equal(units.decode(Uint16Array.of(0xd83d), { stream: true }) + units.decode(), "\ufffd");
+});
+
+/** Whether a call throws that something is ill formed there. */
+function isIllFormed(call, offset, length) {
+    assert.throws(call, (error) => {
+        assert.ok(error instanceof IllFormedError && error instanceof TypeError);
+        assert.deepEqual([error.name, error.offset, error.length], ["IllFormedError", offset, length]);
+        return error.message.includes(`offset ${offset}`);
+    });
+}
+
+test("a fatal error says where it is, in elements", () => {
+    const fatal = true;
+    for (const order of ["le", "be"]) {
+        const bytes = BYTES[order];
+        isIllFormed(() => dethrux.decode(bytes("\udc00a"), order, { fatal }), 0, 2);
+        isIllFormed(() => dethrux.decode(bytes("\ufeffa\ud800b"), order, { fatal }), 4, 2);
+        isIllFormed(() => dethrux.decode(bytes("ab\ud800"), order, { fatal }), 4, 2);
+        isIllFormed(() => dethrux.decode(Uint8Array.of(...bytes("a\ud800"), 0), order, { fatal }), 2, 3);
+        isIllFormed(() => dethrux.decode(bytes("a").subarray(0, 1), order, { fatal }), 0, 1);
+        isIllFormed(() => dethrux.encode("\u00e9\udc00", order, { fatal }), 1, 1);
+    }
+    isIllFormed(() => dethrux.decode(unitsOf("ab\udc00"), { fatal }), 2, 1);
+    isIllFormed(() => dethrux.decode(unitsOf("ab\ud800"), { fatal }), 2, 1);
+    isIllFormed(() => dethrux.encode("ab\ud800", undefined, { fatal }), 2, 1);
+    isIllFormed(() => dethrux.encodeInto("\ud800a", new Uint16Array(2), { fatal }), 0, 1);
+});
+
+test("an error in a stream of strings has its offset in the stream, and changes nothing", () => {
+    const decoder = dethrux.textDecoder("le", { fatal: true });
+    assert.equal(decoder.decode(le("ab\ud83d"), { stream: true }), "ab");
+    isIllFormed(() => decoder.decode(le("a"), { stream: true }), 4, 2);
+    isIllFormed(() => decoder.decode(), 4, 2);
+    isIllFormed(() => decoder.decode(Uint8Array.of(0)), 4, 3);
+    assert.equal(decoder.decode(le("\ude00")), "\u{1f600}");
+    isIllFormed(() => decoder.decode(le("\ude00")), 0, 2);
+});
+
+test("encode gives what Buffer gives for a well-formed string", () => {
+    for (const text of TEXTS) {
+        const wanted = text.toWellFormed();
+        for (const library of LIBRARIES) {
+            const raw = () => Buffer.from(wanted, "utf16le");
+            assert.deepEqual(library.encode(text, "le"), new Uint8Array(raw()));
+            assert.deepEqual(library.encode(text, "be"), new Uint8Array(raw().swap16()));
+            assert.deepEqual(library.encode(text), unitsOf(wanted));
+            const isWhole = outcome(() => library.encode(text, "be", { fatal: true })) !== "throws";
+            assert.equal(isWhole, text.isWellFormed());
+        }
+    }
+});
+
+test("encodeInto writes the characters that fit", () => {
+    for (const text of ["a\u{1f600}\ud800", "\u{1f600}b", "\ud800\ud83d\ude00", ""]) {
+        const wanted = text.toWellFormed();
+        for (let room = 0; room < 12; room += 1) {
+            const [bytes, units] = [new Uint8Array(room).fill(9), new Uint16Array(room).fill(9)];
+            const fitting = (most) => {
+                const cut = wanted.slice(0, most);
+                return cut.isWellFormed() ? cut : cut.slice(0, -1);
+            };
+            const [inBytes, inUnits] = [fitting(room >> 1), fitting(room)];
+            assert.deepEqual(dethrux.encodeInto(text, bytes, "be"), { read: inBytes.length, written: inBytes.length * 2 });
+            assert.deepEqual(bytes.subarray(0, inBytes.length * 2), be(inBytes));
+            assert.ok(bytes.subarray(inBytes.length * 2).every((it) => it === 9));
+            assert.deepEqual(dethrux.encodeInto(text, units), { read: inUnits.length, written: inUnits.length });
+            assert.deepEqual(units.subarray(0, inUnits.length), unitsOf(inUnits));
+            assert.ok(units.subarray(inUnits.length).every((it) => it === 9));
+        }
+    }
+});
+
+test("a long string, for which the memory grows", async () => {
+    const text = "\u4e00\u{1f600}".repeat(1_000_000);
+    for (const order of ["le", "be"]) {
+        const library = await load();
+        const bytes = library.encode(text, order);
+        assert.ok(Buffer.from(bytes).equals(BYTES[order](text)));
+        assert.ok((await load()).decode(bytes, order) === text);
+    }
+});
+
+test("wrong arguments of strings are refused", () => {
+    const bytes = le("a");
+    const wrong = [
+        () => dethrux.decode(bytes),
+        () => dethrux.decode(bytes, "utf-16le"),
+        () => dethrux.decode("a", "le"),
+        () => dethrux.decode(unitsOf("a"), "le"),
+        () => dethrux.decode(bytes, "le", "fatal"),
+        () => dethrux.decode(bytes, "le", {}, {}),
+        () => dethrux.encode(bytes, "le"),
+        () => dethrux.encode("a", "bom"),
+        () => dethrux.encode("a", { fatal: true }),
+        () => dethrux.encodeInto("a", bytes),
+        () => dethrux.encodeInto("a", unitsOf("a"), "le"),
+        () => dethrux.encodeInto(bytes, bytes, "le"),
+        () => dethrux.textDecoder("bom"),
+        () => dethrux.textDecoder("le", true),
+        () => dethrux.textDecoder("le").decode(unitsOf("a")),
+        () => dethrux.textDecoder().decode(bytes),
+    ];
+    for (const call of wrong) {
+        assert.throws(call, (error) => error instanceof TypeError && !(error instanceof IllFormedError), String(call));
+    }
 });

@@ -1,6 +1,6 @@
 import assert from "node:assert/strict";
 import { test } from "node:test";
-import { load, stringOf, unitsOf } from "dethrux";
+import { IllFormedError, load, stringOf, unitsOf } from "dethrux";
 
 const dethrux = await load();
 const utf8 = (text) => new TextEncoder().encode(text);
@@ -216,4 +216,107 @@ test("a wrong chunk changes nothing", () => {
     decoder.feed(Uint8Array.of(0x3d));
     assert.throws(() => decoder.feed("a"), TypeError);
     assert.deepEqual(decoder.pending, Uint8Array.of(0x3d));
+});
+
+const WHOLE = "a\u00e9\u4e00\u{1f600}\ufeffb";
+const fatal = true;
+const be = (text) => new Uint8Array(Buffer.from(text, "utf16le").swap16());
+
+/** Whether a call throws that something is ill formed there. */
+function isIllFormed(call, offset, length) {
+    assert.throws(call, (error) => {
+        assert.ok(error instanceof IllFormedError);
+        assert.deepEqual([error.offset, error.length], [offset, length]);
+        return true;
+    });
+}
+
+test("strict streams of well-formed text, cut anywhere", async () => {
+    const cases = [
+        [() => dethrux.decoderStream("le", { fatal }), le(WHOLE), utf8(WHOLE)],
+        [() => dethrux.decoderStream("be", { fatal }), be(WHOLE), utf8(WHOLE)],
+        [() => dethrux.decoderStream(undefined, { fatal }), unitsOf(WHOLE), utf8(WHOLE)],
+        [() => dethrux.decoderStream("bom", "be", { fatal }), le(`\ufeff${WHOLE}`), utf8(WHOLE)],
+        [() => dethrux.decoderStream("bom", "be", { fatal }), be(WHOLE), utf8(WHOLE)],
+        [() => dethrux.encoderStream("le", { fatal }), utf8(WHOLE), le(WHOLE)],
+        [() => dethrux.encoderStream("be", { fatal }), utf8(WHOLE), be(WHOLE)],
+        [() => dethrux.encoderStream(undefined, { fatal }), utf8(WHOLE), le(WHOLE)],
+    ];
+    const asBytes = (it) => new Uint8Array(it.buffer, it.byteOffset, it.byteLength);
+    for (const [through, array, wanted] of cases) {
+        assert.deepEqual(together((await passed(singly(array), through())).map(asBytes)), wanted);
+        for (let cut = 0; cut <= array.length; cut += 1) {
+            const chunks = [array.subarray(0, cut), array.subarray(cut)];
+            assert.deepEqual(together((await passed(chunks, through())).map(asBytes)), wanted);
+        }
+    }
+});
+
+test("a strict stream says where its first error is, wherever it is cut", () => {
+    // What is well formed, then the error with its length, and what follows.
+    const [lead, euro] = [le("\ud83d"), [0xe2, 0x82]];
+    const cases = [
+        [() => dethrux.decoder("le", { fatal }), [], le("\udc00"), le("a")],
+        [() => dethrux.decoder("le", { fatal }), le("a\u{1f600}"), lead, le("b")],
+        [() => dethrux.decoder("be", { fatal }), be("\ufeffa"), be("\udc00"), []],
+        [() => dethrux.decoder("le", { fatal }), le("a"), [...lead, 0x61], []],
+        [() => dethrux.decoder("le", { fatal }), le("a"), [0x61], []],
+        [() => dethrux.decoder("bom", "be", { fatal }), le("\ufeffa"), lead, le("b")],
+        [() => dethrux.decoder("bom", "be", { fatal }), be("a"), be("\ud800"), be("b")],
+        [() => dethrux.decoder("bom", "be", { fatal }), [], [0xff], []],
+        [() => dethrux.encoder("le", { fatal }), utf8("a\u4e00"), euro, [0x28]],
+        [() => dethrux.encoder("be", { fatal }), [], [0xff], utf8("a")],
+        [() => dethrux.encoder(undefined, { fatal }), utf8("\u{1f600}"), euro, []],
+        [() => dethrux.encoder("le", { fatal }), [], [0xed], [0xa0, 0x80]],
+    ];
+    for (const [made, before, wrong, after] of cases) {
+        const all = Uint8Array.of(...before, ...wrong, ...after);
+        for (let cut = 0; cut <= all.length; cut += 1) {
+            const coder = made();
+            const parts = [all.subarray(0, cut), all.subarray(cut)];
+            const run = () => [...parts.map((it) => coder.feed(it)), coder.finish()];
+            isIllFormed(run, before.length, wrong.length);
+        }
+    }
+    const units = dethrux.decoder(undefined, { fatal });
+    isIllFormed(() => units.feed(unitsOf("a\u{1f600}\udc00")), 3, 1);
+    isIllFormed(() => units.feed(unitsOf("ab\ud800c")), 2, 1);
+});
+
+test("an error changes nothing in a strict stream", () => {
+    for (const [decoder, start] of [[dethrux.decoder("le", { fatal }), 0], [dethrux.decoder("bom", "be", { fatal }), 2]]) {
+        for (let round = 0; round < 2; round += 1) {
+            const bom = start > 0 ? "\ufeff" : "";
+            isIllFormed(() => decoder.feed(le(`${bom}a\udc00`)), start + 2, 2);
+            assert.deepEqual(decoder.feed(Uint8Array.of(...le(`${bom}a`), 0x3d)), utf8("a"));
+            isIllFormed(() => decoder.finish(), start + 2, 1);
+            isIllFormed(() => decoder.feed(Uint8Array.of(0xd8, 0x61, 0)), start + 2, 2);
+            assert.deepEqual(decoder.pending, Uint8Array.of(0x3d));
+            decoder.pending.fill(0);
+            assert.deepEqual(decoder.feed(Uint8Array.of(0xd8, 0, 0xde)), utf8("\u{1f600}"));
+            assert.deepEqual(decoder.finish(), new Uint8Array());
+        }
+    }
+    const encoder = dethrux.encoder(undefined, { fatal });
+    assert.deepEqual(encoder.feed(Uint8Array.of(0x61, 0xe2)), unitsOf("a"));
+    isIllFormed(() => encoder.feed(Uint8Array.of(0x41)), 1, 1);
+    assert.deepEqual(encoder.pending, Uint8Array.of(0xe2));
+    isIllFormed(() => encoder.finish(), 1, 1);
+    assert.deepEqual(encoder.feed(Uint8Array.of(0x82, 0xac)), unitsOf("\u20ac"));
+    assert.deepEqual(encoder.finish(), new Uint16Array());
+});
+
+test("a strict stream with chunks that are larger than a slice", () => {
+    const text = `${"x".repeat(32767)}\u{1f600}`.repeat(5);
+    const decoder = dethrux.decoder("le", { fatal });
+    assert.ok(Buffer.from(decoder.feed(le(text))).equals(utf8(text)));
+    isIllFormed(() => decoder.feed(le(`${text}\udc00`)), text.length * 4, 2);
+    const encoder = dethrux.encoder("be", { fatal });
+    assert.ok(Buffer.from(encoder.feed(utf8(text))).equals(be(text)));
+    isIllFormed(() => encoder.feed(together([utf8(text), Uint8Array.of(0xff)])), utf8(text).length * 2, 1);
+});
+
+test("a stream that fails says so to its reader", async () => {
+    await assert.rejects(passed([le("a"), le("\udc00")], dethrux.decoderStream("le", { fatal })), { offset: 2 });
+    await assert.rejects(passed([utf8("a"), Uint8Array.of(0xe2)], dethrux.encoderStream("le", { fatal })), { offset: 1 });
 });

@@ -1,5 +1,14 @@
 // Is compiled, not run: what the types allow, and below each @ts-expect-error what they do not.
-import { load, unitsOf, type Bom, type Progress, type Validity } from "dethrux";
+import {
+    IllFormedError,
+    load,
+    unitsOf,
+    type Bom,
+    type Progress,
+    type StringDecoder,
+    type Validity,
+    type Written,
+} from "dethrux";
 
 const dethrux = await load(new URL("file:///dethrux.wasm"));
 const bytes = new Uint8Array(2);
@@ -22,9 +31,36 @@ const pending: Uint16Array = dethrux.decoder().pending;
 const text: ReadableStream<Uint8Array> = new ReadableStream<Uint8Array>().pipeThrough(
     dethrux.decoderStream("bom", "le"),
 );
+const word: string = dethrux.decode(bytes, "be", { fatal: true, ignoreBOM: true });
+dethrux.decode(units, { fatal: true });
+const encoded: Uint8Array = dethrux.encode("a", "le", { fatal: true });
+const asUnits: Uint16Array = dethrux.encode("a");
+const { read }: { read: number } = dethrux.encodeInto("a", bytes, "le");
+dethrux.encodeInto("a", units, { fatal: true });
+const written: Written = dethrux.toUtf8Into(bytes, "le", bytes);
+dethrux.toUtf32LossyInto(units, new Uint32Array(1));
+dethrux.fromUtf8Into(bytes, bytes, "be");
+dethrux.fromUtf32Into(new Uint32Array(1), units);
+const strings: StringDecoder<Uint8Array> = dethrux.textDecoder("le", { ignoreBOM: true });
+const last: string = strings.decode(bytes, { stream: true }) + strings.decode();
+dethrux.decoderStream("bom", "le", { fatal: true });
+const strict = (error: unknown): number => (error instanceof IllFormedError ? error.offset : -1);
+const ofUnits: Uint8Array = dethrux.decoder(undefined, { fatal: true }).feed(units);
 
 // @ts-expect-error: bytes have a byte order
 dethrux.validate(bytes);
+// @ts-expect-error: bytes have a byte order
+dethrux.decode(bytes, { fatal: true });
+// @ts-expect-error: a string is encoded, not bytes
+dethrux.encode(bytes, "le");
+// @ts-expect-error: the byte order follows the bytes that are written
+dethrux.fromUtf8Into(bytes, "le", bytes);
+// @ts-expect-error: UTF-32 is written to code units of 32 bits
+dethrux.toUtf32Into(units, units);
+// @ts-expect-error: there is no such option
+dethrux.decoder("le", { strict: true });
+// @ts-expect-error: a BOM is not a byte order of a string decoder
+dethrux.textDecoder("bom");
 // @ts-expect-error: code units have no byte order
 dethrux.validate(units, "le");
 // @ts-expect-error: there is no such byte order
@@ -42,4 +78,5 @@ dethrux.toUtf7(bytes);
 // @ts-expect-error: there is no such status
 validity.status = "valid";
 
-export { bom, isBoundary, largePart, nul, part, pending, place, points, raw, text, utf8, words };
+export { asUnits, bom, encoded, isBoundary, largePart, last, nul, ofUnits, part, pending, place };
+export { points, raw, read, strict, text, utf8, word, words, written };
