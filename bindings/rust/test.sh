@@ -88,7 +88,9 @@ test_dynamic() {
 
 test_utf16string() {
     count 'utf16string' on_crate utf16string test
+    count 'utf16string without byteorder' on_crate utf16string test --no-default-features
     count 'a program of utf16string 0.2' test_patch
+    count 'a program of utf16string where there is no byteorder' test_without_byteorder
     count 'the documentation of utf16string' documented utf16string doc --no-deps
     lint utf16string
 }
@@ -118,6 +120,23 @@ fn main() {
 END
     (cd "$project" && cargo build --offline --quiet) || return
     [ "$("$CARGO_TARGET_DIR/debug/patched")" = 'hi!' ]
+}
+
+# A program of utf16string whose registry has only the crates of the build script.
+test_without_byteorder() {
+    local project=$room/alone/project
+    mkdir -p "$project/src" "$room/alone/.cargo" "$room/alone/registry"
+    ln -s "$registry"/{cc,pkg-config}-[0-9]* "$room/alone/registry"
+    sed "s|^directory.*|directory = '$room/alone/registry'|" "$room/.cargo/config.toml" \
+        > "$room/alone/.cargo/config.toml"
+    printf '%s\n' '[package]' 'name = "project"' 'version = "0.1.0"' 'edition = "2021"' \
+        '[dependencies]' \
+        "utf16string = { path = '$here/utf16string', default-features = false }" \
+        > "$project/Cargo.toml"
+    sed 's/^use byteorder::.*/use utf16string::{ByteOrder, LE};/' "$room/patched/src/main.rs" \
+        > "$project/src/main.rs"
+    (cd "$project" && cargo build --offline --quiet) || return
+    [ "$("$CARGO_TARGET_DIR/debug/project")" = 'hi!' ]
 }
 
 # Prints the first block of the page that is in a language.
@@ -269,12 +288,12 @@ package() {
         ls "$room/dethrux-$(< "$top/VERSION")"/{LICENSE-APACHE,LICENSE-MIT,THIRD-PARTY.md}
 }
 
-# Runs the build script for a target as cargo does, with words for env.
+# Runs the build script for a target as cargo does, in `folder`, with words for env.
 run_build_script() {
     local target=$1
     shift
     rm -rf "$room/made" && mkdir "$room/made" &&
-        (cd "$here/dethrux" && env -u DETHRUX_LIB_DIR -u CC -u AR CARGO_FEATURE_BUNDLED= \
+        (cd "$folder" && env -u DETHRUX_LIB_DIR -u CC -u AR CARGO_FEATURE_BUNDLED= \
             OPT_LEVEL=0 HOST="$host" TARGET="$target" OUT_DIR="$room/made" "$@" "$build_script")
 }
 
@@ -284,7 +303,7 @@ makes() {
     shift 3
     run_build_script "$target" "$@" && (cd "$room/made" && ar t libdethrux.a) |
         sed -E 's/^[0-9a-f]{16}-//' | paste -sd ' ' | diff - <(echo "$files") || return
-    "${format%:*}-objdump" -f "$room/made/libdethrux.a" > "$room/formats" &&
+    "${format%:*}-objdump" -h "$room/made/libdethrux.a" > "$room/formats" &&
         [ "$(grep -c "file format ${format#*:}\$" "$room/formats")" = "$(wc -w <<< "$files")" ]
 }
 
@@ -310,13 +329,24 @@ refuses_target() {
     ! run_build_script "$1" > "$room/said.txt" 2> "$room/line" && diff "$room/line" - <<< "error: $2"
 }
 
+# Targets without assembly.
+test_other_targets() {
+    local target said
+    said='build for one of x86_64-unknown-linux-{gnu,musl}, aarch64-unknown-linux-{gnu,musl},'
+    said+=' x86_64-pc-windows-gnu, x86_64-apple-darwin, aarch64-apple-darwin, or set'
+    said+=' DETHRUX_LIB_DIR to the folder of a libdethrux.a for this target'
+    for target in x86_64-pc-windows-msvc riscv64gc-unknown-linux-gnu; do
+        count "$target" refuses_target $target "there is no assembly for $target: $said"
+    done
+}
+
 # What the build script compiles for other targets than this machine. cargo needs the standard
 # library of a target, so the script that it built before runs with cargo's variables.
 test_targets() {
-    local arm=aarch64-linux-gnu windows=x86_64-w64-mingw32 target said build_script
+    local arm=aarch64-linux-gnu windows=x86_64-w64-mingw32 target build_script
+    local folder=$here/dethrux
     build_script=$(find "$CARGO_TARGET_DIR" -path '*/dethrux-*/build-script-build' | head -n 1)
-    said='there is no assembly for x86_64-pc-windows-msvc: set DETHRUX_LIB_DIR to the folder of a'
-    count 'a target without assembly' refuses_target x86_64-pc-windows-msvc "$said library"
+    test_other_targets
     for target in x86_64-unknown-linux-{gnu,musl}; do
         count "$target" makes $target x86_64-linux-gnu:elf64-x86-64 linux-x86-64-v2.o
     done
@@ -332,12 +362,17 @@ test_targets() {
     count 'x86_64-pc-windows-gnu' makes x86_64-pc-windows-gnu $windows:pe-x86-64 \
         'windows-x86-64-v2.o windows.o'
     count 'a program for Windows' links_for_windows
+    count 'x86_64-apple-darwin' makes x86_64-apple-darwin 'llvm:mach-o 64-bit x86-64' \
+        macos-x86-64-v2.o CC=clang
+    count 'aarch64-apple-darwin' makes aarch64-apple-darwin 'llvm:mach-o arm64' \
+        macos-aarch64.o CC=clang
 }
 
 library=${DETHRUX_LIB_DIR:-$top/crates/dethrux/out}/libdethrux.a
 for pair in cargo:cargo rustc:rustc cc:gcc ar:binutils make:make pkg-config:pkg-config \
     cmp:diffutils python3:python3 \
     x86_64-linux-gnu-gcc:gcc aarch64-linux-gnu-gcc:gcc-aarch64-linux-gnu \
+    clang:clang llvm-objdump:llvm \
     qemu-aarch64:qemu-user x86_64-w64-mingw32-gcc:gcc-mingw-w64-x86-64; do
     command -v "${pair%:*}" > /dev/null ||
         fail "there is no ${pair%:*}: apt-get install ${pair#*:}"

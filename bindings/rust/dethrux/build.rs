@@ -15,6 +15,19 @@ int main(void) {
     return printf(\"%u.%u.%u\", found / 1000000, found / 1000 % 1000, found % 1000) < 0;
 }";
 
+/// The targets for which `dist/src` has assembly, and its files. Assembly needs no libc, so that for
+/// glibc is also for musl.
+const TARGETS: [(&str, &[&str]); 5] = [
+    ("x86_64-unknown-linux-gnu", &["linux-x86-64-v2.s"]),
+    ("aarch64-unknown-linux-gnu", &["linux-aarch64.s"]),
+    (
+        "x86_64-pc-windows-gnu",
+        &["windows-x86-64-v2.s", "windows.c"],
+    ),
+    ("x86_64-apple-darwin", &["macos-x86-64-v2.s"]),
+    ("aarch64-apple-darwin", &["macos-aarch64.s"]),
+];
+
 /// The target features of the level x86-64-v3 that its assembly uses.
 const V3: [&str; 7] = ["avx2", "bmi1", "bmi2", "f16c", "fma", "lzcnt", "movbe"];
 
@@ -120,26 +133,27 @@ fn compile(dist: &Path) -> Result<(), String> {
     let target = env::var("TARGET").unwrap_or_default();
     let features = env::var("CARGO_CFG_TARGET_FEATURE").unwrap_or_default();
     let has = |name: &&str| features.split(',').any(|it| it == *name);
-    // Assembly needs no libc, so the compiler for glibc serves for musl.
+    // The compiler for glibc serves for musl.
     let glibc = target.replace("-musl", "-gnu");
-    let sources: &[&str] = match glibc.as_str() {
-        "x86_64-unknown-linux-gnu" if V3.iter().all(has) => &["linux-x86-64-v3.s"],
-        "x86_64-unknown-linux-gnu" => &["linux-x86-64-v2.s"],
-        "aarch64-unknown-linux-gnu" => &["linux-aarch64.s"],
-        "x86_64-pc-windows-gnu" => &["windows-x86-64-v2.s", "windows.c"],
-        _ => {
-            return Err(format!(
-                "there is no assembly for {target}: set DETHRUX_LIB_DIR to the folder of a library"
-            ))
-        }
-    };
+    let found = TARGETS.into_iter().find(|(name, _)| *name == glibc);
+    let (_, mut sources) = found.ok_or_else(|| {
+        let names = TARGETS.map(|(name, _)| name).join(", ");
+        let names = names.replace("linux-gnu", "linux-{gnu,musl}");
+        format!(
+            "there is no assembly for {target}: build for one of {names}, or set DETHRUX_LIB_DIR \
+             to the folder of a libdethrux.a for this target"
+        )
+    })?;
+    if glibc == "x86_64-unknown-linux-gnu" && V3.iter().all(has) {
+        sources = &["linux-x86-64-v3.s"];
+    }
     let mut build = cc::Build::new();
     build
         .opt_level(2)
         .debug(false)
         .include(dist.join("include"));
-    for name in sources {
-        let source = dist.join("src").join(name);
+    for source in sources {
+        let source = dist.join("src").join(source);
         println!("cargo:rerun-if-changed={}", source.display());
         build.file(source);
     }
@@ -152,6 +166,9 @@ fn compile(dist: &Path) -> Result<(), String> {
     }
     result.map_err(|error| {
         eprintln!("{error}");
-        format!("the assembly does not compile for {target}: set CC to gcc or clang, or DETHRUX_LIB_DIR")
+        format!(
+            "the assembly does not compile for {target}: set CC to gcc or clang, or \
+             DETHRUX_LIB_DIR"
+        )
     })
 }

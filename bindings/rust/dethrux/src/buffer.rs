@@ -9,45 +9,51 @@ use alloc::vec::Vec;
 use crate::Progress;
 
 mod sealed {
-    pub trait Sealed {
-        /// Returns where the bytes are, and how many.
-        fn raw(&mut self) -> (*mut u8, usize);
+    pub trait Sealed<T> {
+        /// Returns where the elements are, and how many.
+        fn raw(&mut self) -> (*mut T, usize);
     }
+
+    /// What a call writes: a byte, or a code unit of UTF-32.
+    pub trait Element {}
+    impl Element for u8 {}
+    impl Element for u32 {}
 }
 
-pub(crate) use sealed::Sealed;
+pub(crate) use sealed::{Element, Sealed};
 
-/// Bytes that a call writes to: a slice or an array of `u8` or of `MaybeUninit<u8>`.
+/// Elements that a call writes to: a slice or an array of `T` or of `MaybeUninit<T>`. `T` is `u8`,
+/// or for UTF-32 `u32`.
 ///
-/// After a call only the first `written` bytes have a meaning, and these are initialized. Pass a
+/// After a call only the first `written` elements have a meaning, and these are initialized. Pass a
 /// vector as `&mut vec[..]`, or its `spare_capacity_mut()`.
-pub trait Buffer: Sealed {}
+pub trait Buffer<T = u8>: Sealed<T> {}
 
-impl Buffer for [u8] {}
-impl Buffer for [MaybeUninit<u8>] {}
-impl<const N: usize> Buffer for [u8; N] {}
-impl<const N: usize> Buffer for [MaybeUninit<u8>; N] {}
+impl<T: Element> Buffer<T> for [T] {}
+impl<T: Element> Buffer<T> for [MaybeUninit<T>] {}
+impl<T: Element, const N: usize> Buffer<T> for [T; N] {}
+impl<T: Element, const N: usize> Buffer<T> for [MaybeUninit<T>; N] {}
 
-impl Sealed for [u8] {
-    fn raw(&mut self) -> (*mut u8, usize) {
+impl<T: Element> Sealed<T> for [T] {
+    fn raw(&mut self) -> (*mut T, usize) {
         (self.as_mut_ptr(), self.len())
     }
 }
 
-impl Sealed for [MaybeUninit<u8>] {
-    fn raw(&mut self) -> (*mut u8, usize) {
+impl<T: Element> Sealed<T> for [MaybeUninit<T>] {
+    fn raw(&mut self) -> (*mut T, usize) {
         (self.as_mut_ptr().cast(), self.len())
     }
 }
 
-impl<const N: usize> Sealed for [u8; N] {
-    fn raw(&mut self) -> (*mut u8, usize) {
+impl<T: Element, const N: usize> Sealed<T> for [T; N] {
+    fn raw(&mut self) -> (*mut T, usize) {
         self[..].raw()
     }
 }
 
-impl<const N: usize> Sealed for [MaybeUninit<u8>; N] {
-    fn raw(&mut self) -> (*mut u8, usize) {
+impl<T: Element, const N: usize> Sealed<T> for [MaybeUninit<T>; N] {
+    fn raw(&mut self) -> (*mut T, usize) {
         self[..].raw()
     }
 }

@@ -7,20 +7,24 @@ use crate::{ffi, Buffer, ByteOrder};
 pub enum Status {
     /// All of the input was read.
     Done,
-    /// What was read is followed by an ill-formed sequence of this many bytes. Resume after it.
+    /// What was read is followed by an ill-formed sequence of this many bytes, in UTF-32 code units.
+    /// Resume after it.
     IllFormed(usize),
     /// The input ends inside a character.
     Incomplete,
     /// The next character does not fit. Call again with the rest.
     NoSpace,
+    /// The next character is above U+00FF. Only [`to_latin1`](crate::to_latin1) returns this.
+    NotLatin1,
 }
 
-/// How far a call came. Both numbers count bytes, and both ends are between characters.
+/// How far a call came. Both numbers count bytes, or code units of UTF-32, and both ends are between
+/// characters.
 #[derive(Clone, Copy, Debug, Eq, PartialEq)]
 pub struct Progress {
-    /// The bytes of the input that were read.
+    /// How much of the input was read.
     pub read: usize,
-    /// The bytes that were written to the start of the buffer.
+    /// How much was written to the start of the buffer.
     pub written: usize,
     /// Why the call stopped.
     pub status: Status,
@@ -32,7 +36,8 @@ impl From<ffi::Progress> for Progress {
             0 => Status::Done,
             1 => Status::IllFormed(raw.error_len as usize),
             2 => Status::Incomplete,
-            _ => Status::NoSpace,
+            3 => Status::NoSpace,
+            _ => Status::NotLatin1,
         };
         Progress {
             read: raw.read,
@@ -43,15 +48,15 @@ impl From<ffi::Progress> for Progress {
 }
 
 /// Calls one of the library's conversions.
-pub(crate) fn convert<B: Buffer + ?Sized>(
-    call: ffi::Convert,
+pub(crate) fn convert<F, T, B: Buffer<T> + ?Sized>(
+    call: ffi::Convert<F, T>,
     order: ByteOrder,
-    from: &[u8],
+    from: &[F],
     to: &mut B,
 ) -> Progress {
     let (to, capacity) = to.raw();
     // SAFETY: the pointers and the lengths come from two slices that do not overlap, since one is
-    // borrowed mutably. The calls write only initialized bytes.
+    // borrowed mutably. The calls write only initialized elements.
     unsafe { call(order, from.as_ptr(), from.len(), to, capacity) }.into()
 }
 

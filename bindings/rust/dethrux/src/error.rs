@@ -1,5 +1,8 @@
 use core::fmt;
 
+#[cfg(feature = "alloc")]
+use crate::{Progress, Status};
+
 /// The bytes are not well-formed UTF-16. It has the fields of std's [`Utf8Error`].
 ///
 /// [`Utf8Error`]: core::str::Utf8Error
@@ -22,6 +25,23 @@ impl Utf16Error {
     #[must_use]
     pub fn error_len(&self) -> Option<usize> {
         self.error_len.map(usize::from)
+    }
+}
+
+impl Utf16Error {
+    /// Returns the error of a conversion that had enough capacity, or `None` if it read all.
+    #[cfg(feature = "alloc")]
+    pub(crate) fn after(progress: Progress) -> Option<Self> {
+        let error_len = match progress.status {
+            Status::Done => return None,
+            Status::IllFormed(len) => Some(len as u8),
+            _ => None,
+        };
+        let valid_up_to = progress.read;
+        Some(Utf16Error {
+            valid_up_to,
+            error_len,
+        })
     }
 }
 

@@ -21,15 +21,71 @@ use crate::{ffi, ByteOrder, Utf16Error};
 pub fn validate(order: ByteOrder, utf16: &[u8]) -> Result<(), Utf16Error> {
     // SAFETY: the pointer and the length come from a slice.
     let found = unsafe { ffi::dethrux_validate(order, utf16.as_ptr(), utf16.len()) };
-    let error_len = match found.status {
-        0 => return Ok(()),
-        1 => Some(found.error_len as u8),
-        _ => None,
-    };
-    Err(Utf16Error {
-        valid_up_to: found.valid_up_to,
-        error_len,
+    error(found.valid_up_to, found.status, found.error_len).map_or(Ok(()), Err)
+}
+
+/// Returns the error that a status of the library is, or `None` for its `DETHRUX_DONE`.
+fn error(valid_up_to: usize, status: u32, error_len: u32) -> Option<Utf16Error> {
+    (status != 0).then_some(Utf16Error {
+        valid_up_to,
+        error_len: (status == 1).then_some(error_len as u8),
     })
+}
+
+/// A repertoire, a set of characters. Each contains the ones before it.
+#[derive(Clone, Copy, Debug, Eq, Hash, Ord, PartialEq, PartialOrd)]
+pub enum Repertoire {
+    /// U+0000 to U+007F.
+    Ascii,
+    /// U+0000 to U+00FF, ISO 8859-1.
+    Latin1,
+    /// U+0000 to U+FFFF, the Basic Multilingual Plane: no surrogate pair.
+    Bmp,
+    /// U+0000 to U+10FFFF, all characters.
+    Unicode,
+}
+
+/// The longest well-formed prefix, what characters it has, and what follows it.
+#[derive(Clone, Copy, Debug, Eq, PartialEq)]
+pub struct Inspection {
+    /// The length of the longest well-formed prefix, in bytes.
+    pub valid_up_to: usize,
+    /// The number of its characters.
+    pub chars: usize,
+    /// The smallest repertoire that has all of them.
+    pub repertoire: Repertoire,
+    /// What [`validate`] returns: the error about what follows the prefix, or `None` if nothing
+    /// does.
+    pub error: Option<Utf16Error>,
+}
+
+/// Returns the longest well-formed prefix, the number of its characters, and the smallest
+/// repertoire that has them. For well-formed input this takes one pass.
+///
+/// ```
+/// use dethrux::{inspect, ByteOrder::BigEndian, Repertoire};
+///
+/// // "é", and half of a surrogate pair.
+/// let found = inspect(BigEndian, b"\0\xE9\xD8\x3D");
+/// assert_eq!((found.valid_up_to, found.chars), (2, 1));
+/// assert_eq!(found.repertoire, Repertoire::Latin1);
+/// assert_eq!(found.error.unwrap().error_len(), None);
+/// ```
+#[must_use]
+pub fn inspect(order: ByteOrder, utf16: &[u8]) -> Inspection {
+    // SAFETY: the pointer and the length come from a slice.
+    let found = unsafe { ffi::dethrux_inspect(order, utf16.as_ptr(), utf16.len()) };
+    Inspection {
+        valid_up_to: found.valid_up_to,
+        chars: found.chars,
+        repertoire: match found.repertoire {
+            0 => Repertoire::Ascii,
+            1 => Repertoire::Latin1,
+            2 => Repertoire::Bmp,
+            _ => Repertoire::Unicode,
+        },
+        error: error(found.valid_up_to, found.status, found.error_len),
+    }
 }
 
 /// Returns the number of characters (scalar values). For ill-formed input: the number of complete

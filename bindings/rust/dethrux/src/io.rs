@@ -15,15 +15,20 @@
 //! # std::io::Result::Ok(())
 //! ```
 
-use std::io::{Error, ErrorKind, Read, Result, Write};
+use std::io::{BufRead, Error, ErrorKind, Read, Result, Write};
+use std::mem;
 use std::vec::Vec;
 
 use crate::buffer::append;
 use crate::stream::sealed::Sealed;
-use crate::{detect_bom, ByteOrder, Decoder, Encoder};
+use crate::{detect_bom, to_utf8, Buffer, ByteOrder, Decoder, Encoder};
+use crate::{Progress, Status, Utf16Error};
 
 /// The size of the buffer of an adapter.
 const BUFFER_LEN: usize = 8192;
+
+/// The longest character: a conversion to this many bytes writes something.
+const LONGEST: usize = 4;
 
 /// A [`Decoder`] or an [`Encoder`].
 pub trait Transcoder: Sealed {}
@@ -31,10 +36,38 @@ pub trait Transcoder: Sealed {}
 impl Transcoder for Decoder {}
 impl Transcoder for Encoder {}
 
-/// Converts what it reads: UTF-16 to UTF-8 with a [`Decoder`], UTF-8 to UTF-16 with an [`Encoder`].
+/// Makes a [`Reader`] return an error for what is ill formed: see [`Reader::strict`].
+#[derive(Clone, Debug)]
+pub struct Strict {
+    order: ByteOrder,
+}
+
+/// It leaves an incomplete character unread, and writes nothing at the end.
+impl Sealed for Strict {
+    fn feed<B: Buffer + ?Sized>(&mut self, bytes: &[u8], to: &mut B) -> Progress {
+        to_utf8(self.order, bytes, to)
+    }
+
+    fn finish_to(&mut self, _: &mut [u8]) -> usize {
+        0
+    }
+}
+
+/// Converts what it reads: UTF-16 to UTF-8 with a [`Decoder`], or strictly with
+/// [`strict`](Reader::strict), UTF-8 to UTF-16 with an [`Encoder`].
 ///
 /// An error of the inner reader is returned unchanged, and reading may continue after it. You can
-/// read into a buffer of any length; a character may be cut.
+/// read into a buffer of any length; a character may be cut. As a `BufRead` it has `lines`:
+///
+/// ```
+/// use dethrux::{io::Reader, ByteOrder::LittleEndian};
+/// use std::io::BufRead;
+///
+/// let utf16 = b"\xFF\xFEh\0\n\0i\0";
+/// let lines = Reader::with_bom(&utf16[..], LittleEndian)?.lines();
+/// assert_eq!(lines.collect::<Result<Vec<_>, _>>()?, ["h", "i"]);
+/// # std::io::Result::Ok(())
+/// ```
 #[derive(Debug)]
 pub struct Reader<R, T> {
     inner: R,
@@ -43,27 +76,36 @@ pub struct Reader<R, T> {
     input: Vec<u8>,
     start: usize,
     end: usize,
-    /// The last bytes of a conversion to a buffer that was too short for a character.
-    short: [u8; 4],
-    short_start: usize,
-    short_end: usize,
+    /// The offset of `start` in the stream.
+    offset: usize,
+    /// Bytes that were converted for `fill_buf`, or for a buffer that is too short for a character;
+    /// the ones in `output_start..output_end` are not taken yet. It is empty before the first.
+    output: Vec<u8>,
+    output_start: usize,
+    output_end: usize,
     is_finished: bool,
 }
 
 impl<R: Read, T: Transcoder> Reader<R, T> {
     /// Returns a reader of the converted stream. It has a buffer, so the inner reader needs none.
     pub fn new(inner: R, transcoder: T) -> Self {
-        let input = std::vec![0; BUFFER_LEN];
-        let short = [0; 4];
+        Reader::start(inner, transcoder)
+    }
+}
+
+impl<R, T> Reader<R, T> {
+    /// Returns a reader at the start of its stream.
+    fn start(inner: R, transcoder: T) -> Self {
         Reader {
             inner,
             transcoder,
-            input,
+            input: std::vec![0; BUFFER_LEN],
             start: 0,
             end: 0,
-            short,
-            short_start: 0,
-            short_end: 0,
+            offset: 0,
+            output: Vec::new(),
+            output_start: 0,
+            output_end: 0,
             is_finished: false,
         }
     }
@@ -78,46 +120,100 @@ impl<R: Read, T: Transcoder> Reader<R, T> {
         &self.inner
     }
 
+    /// Returns an error about what is not converted yet.
+    fn error(&self, error_len: Option<u8>) -> Error {
+        let valid_up_to = self.offset;
+        Error::from(Utf16Error {
+            valid_up_to,
+            error_len,
+        })
+    }
+}
+
+impl<R: Read, T: Sealed> Reader<R, T> {
+    /// Returns a reader in the byte order that the mark at the start of the stream gives.
+    fn marked(inner: R, default_order: ByteOrder, make: fn(ByteOrder) -> T) -> Result<Self> {
+        let mut reader = Reader::start(inner, make(default_order));
+        while reader.end < 2 {
+            match reader.inner.read(&mut reader.input[reader.end..2]) {
+                Ok(0) => break,
+                Ok(read) => reader.end += read,
+                Err(error) if error.kind() == ErrorKind::Interrupted => {}
+                Err(error) => return Err(error),
+            }
+        }
+        if let Some(bom) = detect_bom(&reader.input[..reader.end], default_order) {
+            reader.transcoder = make(bom.byte_order);
+            reader.start = bom.len;
+            reader.offset = bom.len;
+        }
+        Ok(reader)
+    }
+
+    /// Reads after the bytes that are not converted yet. Returns whether there was anything.
+    fn fill(&mut self) -> Result<bool> {
+        self.input.copy_within(self.start..self.end, 0);
+        self.end -= self.start;
+        self.start = 0;
+        let read = self.inner.read(&mut self.input[self.end..])?;
+        self.end += read;
+        Ok(read > 0)
+    }
+
     /// Converts until something is written to `to`, which has 4 bytes or more. At the end it
     /// returns 0.
     fn convert(&mut self, to: &mut [u8]) -> Result<usize> {
         while !self.is_finished {
-            if self.start == self.end {
-                self.start = 0;
-                self.end = 0;
-                self.end = self.inner.read(&mut self.input)?;
-                if self.end == 0 {
-                    self.is_finished = true;
-                    return Ok(self.transcoder.finish_to(to));
-                }
-            }
             let progress = self.transcoder.feed(&self.input[self.start..self.end], to);
             self.start += progress.read;
+            self.offset = self.offset.saturating_add(progress.read);
             if progress.written > 0 {
                 return Ok(progress.written);
+            }
+            if let Status::IllFormed(len) = progress.status {
+                return Err(self.error(Some(len as u8)));
+            }
+            if !self.fill()? {
+                if self.start < self.end {
+                    return Err(self.error(None));
+                }
+                self.is_finished = true;
+                return Ok(self.transcoder.finish_to(to));
             }
         }
         Ok(0)
     }
 }
 
-impl<R: Read, T: Transcoder> Read for Reader<R, T> {
+impl<R: Read, T: Sealed> Read for Reader<R, T> {
     fn read(&mut self, to: &mut [u8]) -> Result<usize> {
+        if to.len() >= LONGEST && self.output_start == self.output_end {
+            return self.convert(to);
+        }
         if to.is_empty() {
             return Ok(0);
         }
-        if self.short_start == self.short_end {
-            if to.len() >= self.short.len() {
-                return self.convert(to);
-            }
-            let mut short = self.short;
-            self.short_end = self.convert(&mut short)?;
-            self.short = short;
-            self.short_start = 0;
-        }
-        let read = (&self.short[self.short_start..self.short_end]).read(to)?;
-        self.short_start += read;
+        let read = self.fill_buf()?.read(to)?;
+        self.consume(read);
         Ok(read)
+    }
+}
+
+impl<R: Read, T: Sealed> BufRead for Reader<R, T> {
+    fn fill_buf(&mut self) -> Result<&[u8]> {
+        if self.output_start == self.output_end {
+            let mut output = mem::take(&mut self.output);
+            output.resize(BUFFER_LEN, 0);
+            let converted = self.convert(&mut output);
+            self.output = output;
+            self.output_end = converted?;
+            self.output_start = 0;
+        }
+        Ok(&self.output[self.output_start..self.output_end])
+    }
+
+    fn consume(&mut self, len: usize) {
+        self.output_start = self.output_end.min(self.output_start.saturating_add(len));
     }
 }
 
@@ -142,20 +238,42 @@ impl<R: Read> Reader<R, Decoder> {
     /// # std::io::Result::Ok(())
     /// ```
     pub fn with_bom(inner: R, default_order: ByteOrder) -> Result<Self> {
-        let mut reader = Reader::new(inner, Decoder::new(default_order));
-        while reader.end < 2 {
-            match reader.inner.read(&mut reader.input[reader.end..2]) {
-                Ok(0) => break,
-                Ok(read) => reader.end += read,
-                Err(error) if error.kind() == ErrorKind::Interrupted => {}
-                Err(error) => return Err(error),
-            }
-        }
-        if let Some(bom) = detect_bom(&reader.input[..reader.end], default_order) {
-            reader.transcoder = Decoder::new(bom.byte_order);
-            reader.start = bom.len;
-        }
-        Ok(reader)
+        Reader::marked(inner, default_order, Decoder::new)
+    }
+}
+
+impl<R: Read> Reader<R, Strict> {
+    /// Returns a reader of the text of UTF-16 that replaces nothing. After the text before the
+    /// first ill-formed sequence, or before an incomplete character at the end, each read returns
+    /// an error of the kind `InvalidData`. In it is a [`Utf16Error`], whose offset counts bytes
+    /// from the start of the stream, with its byte order mark; above `usize::MAX` it is
+    /// `usize::MAX`.
+    ///
+    /// So stop after an error: `lines` returns it again and again.
+    ///
+    /// ```
+    /// use dethrux::{io::Reader, ByteOrder::LittleEndian, Utf16Error};
+    /// use std::io::{ErrorKind, Read};
+    ///
+    /// let mut text = String::new();
+    /// let mut reader = Reader::strict(&b"h\0i\0\0\xDC!\0"[..], LittleEndian);
+    /// let error = reader.read_to_string(&mut text).unwrap_err();
+    /// assert_eq!(error.kind(), ErrorKind::InvalidData);
+    /// let inner = error.get_ref().and_then(|inner| inner.downcast_ref::<Utf16Error>());
+    /// assert_eq!(inner.unwrap().valid_up_to(), 4);
+    /// ```
+    pub fn strict(inner: R, order: ByteOrder) -> Self {
+        Reader::start(inner, Strict { order })
+    }
+
+    /// Returns a reader like [`strict`](Reader::strict), in the byte order of the byte order mark,
+    /// like [`with_bom`](Reader::with_bom).
+    ///
+    /// # Errors
+    ///
+    /// Like [`with_bom`](Reader::with_bom).
+    pub fn strict_with_bom(inner: R, default_order: ByteOrder) -> Result<Self> {
+        Reader::marked(inner, default_order, |order| Strict { order })
     }
 }
 

@@ -1,5 +1,5 @@
-//! UTF-16 in either byte order, to and from UTF-8, through the C library `libdethrux`, whose calls
-//! are proved correct for all inputs.
+//! UTF-16 in either byte order, to and from UTF-8, UTF-32, Latin-1 and WTF-8, through the C library
+//! `libdethrux`, whose calls are proved correct for all inputs.
 //!
 #![cfg_attr(feature = "alloc", doc = "```")]
 #![cfg_attr(not(feature = "alloc"), doc = "```ignore")]
@@ -19,18 +19,21 @@
 //!   and others that read; [`swap_byte_order`] and [`make_well_formed`], in place; [`to_utf8`],
 //!   [`from_utf8`] and others between your buffers; [`Decoder`] and [`Encoder`] for streams;
 //!   [`Utf16Chunks`]; [`display`].
-//! - [`to_wtf8`], [`from_wtf8`] and others for WTF-8, which keeps unpaired surrogates;
-//!   [`os_string_from_units`] and [`units_from_os_str`] with the feature `std`.
+//! - [`to_utf32`], [`from_utf32`], [`to_latin1`], [`from_latin1`] and others; [`inspect`], which
+//!   says what a text needs.
+//! - [`to_wtf8`], [`from_wtf8`] and others for WTF-8, which keeps unpaired surrogates; its streams
+//!   [`Wtf8Decoder`] and [`Wtf8Encoder`]; [`os_string_from_units`] and [`units_from_os_str`] with
+//!   the feature `std`.
 //! - Feature `alloc`: [`decode`], [`decode_lossy`], [`encode`] and others that return a `String` or
 //!   a `Vec`.
-//! - Feature `std`, the default: [`io::Reader`] and [`io::Writer`]; `Error` for [`Utf16Error`],
-//!   [`UnitsError`] and [`Wtf8Error`], and their conversions to `std::io::Error`.
+//! - Feature `std`, the default: [`io::Reader`], strict and lossy, and [`io::Writer`]; `Error` for
+//!   the errors, and their conversions to `std::io::Error`.
 //! - Feature `bundled`: compiles the library with the C compiler, even if one is installed.
 //! - Feature `dynamic`: links `libdethrux.so` instead of `libdethrux.a`.
 //!
-//! Lengths and offsets count bytes, except in [`UnitsError`]. Only [`detect_bom`] and
-//! [`io::Reader::with_bom`] look for a byte order mark; to every other call it is the character
-//! U+FEFF.
+//! Lengths and offsets count bytes. In UTF-32, and in [`UnitsError`], they count code units. Only
+//! [`detect_bom`], [`io::Reader::with_bom`] and [`io::Reader::strict_with_bom`] look for a byte
+//! order mark; to every other call it is the character U+FEFF.
 //!
 //! # Panics and allocation
 //!
@@ -38,7 +41,8 @@
 //! like `Vec`, once, for the longest result: without memory the allocator's handler runs, and a
 //! capacity above `isize::MAX` panics. The capacity of what they return is at most three times its
 //! length, or a few bytes.
-//! [`io::Reader`] and [`io::Writer`] allocate one buffer each, when they are made.
+//! [`io::Reader`] and [`io::Writer`] allocate one buffer each, when they are made, and a reader
+//! another one when it is first used as a `BufRead` or for fewer than 4 bytes.
 //!
 //! # Threads
 //!
@@ -62,6 +66,7 @@ mod convert;
 mod display;
 mod error;
 mod ffi;
+mod fixed;
 mod inspect;
 #[cfg(feature = "std")]
 pub mod io;
@@ -71,6 +76,7 @@ mod stream;
 mod text;
 mod units;
 mod wtf8;
+mod wtf8_stream;
 
 pub use bom::{detect_bom, Bom};
 pub use buffer::Buffer;
@@ -81,10 +87,17 @@ pub use convert::{
 };
 pub use display::{display, Display};
 pub use error::Utf16Error;
+pub use fixed::{
+    chars_as_utf32, from_latin1, from_utf32, from_utf32_lossy, from_utf32_lossy_len,
+    from_utf32_max_len, to_latin1, to_utf32, to_utf32_lossy, to_utf32_lossy_len, to_utf32_max_len,
+    utf32_as_chars, validate_utf32, Utf32Error,
+};
+#[cfg(feature = "alloc")]
+pub use fixed::{decode_to_chars, decode_to_chars_lossy, encode_from_latin1, encode_from_utf32};
 pub use inspect::{
     compare, count_chars, find, floor_char_boundary, floor_char_boundary_around, from_utf8_len,
-    from_utf8_lossy_len, from_utf8_replacements, is_ascii, is_char_boundary, nul_offset, rfind,
-    shard_offset, to_utf8_lossy_len, to_utf8_replacements, validate,
+    from_utf8_lossy_len, from_utf8_replacements, inspect, is_ascii, is_char_boundary, nul_offset,
+    rfind, shard_offset, to_utf8_lossy_len, to_utf8_replacements, validate, Inspection, Repertoire,
 };
 pub use order::ByteOrder;
 pub use stream::{Decoder, Encoder};
@@ -101,6 +114,7 @@ pub use wtf8::{
 };
 #[cfg(all(feature = "std", any(unix, windows)))]
 pub use wtf8::{os_string_from_units, units_from_os_str};
+pub use wtf8_stream::{Wtf8Decoder, Wtf8Encoder};
 
 /// Returns the version of the library: major, minor and patch.
 ///

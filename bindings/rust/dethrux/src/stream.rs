@@ -7,27 +7,43 @@ use alloc::{string::String, vec::Vec};
 
 use crate::{ffi, Buffer, ByteOrder, Progress};
 
-/// A stream of either kind: its byte order, and the bytes that are not converted yet.
+/// A stream: its byte order, and the bytes that are not converted yet.
 #[derive(Clone, Debug)]
-struct Stream {
-    order: ByteOrder,
-    state: ffi::State,
+pub(crate) struct Stream<const N: usize = 3> {
+    pub(crate) order: ByteOrder,
+    pub(crate) state: ffi::State<N>,
 }
 
-impl Stream {
+impl<const N: usize> Stream<N> {
     /// Returns the start of a stream.
-    const fn new(order: ByteOrder) -> Self {
+    pub(crate) const fn new(order: ByteOrder) -> Self {
         let state = ffi::State::START;
         Stream { order, state }
     }
 
     /// Converts the next chunk, with one of the library's calls.
-    fn feed<B: Buffer + ?Sized>(&mut self, call: ffi::Feed, chunk: &[u8], to: &mut B) -> Progress {
+    pub(crate) fn feed<B: Buffer + ?Sized>(
+        &mut self,
+        call: ffi::Feed<N>,
+        chunk: &[u8],
+        to: &mut B,
+    ) -> Progress {
         let (to, capacity) = to.raw();
         let (state, order) = (&mut self.state, self.order);
         // SAFETY: the pointers and the lengths come from slices, of which the mutable ones overlap
         // no other.
         unsafe { call(state, order, chunk.as_ptr(), chunk.len(), to, capacity) }.into()
+    }
+
+    /// Ends the stream, with one of the library's calls.
+    pub(crate) fn finish<B: Buffer + ?Sized>(
+        &mut self,
+        call: ffi::Finish<N>,
+        to: &mut B,
+    ) -> Progress {
+        let (to, capacity) = to.raw();
+        // SAFETY: the pointer and the length come from a mutable slice.
+        unsafe { call(&mut self.state, self.order, to, capacity) }.into()
     }
 }
 
@@ -221,9 +237,7 @@ impl Encoder {
 
     /// Ends the stream and begins another. Returns how many bytes were written.
     fn finish_to(&mut self, to: &mut [u8]) -> usize {
-        let (order, state) = (self.stream.order, &mut self.stream.state);
-        // SAFETY: the pointer and the length come from a mutable slice.
-        unsafe { ffi::dethrux_encoder_finish(state, order, to.as_mut_ptr(), to.len()) }.written
+        self.stream.finish(ffi::dethrux_encoder_finish, to).written
     }
 }
 

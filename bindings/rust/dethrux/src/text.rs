@@ -8,7 +8,7 @@ use alloc::{string::String, vec::Vec};
 use crate::buffer::{append, filled, trimmed};
 use crate::{from_utf8, from_utf8_lossy, from_utf8_max_len};
 use crate::{to_utf8, to_utf8_lossy, to_utf8_max_len};
-use crate::{units_as_bytes, ByteOrder, Status, UnitsError, Utf16Error};
+use crate::{units_as_bytes, ByteOrder, UnitsError, Utf16Error};
 
 /// Returns the text of UTF-16.
 ///
@@ -44,16 +44,13 @@ pub fn decode_to(order: ByteOrder, utf16: &[u8], to: &mut String) -> Result<(), 
     let max_len = to_utf8_max_len(utf16.len());
     // SAFETY: the library initializes what it wrote.
     let progress = unsafe { append(bytes, max_len, |spare| to_utf8(order, utf16, spare)) };
-    let error_len = match progress.status {
-        Status::Done => return Ok(()),
-        Status::IllFormed(len) => Some(len as u8),
-        Status::Incomplete | Status::NoSpace => None,
-    };
-    bytes.truncate(len);
-    Err(Utf16Error {
-        valid_up_to: progress.read,
-        error_len,
-    })
+    match Utf16Error::after(progress) {
+        None => Ok(()),
+        Some(error) => {
+            bytes.truncate(len);
+            Err(error)
+        }
+    }
 }
 
 /// Returns the text of bytes that may be ill-formed UTF-16, with U+FFFD for each unpaired surrogate

@@ -131,7 +131,7 @@ fn tested<T>((made, progress): (T, Progress)) -> Result<T, Wtf8Error> {
     let error_len = match progress.status {
         Status::Done => return Ok(made),
         Status::IllFormed(len) => Some(len as u8),
-        Status::Incomplete | Status::NoSpace => None,
+        _ => None,
     };
     Err(Wtf8Error {
         valid_up_to: progress.read,
@@ -156,13 +156,7 @@ pub fn decode_to_wtf8(order: ByteOrder, utf16: &[u8]) -> Result<Vec<u8>, Utf16Er
     let max_len = to_wtf8_max_len(utf16.len());
     // SAFETY: the library initializes what it wrote.
     let (wtf8, progress) = unsafe { filled(max_len, |spare| to_wtf8(order, utf16, spare)) };
-    match progress.status {
-        Status::Done => Ok(wtf8),
-        _ => Err(Utf16Error {
-            valid_up_to: progress.read,
-            error_len: None,
-        }),
-    }
+    Utf16Error::after(progress).map_or(Ok(wtf8), Err)
 }
 
 /// Returns WTF-8 in UTF-16, with each surrogate as one code unit.

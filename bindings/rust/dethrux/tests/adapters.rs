@@ -2,8 +2,8 @@
 
 use dethrux::io::{Reader, Writer};
 use dethrux::ByteOrder::{self, BigEndian, LittleEndian};
-use dethrux::{decode_lossy, encode, encode_lossy, Decoder, Encoder};
-use std::io::{Error, ErrorKind, Read, Result, Write};
+use dethrux::{decode_lossy, encode, encode_lossy, Decoder, Encoder, Utf16Error};
+use std::io::{BufRead, Error, ErrorKind, Read, Result, Write};
 
 /// A text with characters of each length, longer than a buffer of an adapter.
 fn text() -> String {
@@ -416,4 +416,202 @@ fn a_reader_reads_nothing_for_an_empty_buffer() {
     let mut reader = Reader::new(&b"\0a"[..], Decoder::new(BigEndian));
     assert_eq!(reader.read(&mut []).unwrap(), 0);
     assert_eq!(reader.into_inner(), b"\0a");
+}
+
+/// The bytes of code units, and an odd byte at the end if it is to be there.
+fn bytes(order: ByteOrder, units: &[u16], odd: &[u8]) -> Vec<u8> {
+    let bytes = |unit: &u16| match order {
+        LittleEndian => unit.to_le_bytes(),
+        BigEndian => unit.to_be_bytes(),
+    };
+    units
+        .iter()
+        .flat_map(bytes)
+        .chain(odd.iter().copied())
+        .collect()
+}
+
+/// The offset and the length of an error about the UTF-16 of a strict reader.
+fn fields(error: &Error) -> (usize, Option<usize>) {
+    assert_eq!(error.kind(), ErrorKind::InvalidData);
+    let inner = error.get_ref().and_then(|inner| inner.downcast_ref());
+    let inner: &Utf16Error = inner.expect("an error about UTF-16");
+    (inner.valid_up_to(), inner.error_len())
+}
+
+/// Reads through a buffer of `len` bytes to the end or to an error about the UTF-16, which comes
+/// again. Other errors are only counted.
+fn read_strictly(mut reader: impl Read, len: usize) -> (String, Option<(usize, Option<usize>)>) {
+    let (mut all, mut buffer) = (Vec::new(), vec![0; len]);
+    let end = loop {
+        match reader.read(&mut buffer) {
+            Ok(0) => break None,
+            Ok(read) => all.extend(&buffer[..read]),
+            Err(error) if error.kind() == ErrorKind::InvalidData => break Some(fields(&error)),
+            Err(_) => {}
+        }
+    };
+    for _ in 0..2 {
+        let again = reader.read(&mut buffer);
+        assert_eq!(
+            again.map_err(|error| fields(&error)),
+            end.map_or(Ok(0), Err)
+        );
+    }
+    (String::from_utf8(all).unwrap(), end)
+}
+
+/// Code units, and their text before the first error, which the second value is, and the third if
+/// an odd byte is at the end.
+type Strict = (
+    &'static [u16],
+    &'static str,
+    Option<(usize, Option<usize>)>,
+    (usize, Option<usize>),
+);
+
+const STRICT: [Strict; 8] = [
+    (&[], "", None, (0, None)),
+    (
+        &[0x61, 0xD83D, 0xDE00, 0x2605],
+        "a\u{1F600}★",
+        None,
+        (8, None),
+    ),
+    (&[0xFEFF, 0x61], "\u{FEFF}a", None, (4, None)),
+    (&[0xDC00, 0x61], "", Some((0, Some(2))), (0, Some(2))),
+    (&[0x61, 0xD800, 0x62], "a", Some((2, Some(2))), (2, Some(2))),
+    (
+        &[0x61, 0xD800, 0xD800, 0xDC00],
+        "a",
+        Some((2, Some(2))),
+        (2, Some(2)),
+    ),
+    (
+        &[0x61, 0x62, 0xDC00],
+        "ab",
+        Some((4, Some(2))),
+        (4, Some(2)),
+    ),
+    (&[0x61, 0xD800], "a", Some((2, None)), (2, None)),
+];
+
+#[test]
+fn a_strict_reader_stops_at_the_first_error_wherever_the_stream_is_cut() {
+    for order in [LittleEndian, BigEndian] {
+        for (units, text, even, odd) in STRICT {
+            for (utf16, end) in [
+                (bytes(order, units, b""), even),
+                (bytes(order, units, b"\xD8"), Some(odd)),
+            ] {
+                for (len, buffer_len) in (1..6).flat_map(|len| (1..9).map(move |it| (len, it))) {
+                    let wanted = (text.to_string(), end);
+                    let steps = Steps::new(utf16.chunks(len).map(Ok));
+                    let reader = Reader::strict(steps, order);
+                    assert_eq!(read_strictly(reader, buffer_len), wanted, "{utf16:X?}");
+                    let reader = Reader::strict(Steps::slow(&utf16, len), order);
+                    assert_eq!(read_strictly(reader, buffer_len), wanted, "{utf16:X?}");
+                }
+            }
+        }
+    }
+}
+
+#[test]
+fn a_strict_reader_counts_from_the_start_of_the_stream() {
+    for (order, mark) in [(LittleEndian, 0xFEFF), (BigEndian, 0xFEFF)] {
+        let mut units: Vec<u16> = text().encode_utf16().collect();
+        let len = 2 * units.len();
+        units.extend([0xDC00, 0x61]);
+        for buffer_len in [3, 100, 100_000] {
+            let utf16 = bytes(order, &units, b"");
+            let found = read_strictly(Reader::strict(&utf16[..], order), buffer_len);
+            assert!(found == (text(), Some((len, Some(2)))));
+            let marked = [bytes(order, &[mark], b""), utf16].concat();
+            for default_order in [LittleEndian, BigEndian] {
+                let reader = Reader::strict_with_bom(&marked[..], default_order).unwrap();
+                let found = read_strictly(reader, buffer_len);
+                assert!(found == (text(), Some((len + 2, Some(2)))));
+            }
+            let reader = Reader::strict_with_bom(&marked[2..], order).unwrap();
+            assert!(read_strictly(reader, buffer_len) == (text(), Some((len, Some(2)))));
+        }
+    }
+    let reader = Reader::strict_with_bom(&b"\xFF"[..], LittleEndian).unwrap();
+    assert_eq!(read_strictly(reader, 9), (String::new(), Some((0, None))));
+    let error = Reader::strict_with_bom(Steps::new([Err(fault("at once"))]), LittleEndian);
+    assert_eq!(error.unwrap_err().to_string(), "at once");
+}
+
+#[test]
+fn std_reads_on_after_an_interruption() {
+    let interrupted = || Err(Error::from(ErrorKind::Interrupted));
+    let steps = || {
+        let bytes = b"h\0\x3D\xD8\0\xDE\n\0i\0".chunks(1).map(Ok);
+        Steps::new(bytes.flat_map(|byte| [interrupted(), byte, interrupted()]))
+    };
+    let mut found = String::new();
+    Reader::strict(steps(), LittleEndian)
+        .read_to_string(&mut found)
+        .unwrap();
+    assert_eq!(found, "h\u{1F600}\ni");
+    let lines = Reader::strict(steps(), LittleEndian).lines();
+    assert_eq!(
+        lines.collect::<Result<Vec<_>>>().unwrap(),
+        ["h\u{1F600}", "i"]
+    );
+    let lines = Reader::new(steps(), Decoder::new(LittleEndian)).lines();
+    assert_eq!(
+        lines.collect::<Result<Vec<_>>>().unwrap(),
+        ["h\u{1F600}", "i"]
+    );
+}
+
+#[test]
+fn lines_may_be_cut_anywhere_and_end_with_an_error() {
+    let text = "aß★\u{1F600}\r\n\n".repeat(3000) + "end";
+    for (order, len) in [(LittleEndian, 1), (BigEndian, 3), (LittleEndian, 100_000)] {
+        let utf16 = encode(order, &text);
+        let reader = || Reader::new(Steps::new(utf16.chunks(len).map(Ok)), Decoder::new(order));
+        assert!(reader()
+            .lines()
+            .map(Result::unwrap)
+            .eq(text.lines().map(String::from)));
+        let mut back = Vec::new();
+        let read = Reader::new(text.as_bytes(), Encoder::new(order)).read_until(0xD8, &mut back);
+        assert!(utf16.starts_with(&back) && read.unwrap() > 0 && back.ends_with(b"\xD8"));
+    }
+    let steps = vec![
+        Ok(&b"\0h\0\n\0i"[..]),
+        Err(fault("2")),
+        Ok(b"\0\n\0j\xDC"),
+        Ok(b"\0"),
+    ];
+    let mut lines = Reader::strict(Steps::new(steps), BigEndian).lines();
+    assert_eq!(lines.next().unwrap().unwrap(), "h");
+    assert_eq!(lines.next().unwrap().unwrap_err().to_string(), "2");
+    assert_eq!(lines.next().unwrap().unwrap(), "");
+    assert_eq!(fields(&lines.next().unwrap().unwrap_err()), (10, Some(2)));
+    assert_eq!(fields(&lines.next().unwrap().unwrap_err()), (10, Some(2)));
+}
+
+#[test]
+fn both_ways_to_read_take_turns() {
+    let (utf16, utf8) = (encode(BigEndian, &text()), text().into_bytes());
+    let mut reader = Reader::new(&utf16[..], Decoder::new(BigEndian));
+    let (mut all, mut turn) = (Vec::new(), 0);
+    while all.len() < utf8.len() {
+        turn += 1;
+        let mut buffer = [0; 5000];
+        let read = reader.read(&mut buffer[..turn * 7 % 5000]).unwrap();
+        all.extend(&buffer[..read]);
+        let found = reader.fill_buf().unwrap();
+        let len = found.len().min(turn % 300);
+        all.extend(&found[..len]);
+        reader.consume(len);
+        assert!(utf8.starts_with(&all), "turn {turn}");
+    }
+    assert_eq!(reader.fill_buf().unwrap(), b"");
+    reader.consume(3);
+    assert_eq!(reader.read(&mut [0; 9]).unwrap(), 0);
 }

@@ -71,7 +71,7 @@ enum Call {
 use Call::{Any, Raw, RawAndRaw, RawAndWord, ToBytes, ToText, WordAndRaw};
 
 #[rustfmt::skip]
-const CALLS: [(&str, Call); 44] = [
+const CALLS: [(&str, Call); 56] = [
     ("to_utf8", ToText(to_utf8)),
     ("to_utf8_partial", ToText(to_utf8_partial)),
     ("to_utf8_lossy", ToText(to_utf8_lossy)),
@@ -120,6 +120,18 @@ const CALLS: [(&str, Call); 44] = [
     ("AnyLossy::every_chunking", Raw(every_any_chunking)),
     ("Lossy::feed", Any(lossy_feed)),
     ("decode_pieces", Any(|order, values| one(text(fed(order, pieces(values)?))))),
+    ("feed_wtf8", Any(wtf8_decoded)),
+    ("Wtf8Stream::feed", Any(wtf8_encoded)),
+    ("inspect", Raw(inspected)),
+    ("to_utf32", RawAndWord(|order, utf16, room| in_utf32(to_utf32, order, utf16, room))),
+    ("to_utf32_lossy", RawAndWord(|order, utf16, room| in_utf32(to_utf32_lossy, order, utf16, room))),
+    ("to_utf32_lossy_len", Raw(|order, utf16| one(to_utf32_lossy_len(order, utf16)))),
+    ("from_utf32", RawAndWord(|order, raw, room| of_utf32(from_utf32, order, raw, room))),
+    ("from_utf32_lossy", RawAndWord(|order, raw, room| of_utf32(from_utf32_lossy, order, raw, room))),
+    ("from_utf32_lossy_len", Raw(|_, raw| one(from_utf32_lossy_len(&units_of(raw))))),
+    ("validate_utf32", Raw(|_, raw| utf32_validity(raw))),
+    ("to_latin1", RawAndWord(|order, utf16, room| in_latin1(to_latin1, order, utf16, room))),
+    ("from_latin1", RawAndWord(|order, latin1, room| in_latin1(from_latin1, order, latin1, room))),
 ];
 
 fn call_of(name: &str) -> Option<Call> {
@@ -157,17 +169,136 @@ fn converted(name: &str, order: ByteOrder, from: &[u8], room: &str) -> Words {
     let mut to = vec![0; room];
     let found = make(order, from, &mut to);
     let whole = spelled(&to[..found.written]);
-    let mut words = vec![found.read.to_string(), found.written.to_string()];
-    words.push(match found.status {
-        Status::Done => "end".to_string(),
-        Status::Incomplete => "incomplete".to_string(),
-        Status::NoSpace => "no_space".to_string(),
-        Status::IllFormed(len) => format!("ill_formed {len}"),
-    });
-    words.push(whole.clone());
+    let mut words = vec![came(found), whole.clone()];
     if name == "from_utf8_lossy" && found.status == Status::Done {
         words.extend(utf8_chunkings(order, from).filter(|other| *other != whole));
     }
+    Some(words)
+}
+
+/// How far a call came.
+fn came(found: Progress) -> String {
+    let status = match found.status {
+        Status::Done => "end".to_string(),
+        Status::Incomplete => "incomplete".to_string(),
+        Status::NoSpace => "no_space".to_string(),
+        Status::NotLatin1 => "not_latin1".to_string(),
+        Status::IllFormed(len) => format!("ill_formed {len}"),
+    };
+    format!("{} {} {status}", found.read, found.written)
+}
+
+/// Code units of UTF-32, which the tables spell by their bytes in big endian.
+fn units_of(raw: &[u8]) -> Vec<u32> {
+    let unit = |four: &[u8]| u32::from_be_bytes([four[0], four[1], four[2], four[3]]);
+    raw.chunks_exact(4).map(unit).collect()
+}
+
+fn in_utf32(
+    convert: fn(ByteOrder, &[u8], &mut [u32]) -> Progress,
+    order: ByteOrder,
+    utf16: &[u8],
+    room: &str,
+) -> Words {
+    let size = to_utf32_lossy_len(order, utf16);
+    let mut to = vec![0; if room == "size" { size } else { number(room)? }];
+    let found = convert(order, utf16, &mut to);
+    let units = to[..found.written].iter();
+    let raw: Vec<u8> = units.flat_map(|unit| unit.to_be_bytes()).collect();
+    Some(vec![came(found), hex(&raw)])
+}
+
+fn of_utf32(
+    convert: fn(ByteOrder, &[u32], &mut [u8]) -> Progress,
+    order: ByteOrder,
+    raw: &[u8],
+    room: &str,
+) -> Words {
+    let units = units_of(raw);
+    let size = from_utf32_lossy_len(&units);
+    let mut to = vec![0; if room == "size" { size } else { number(room)? }];
+    let found = convert(order, &units, &mut to);
+    Some(vec![came(found), hex(&to[..found.written])])
+}
+
+fn utf32_validity(raw: &[u8]) -> Words {
+    match validate_utf32(&units_of(raw)) {
+        Ok(()) => one("done"),
+        Err(error) => one(error.valid_up_to()),
+    }
+}
+
+/// A conversion to or from Latin-1, which leaves the bytes after its output as they were.
+fn in_latin1(convert: Convert, order: ByteOrder, from: &[u8], room: &str) -> Words {
+    let mut to = vec![0xAA; number(room)?];
+    let found = convert(order, from, &mut to);
+    let mut words = vec![came(found), hex(&to[..found.written])];
+    let is_changed = to[found.written..].iter().any(|byte| *byte != 0xAA);
+    words.extend(is_changed.then_some("changed".to_string()));
+    Some(words)
+}
+
+fn inspected(order: ByteOrder, utf16: &[u8]) -> Words {
+    let found = inspect(order, utf16);
+    let follows = match found.error.map(|error| error.error_len()) {
+        None => "end".to_string(),
+        Some(None) => "incomplete".to_string(),
+        Some(Some(len)) => format!("ill_formed {len}"),
+    };
+    let kind = format!("{:?}", found.repertoire).to_lowercase();
+    let (len, chars) = (found.valid_up_to, found.chars);
+    one(format!("{len} {chars} {kind} {follows}"))
+}
+
+/// The pieces and the length of each buffer.
+fn pieces_and_room(values: &[&str]) -> Option<(Vec<Vec<u8>>, usize)> {
+    match values {
+        [words, room] => Some((pieces(&[words])?, number(room)?)),
+        _ => None,
+    }
+}
+
+/// What a call on a stream returned and wrote, and what is pending.
+fn stepped(found: Progress, to: &[u8], pending: &[u8]) -> String {
+    format!(
+        "{} {} {}",
+        came(found),
+        hex(&to[..found.written]),
+        hex(pending)
+    )
+}
+
+fn wtf8_decoded(order: ByteOrder, values: &[&str]) -> Words {
+    let (pieces, room) = pieces_and_room(values)?;
+    let (mut decoder, mut to, mut words) = (Wtf8Decoder::new(order), vec![0; room], Vec::new());
+    for piece in pieces {
+        let found = decoder.feed(&piece, &mut to[..]);
+        words.push(stepped(found, &to, decoder.pending()));
+    }
+    let end = decoder.finish(&mut to[..]);
+    words.push(stepped(end, &to, decoder.pending()));
+    Some(words)
+}
+
+fn wtf8_encoded(order: ByteOrder, values: &[&str]) -> Words {
+    let (pieces, room) = pieces_and_room(values)?;
+    let (mut encoder, mut to, mut words) = (Wtf8Encoder::new(order), vec![0; room], Vec::new());
+    for piece in pieces {
+        let mut rest = &piece[..];
+        loop {
+            let found = encoder.feed(rest, &mut to[..]);
+            words.push(stepped(found, &to, encoder.pending()));
+            match found.status {
+                Status::IllFormed(len) => rest = &rest[found.read + len - encoder.discard()..],
+                _ => break,
+            }
+            if rest.is_empty() {
+                break;
+            }
+        }
+    }
+    let end = encoder.finish(&mut to[..]);
+    words.push(stepped(end, &to, encoder.pending()));
     Some(words)
 }
 

@@ -688,6 +688,132 @@ fn errors_of_units_count_units() {
     }
 }
 
+/// The characters before the first ill-formed sequence.
+fn valid_chars(items: &[Item]) -> Vec<char> {
+    items.iter().map_while(|item| item.character).collect()
+}
+
+#[test]
+fn characters_are_those_of_the_items() {
+    for_utf16(|order, utf16| {
+        let items = utf16_items(order, utf16);
+        let (all, valid): (Vec<char>, _) = (lossy(&items).chars().collect(), valid_chars(&items));
+        assert_eq!(decode_to_chars_lossy(order, utf16), all);
+        let error = validate(order, utf16).err();
+        let wanted = error.map_or(Ok(valid.clone()), Err);
+        assert_eq!(decode_to_chars(order, utf16), wanted);
+        assert_eq!(to_utf32_lossy_len(order, utf16), all.len());
+        let found = inspect(order, utf16);
+        assert_eq!((found.error, found.chars), (error, valid.len()));
+        let most = valid.iter().max().map_or(0, |most| u32::from(*most));
+        let kinds = [Repertoire::Ascii, Repertoire::Latin1, Repertoire::Bmp];
+        let kind = [0x7F, 0xFF, 0xFFFF].iter().position(|end| most <= *end);
+        assert_eq!(
+            found.repertoire,
+            kind.map_or(Repertoire::Unicode, |at| kinds[at])
+        );
+    });
+}
+
+#[test]
+fn utf32_fills_each_capacity() {
+    for_utf16(|order, utf16| {
+        let items = utf16_items(order, utf16);
+        let (valid, all) = (valid_chars(&items), lossy(&items));
+        for capacity in 0..=all.len() + 1 {
+            let mut buffer = vec![7; capacity + 2];
+            let found = to_utf32(order, utf16, &mut buffer[..capacity]);
+            assert_eq!(found.written, valid.len().min(capacity));
+            let written = &buffer[..found.written];
+            assert_eq!(written, &chars_as_utf32(&valid)[..found.written]);
+            assert_eq!(buffer[capacity..], [7, 7]);
+            let lens = items.iter().take(found.written).map(|item| item.len);
+            assert_eq!(found.read, lens.sum::<usize>());
+
+            let mut buffer = vec![MaybeUninit::new(7); capacity + 2];
+            let found = to_utf32_lossy(order, utf16, &mut buffer[..capacity]);
+            let fits = all.chars().count() <= capacity;
+            let status = if fits { Status::Done } else { Status::NoSpace };
+            assert_eq!(found.status, status);
+            let written = buffer[..found.written].iter();
+            let chars = all.chars().take(capacity).map(u32::from);
+            assert!(written.map(|unit| unsafe { unit.assume_init() }).eq(chars));
+        }
+    });
+}
+
+#[test]
+fn what_is_not_utf32_is_found_wherever_it_is() {
+    let shown = "invalid utf-32 code unit at index ";
+    for wrong in [0xD800, 0xDFFF, 0x11_0000, u32::MAX] {
+        for at in 0..20 {
+            let mut utf32 = [0x1F600; 20];
+            utf32[at] = wrong;
+            let error = validate_utf32(&utf32).unwrap_err();
+            assert_eq!(error.valid_up_to(), at);
+            assert_eq!(error.to_string(), format!("{shown}{at}"));
+            assert_eq!(utf32_as_chars(&utf32), Err(error));
+            let io = std::io::Error::from(error);
+            assert_eq!(io.kind(), std::io::ErrorKind::InvalidData);
+            assert_eq!(io.get_ref().unwrap().downcast_ref(), Some(&error));
+            for order in ORDERS {
+                assert_eq!(encode_from_utf32(order, &utf32), Err(error));
+                let mut buffer = [0; 80];
+                let found = from_utf32_lossy(order, &utf32, &mut buffer);
+                let text = |at: usize| "\u{1F600}".repeat(at);
+                let wanted = encode(order, &(text(at) + "\u{FFFD}" + &text(19 - at)));
+                assert_eq!(buffer[..found.written], wanted);
+                assert_eq!(from_utf32_lossy_len(&utf32), wanted.len());
+            }
+        }
+    }
+    let chars = ['\0', '\u{D7FF}', '\u{E000}', char::MAX];
+    assert_eq!(utf32_as_chars(chars_as_utf32(&chars)), Ok(&chars[..]));
+    assert_eq!(utf32_as_chars(&[]), Ok(&[][..]));
+    for order in ORDERS {
+        let text: String = chars.iter().collect();
+        let utf16 = bytes(order, &text.encode_utf16().collect::<Vec<_>>());
+        assert_eq!(encode_from_utf32(order, chars_as_utf32(&chars)), Ok(utf16));
+        assert_eq!(encode_from_utf32(order, &[]), Ok(Vec::new()));
+    }
+}
+
+#[test]
+fn latin1_is_the_first_characters_of_unicode() {
+    let latin1: Vec<u8> = (0..=255).collect();
+    let units: Vec<u16> = (0..=255).collect();
+    for order in ORDERS {
+        let utf16 = bytes(order, &units);
+        assert_eq!(encode_from_latin1(order, &latin1), utf16);
+        let mut found = [MaybeUninit::uninit(); 256];
+        let progress = to_latin1(order, &utf16, &mut found);
+        assert_eq!((progress.written, progress.status), (256, Status::Done));
+        assert!(found
+            .iter()
+            .map(|byte| unsafe { byte.assume_init() })
+            .eq(0..=255));
+        let after = bytes(order, &[0x61, 0x100]);
+        let found = to_latin1(order, &after, &mut [0; 1]);
+        assert_eq!((found.read, found.status), (2, Status::NotLatin1));
+    }
+}
+
+#[test]
+fn capacities_of_utf32_suffice_and_some_input_needs_them() {
+    for len in 0..9 {
+        assert_eq!(
+            to_utf32_lossy_len(BigEndian, &[0x61; 9][..len]),
+            to_utf32_max_len(len)
+        );
+        assert_eq!(
+            from_utf32_lossy_len(&[0x1F600; 9][..len]),
+            from_utf32_max_len(len)
+        );
+    }
+    assert_eq!(to_utf32_max_len(usize::MAX), usize::MAX / 2 + 1);
+    assert_eq!(from_utf32_max_len(usize::MAX), usize::MAX);
+}
+
 #[test]
 fn the_version_is_that_of_the_crate() {
     let (major, minor, patch) = version();

@@ -139,6 +139,25 @@ fn results_keep_little_memory_that_they_do_not_use() {
 }
 
 #[test]
+fn characters_take_as_much_memory_as_they_need() {
+    for text in ["", "a", "★\u{1F600}", &"a★".repeat(1000)] {
+        let (utf16, len) = (encode(BigEndian, text), text.chars().count());
+        let once = (usize::from(len > 0), 0);
+        let wanted = (once, len, len);
+        assert_eq!(
+            measured!(decode_to_chars(BigEndian, &utf16).unwrap()),
+            wanted
+        );
+        assert_eq!(measured!(decode_to_chars_lossy(BigEndian, &utf16)), wanted);
+    }
+    let latin1 = [0xE9; 100];
+    assert_eq!(
+        measured!(encode_from_latin1(BigEndian, &latin1)),
+        ((1, 0), 200, 200)
+    );
+}
+
+#[test]
 fn large_results_are_not_copied() {
     let text = "a".repeat(30_000);
     let utf16 = encode(LittleEndian, &text);
@@ -157,6 +176,11 @@ fn adapters_allocate_one_buffer_each_when_they_are_made() {
     let mut text = Vec::with_capacity(100_000);
     assert_eq!(counted(|| reader.read_to_end(&mut text).unwrap()).0, (0, 0));
     assert_eq!(text.len(), 40_000);
+    let mut reader = Reader::strict(&utf16[..], BigEndian);
+    let count = || std::io::BufRead::fill_buf(&mut reader).unwrap().len();
+    assert_eq!(counted(count), ((1, 0), 8192));
+    let mut byte = [0; 1];
+    assert_eq!(counted(|| reader.read_exact(&mut byte)).0, (0, 0));
 
     let written = Vec::with_capacity(100_000);
     let (counts, mut writer) = counted(|| Writer::new(written, Encoder::new(BigEndian)));

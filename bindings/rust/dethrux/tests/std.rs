@@ -52,6 +52,9 @@ fn values_may_go_to_other_threads() {
     is_send_and_sync::<Decoder>();
     is_send_and_sync::<Encoder>();
     is_send_and_sync::<Utf16Chunks<'_>>();
+    is_send_and_sync::<Wtf8Decoder>();
+    is_send_and_sync::<Wtf8Encoder>();
     is_send_and_sync::<io::Reader<&[u8], Decoder>>();
+    is_send_and_sync::<io::Reader<&[u8], io::Strict>>();
     is_send_and_sync::<io::Writer<Vec<u8>, Encoder>>();
 }

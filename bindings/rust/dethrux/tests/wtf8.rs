@@ -192,6 +192,85 @@ fn streams_may_be_cut_anywhere() {
 }
 
 #[test]
+fn a_decoder_and_an_encoder_may_be_cut_anywhere() {
+    for_samples(|order, _, utf16, wtf8| {
+        for len in 1..9 {
+            let (mut decoder, mut found, mut to) = (Wtf8Decoder::new(order), Vec::new(), [0; 4]);
+            for (at, chunk) in utf16.chunks(len).enumerate() {
+                decoder.decode(chunk, &mut found);
+                let read = utf16.len().min((at + 1) * len);
+                assert!(utf16[..read].ends_with(decoder.pending()));
+                assert!(decoder.pending().len() <= 3);
+            }
+            assert_eq!(decoder.byte_order(), order);
+            let mut other = decoder.clone();
+            let end = decoder.finish(&mut to);
+            assert_eq!((end.read, end.status), (0, Status::Done));
+            found.extend(&to[..end.written]);
+            assert_eq!(found, wtf8);
+            assert_eq!(decoder.pending(), b"");
+            assert_eq!(other.feed(b"a", &mut to).written, 0);
+            assert_eq!(other.finish(&mut to).status, Status::Incomplete);
+
+            let (mut encoder, mut found) = (Wtf8Encoder::new(order), Vec::<u8>::new());
+            for chunk in wtf8.chunks(len) {
+                let mut to = vec![0; Wtf8Encoder::max_len(len)];
+                let progress = encoder.feed(chunk, &mut to[..]);
+                assert_eq!(
+                    (progress.read, progress.status),
+                    (chunk.len(), Status::Done)
+                );
+                found.extend(&to[..progress.written]);
+                assert!(encoder.pending().len() <= 6);
+            }
+            assert_eq!(encoder.byte_order(), order);
+            let end = encoder.finish(&mut to);
+            assert_eq!(end.status, Status::Done);
+            found.extend(&to[..end.written]);
+            assert_eq!(found, utf16);
+        }
+    });
+}
+
+#[test]
+fn streams_keep_what_does_not_fit_and_resume_after_what_is_ill_formed() {
+    for (order, lead, letter) in [
+        (LittleEndian, b"\x3D\xD8", b"h\0"),
+        (BigEndian, b"\xD8\x3D", b"\0h"),
+    ] {
+        let mut decoder = Wtf8Decoder::new(order);
+        assert_eq!(decoder.feed(lead, &mut [0; 9]).written, 0);
+        assert_eq!(decoder.finish(&mut [0; 2]).status, Status::NoSpace);
+        assert_eq!(decoder.pending(), lead);
+        assert_eq!(decoder.finish(&mut [0; 3]).written, 3);
+
+        let (mut encoder, mut to) = (Wtf8Encoder::new(order), [0; 9]);
+        assert_eq!(encoder.feed(b"\xED\xA0\xBD\xED\xB8", &mut to).written, 0);
+        let found = encoder.feed(b"\x80h", &mut to);
+        assert_eq!((found.read, found.status), (0, Status::IllFormed(3)));
+        assert_eq!(to[..found.written], *lead);
+        assert_eq!(encoder.discard(), 2);
+        assert_eq!(encoder.pending(), b"");
+        assert_eq!(encoder.discard(), 0);
+        let found = encoder.feed(b"h\xED\xA0\xBD", &mut to);
+        assert_eq!(to[..found.written], *letter);
+        assert_eq!(encoder.finish(&mut [0; 1]).status, Status::NoSpace);
+        assert_eq!(encoder.finish(&mut to).written, 2);
+        assert_eq!(encoder.feed(b"\xF0\x9F", &mut to).written, 0);
+        assert_eq!(encoder.finish(&mut to).status, Status::Incomplete);
+    }
+    assert_eq!(Wtf8Encoder::max_len(usize::MAX), usize::MAX);
+    assert_eq!(Wtf8Decoder::max_len(usize::MAX), usize::MAX);
+    // A pending surrogate and a letter have all the bytes that suffice, less the two of a pair.
+    let (mut encoder, mut to) = (Wtf8Encoder::new(BigEndian), [0; 9]);
+    assert_eq!(encoder.feed(b"\xED\xA0\xBD", &mut to).written, 0);
+    assert_eq!(
+        encoder.feed(b"a", &mut to).written,
+        Wtf8Encoder::max_len(1) - 2
+    );
+}
+
+#[test]
 fn what_is_not_wtf8_is_an_error() {
     let cases: [(&[u8], usize, Option<usize>, &str); 5] = [
         (

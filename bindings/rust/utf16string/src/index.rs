@@ -4,8 +4,7 @@
 use std::ops::{Index, IndexMut, Range};
 use std::ops::{RangeFrom, RangeFull, RangeInclusive, RangeTo, RangeToInclusive};
 
-use byteorder::ByteOrder;
-
+use crate::order::ByteOrder;
 use crate::{WStr, WString};
 
 mod private {

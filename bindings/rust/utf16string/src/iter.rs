@@ -4,9 +4,7 @@
 use std::iter::FusedIterator;
 use std::marker::PhantomData;
 
-use byteorder::ByteOrder;
-
-use crate::order::byte_order;
+use crate::order::{byte_order, ByteOrder};
 use crate::utf16::{decode_surrogates, decode_unit, Utf16CharExt};
 
 /// An iterator over the characters of a [`WStr`](crate::WStr), from both ends.

@@ -9,6 +9,9 @@
 //! utf16string = { path = "dethrux/bindings/rust/utf16string" }
 //! ```
 //!
+//! [`LE`] and [`BE`] are types of the crate `byteorder`, as there. Without the default feature
+//! `byteorder` they are this crate's own, and generic code names [`ByteOrder`] of this crate.
+//!
 //! Validation, boundaries, counts, conversions, comparison and `find` are calls of the C library
 //! `libdethrux`, which are proved. What is written in Rust is thin and tested, not proved: slicing
 //! with brackets, `Deref`, the iterators, and the moving of bytes within a vector.
@@ -40,7 +43,7 @@ mod string;
 mod utf16;
 mod view;
 
-pub use byteorder::{BigEndian, LittleEndian, BE, LE};
+pub use order::{BigEndian, ByteOrder, LittleEndian, BE, LE};
 
 pub use error::Utf16Error;
 pub use index::SliceIndex;

@@ -1,9 +1,7 @@
 //! Searches: calls of `libdethrux` with the bytes of a pattern. Rust writes the bytes of a
 //! character, and compares the bytes at both ends of a string.
 
-use byteorder::ByteOrder;
-
-use crate::order::byte_order;
+use crate::order::{byte_order, ByteOrder};
 use crate::utf16::Utf16CharExt;
 use crate::WStr;
 

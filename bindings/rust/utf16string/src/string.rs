@@ -2,9 +2,7 @@ use std::cmp::Ordering;
 use std::marker::PhantomData;
 use std::ops::{Deref, DerefMut};
 
-use byteorder::{BigEndian, ByteOrder, LittleEndian};
-
-use crate::order::byte_order;
+use crate::order::{byte_order, BigEndian, ByteOrder, LittleEndian};
 use crate::utf16::Utf16CharExt;
 use crate::view::validate;
 use crate::{Utf16Error, WStr};

@@ -1,6 +1,6 @@
 //! Code units and characters.
 
-use byteorder::ByteOrder;
+use crate::order::ByteOrder;
 
 /// Returns whether a code unit is a leading surrogate, 0xD800 to 0xDBFF.
 #[inline]

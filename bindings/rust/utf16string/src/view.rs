@@ -2,9 +2,7 @@ use std::cmp::Ordering;
 use std::fmt;
 use std::marker::PhantomData;
 
-use byteorder::{BigEndian, ByteOrder, LittleEndian};
-
-use crate::order::byte_order;
+use crate::order::{byte_order, BigEndian, ByteOrder, LittleEndian};
 use crate::{SliceIndex, Utf16Error, WStrCharIndices, WStrChars};
 
 /// A borrowed UTF-16 string: bytes that are well formed in the byte order `E`. It is to [`WString`]

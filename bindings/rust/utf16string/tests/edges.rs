@@ -1,12 +1,12 @@
 //! Every method at its edges, in both byte orders, compared with a `str` or a `String`:
 //! each range of each kind, offsets past the end, each end of a text.
 
-use byteorder::ByteOrder;
 use std::cmp::Ordering;
 use std::collections::hash_map::DefaultHasher;
 use std::hash::{Hash, Hasher};
 use std::ops::{Bound, Index, IndexMut, Range, RangeBounds};
 use std::panic::{catch_unwind, set_hook, AssertUnwindSafe};
+use utf16string::ByteOrder;
 use utf16string::{SliceIndex, Utf16Error, WStr, WString, BE, LE};
 
 const TEXTS: [&str; 9] = [

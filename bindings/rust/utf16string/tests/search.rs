@@ -1,6 +1,6 @@
 //! Searches, compared with `str`'s, in both byte orders.
 
-use byteorder::ByteOrder;
+use utf16string::ByteOrder;
 use utf16string::{Pattern, WString, BE, LE};
 
 /// The offset in UTF-16 of an offset in UTF-8.
