@@ -1,5 +1,5 @@
 #!/usr/bin/env python3
-"""Writes the page that shows the decoder: one file, with the module and the binding in it.
+"""Writes the page that checks and repairs files: one file, with the module and the binding in it.
 
     site/build.py FILE [BACK]
 
@@ -19,7 +19,7 @@ HERE = pathlib.Path(__file__).resolve().parent
 TOP = HERE.parent
 BINDING = ("calls.js", "machine.js", "shapes.js", "streams.js", "load.js")
 # The parts of the page's script. The first defines what the others share; the last starts the page.
-SCRIPTS = ("common", "input", "items", "strip", "cuts", "chunks", "file", "page")
+SCRIPTS = ("common", "paste", "items", "strip", "cuts", "chunks", "report", "page")
 IMPORT = re.compile(r"^import [^;]*;\n", re.MULTILINE)
 NAMES = "instantiate, stringOf, unitsOf"
 # The phrase of the headline that the page shows.

@@ -1,4 +1,4 @@
-// What a decoder gives for the chunks between the cuts, and the whole text in UTF-8.
+// What a decoder gives for the chunks between the cuts.
 
 // How many cuttings are tried at once, and those that were tried, by their offsets.
 const MOST_CUTTINGS = 4096;
@@ -101,38 +101,3 @@ function tryMany() {
 const placesIn = (len) => Array.from({ length: Math.max(0, len - 1) }, (_, at) => at + 1);
 const everyCut = () => placesIn(shown.bytes.length);
 const randomCuts = () => everyCut().filter(() => Math.random() < 0.25);
-
-function showOutputs() {
-    const { bytes, order } = shown;
-    const lossy = library.toUtf8Lossy(bytes, order).output;
-    byId("lossy").textContent = textOf(lossy);
-    byId("lossy-bytes").textContent = octets(lossy);
-    showLossless(bytes, order);
-}
-
-/** Shows WTF-8 with its surrogates marked, and whether it gives the same bytes back. */
-function showLossless(bytes, order) {
-    const { output, read } = library.toWtf8(bytes, order);
-    const back = library.fromWtf8(output, order).output;
-    const isSame = octets(back) === octets(bytes.subarray(0, read));
-    const odd = bytes.length - read;
-    const same = `Converted back, it is the same ${plural(read, "byte")} of UTF-16.`;
-    const rest = odd ? " The odd byte at the end is left out." : "";
-    byId("lossless-note").textContent = isSame
-        ? `${same}${rest}`
-        : "Converted back, it is not the same. Please report it.";
-    byId("lossless-bytes").replaceChildren(...markedSurrogates(output));
-}
-
-/** Returns the bytes of WTF-8; in UTF-8 no byte from A0 on follows ED. */
-function markedSurrogates(wtf8) {
-    const parts = [];
-    for (let at = 0; at < wtf8.length; ) {
-        const isSurrogate = wtf8[at] === 0xed && wtf8[at + 1] >= 0xa0;
-        const len = isSurrogate ? 3 : 1;
-        const text = octets(wtf8.subarray(at, at + len));
-        parts.push(isSurrogate ? element("mark", {}, text) : text, " ");
-        at += len;
-    }
-    return parts;
-}

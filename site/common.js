@@ -2,19 +2,32 @@
 
 // What all parts of the page share. site/build.py joins them to one script, in its order.
 
-const ORDER_NAMES = { le: "little endian", be: "big endian" };
+const ORDER_NAMES = { le: "UTF-16, little endian", be: "UTF-16, big endian", utf8: "UTF-8" };
+const REPLACEMENT = "\ufffd";
 
-// The library, when it is loaded, and the bytes of its module, for a worker.
+// The library and its compiled module, which workers share.
 let library;
-let moduleBytes;
-// What is shown: the bytes after a BOM, their byte order, and the characters.
-let shown = { bytes: new Uint8Array(), order: "le", items: [] };
+let module;
+// What the worker found in a file, with the file; nothing until it has read one.
+let report;
+// The window of the file that the strip shows: its offset, bytes, byte order and items, and
+// whether it is one stream of UTF-16, which can be cut.
+let shown = { start: 0, bytes: new Uint8Array(), order: "le", items: [], isStream: false };
 
 const byId = (id) => document.getElementById(id);
 const hex = (number, digits) => number.toString(16).toUpperCase().padStart(digits, "0");
 const octets = (bytes) => Array.from(bytes, (it) => hex(it, 2)).join(" ");
-const plural = (count, noun) => `${count.toLocaleString("en")} ${noun}${count === 1 ? "" : "s"}`;
+const counted = (count) => count.toLocaleString("en");
+const plural = (count, noun) => `${counted(count)} ${noun}${count === 1 ? "" : "s"}`;
 const textOf = (utf8) => new TextDecoder("utf-8", { ignoreBOM: true }).decode(utf8);
+
+/** Turns a button off or on. A button that is off keeps the focus. */
+const turnOff = (id, isOff) => byId(id).setAttribute("aria-disabled", isOff);
+
+const isOff = (button) => button.getAttribute("aria-disabled") === "true";
+
+/** Returns the bytes of a file from one offset to another. */
+const readBytes = async (file, at, end) => new Uint8Array(await file.slice(at, end).arrayBuffer());
 
 /** Makes an element with a class, attributes and children, which are elements or texts. */
 function element(name, { className, ...attributes } = {}, ...children) {

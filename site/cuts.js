@@ -38,7 +38,7 @@ function cutElement(at, number) {
 /** Says where a cut is. */
 function placeWords(at) {
     const item = shown.items.find((it) => it.at < at && at < it.at + it.len);
-    const where = `after byte ${at} of ${shown.bytes.length}`;
+    const where = `before byte ${counted(shown.start + at)}`;
     return item ? `${where}, inside ${nameOf(item)}` : where;
 }
 

@@ -1,20 +1,28 @@
-// Characters and ill-formed sequences, as the library finds them by resuming after each error, and
-// what it says of the bytes.
+// Characters and ill-formed sequences, as the library finds them by resuming after each error.
 
-// The most errors that are listed.
-const MOST_ERRORS = 6;
-const REPLACEMENT = "\ufffd";
+/** Returns the scalar values of the well-formed prefix, how long each is, and what ends it. */
+function prefixOf(bytes, order) {
+    if (order !== "utf8") {
+        const found = library.toUtf32(bytes, order);
+        return { ...found, points: [...found.output], lenOf: (it) => (it > 0xffff ? 4 : 2) };
+    }
+    const found = library.fromUtf8(bytes);
+    const points = [...dethrux.stringOf(found.output)].map((it) => it.codePointAt(0));
+    const lenOf = (it) => 1 + (it > 0x7f) + (it > 0x7ff) + (it > 0xffff);
+    return { ...found, points, lenOf };
+}
 
-/** Returns the characters and ill-formed sequences of UTF-16, with their offsets and lengths. */
+/** Returns the characters and ill-formed sequences of bytes, with their offsets and lengths. */
 function itemsOf(bytes, order) {
     const items = [];
     let at = 0;
     while (at < bytes.length) {
-        const { output, read, status, errorLen } = library.toUtf32(bytes.subarray(at), order);
+        const { points, lenOf, read, status, errorLen } = prefixOf(bytes.subarray(at), order);
         let start = at;
-        for (const point of output) {
-            const len = point > 0xffff ? 4 : 2;
-            items.push({ kind: len === 4 ? "pair" : "char", at: start, len, point });
+        for (const point of points) {
+            const len = lenOf(point);
+            const kind = order !== "utf8" && len === 4 ? "pair" : "char";
+            items.push({ kind, at: start, len, point });
             start += len;
         }
         at += read;
@@ -32,10 +40,15 @@ const unitAt = (bytes, order, at) =>
 
 /** Says why a sequence is ill formed. */
 function reason(bytes, order, at, len, status) {
+    if (order === "utf8") {
+        return status === "incomplete"
+            ? "the text ends inside a character."
+            : "these bytes do not make a character of UTF-8.";
+    }
     if (status === "incomplete") {
         return len === 1
-            ? "the bytes end after one byte of a code unit."
-            : "the bytes end after a leading surrogate; the trailing one is missing.";
+            ? "the text ends after one byte of a code unit."
+            : "the text ends after a leading surrogate; the trailing one is missing.";
     }
     const unit = unitAt(bytes, order, at);
     if (unit >= 0xdc00) {
@@ -45,8 +58,10 @@ function reason(bytes, order, at, len, status) {
     return `${hex(unit, 4)} is a leading surrogate, and ${next} after it is not a trailing one.`;
 }
 
+const SHIFT = "a byte was lost or added here, as what follows is shifted by one byte (a guess).";
+
 /** Says what a character looks like, or its name if it has no shape. */
-function glyph({ kind, point }) {
+function glyph({ point }) {
     if (point === undefined) {
         return REPLACEMENT;
     }
@@ -57,32 +72,59 @@ function glyph({ kind, point }) {
 
 const nameOf = ({ kind, point }) => (point === undefined ? kind : `U+${hex(point, 4)}`);
 
-function showVerdict() {
-    const { bytes, order } = shown;
-    const { validUpTo, status, errorLen } = library.validate(bytes, order);
-    byId("verdict").className = `verdict ${status === "done" ? "valid" : "invalid"}`;
-    byId("verdict-line").textContent = verdictLine(status, validUpTo);
-    byId("valid-up-to").textContent = validUpTo;
-    const lengths = { "ill-formed": errorLen, incomplete: "none", done: "–" };
-    byId("error-len").textContent = lengths[status];
-    byId("errors").replaceChildren(...reasons());
+/** Returns where the stretch without a shift that has this offset begins and ends. */
+function stretchAt(at) {
+    const { shifts, from, file } = report;
+    const before = shifts.findLast((it) => it < at);
+    const end = shifts.find((it) => it >= at) ?? file.size;
+    return { start: before === undefined ? from : before + 1, end };
 }
 
-function verdictLine(status, validUpTo) {
-    const { bytes, order, items } = shown;
-    if (status === "done") {
-        const text = `${plural(bytes.length, "byte")} of UTF-16 in ${ORDER_NAMES[order]}`;
-        return `Yes: ${text}, ${plural(items.length, "character")}.`;
+/** Returns an offset at or before this one where no character is cut. */
+async function boundaryAt(at) {
+    const { start, end } = stretchAt(at);
+    if (at <= start || at >= end) {
+        return Math.min(Math.max(at, start), end);
     }
-    return validUpTo === 0
-        ? "No: it is ill formed from the start."
-        : `No: the first ${plural(validUpTo, "byte")} are UTF-16, and the next are not.`;
+    if (report.order === "utf8") {
+        const near = await readBytes(report.file, Math.max(start, at - 3), at + 1);
+        const back = [...near].reverse().findIndex((it) => (it & 0xc0) !== 0x80);
+        return at - Math.max(back, 0);
+    }
+    const far = at - start;
+    const first = start + Math.max(0, far - (far % 2) - 2);
+    const around = await readBytes(report.file, first, Math.min(first + 4, end));
+    return start + library.floorCharBoundaryAround(around, report.order, far);
 }
 
-/** Returns an item for each ill-formed sequence: what it is, and where. */
-function reasons() {
-    const wrong = shown.items.filter((it) => it.why);
-    const lines = wrong.slice(0, MOST_ERRORS).map((it) => `At byte ${it.at}: ${it.why}`);
-    const more = wrong.length - lines.length;
-    return [...lines, ...(more ? [`And ${more} more.`] : [])].map((it) => element("li", {}, it));
+/** Returns the items of a part of the file, whose ends cut no character. */
+function itemsBetween(start, bytes) {
+    const inside = report.shifts.filter((it) => it >= start && it < start + bytes.length);
+    const items = [];
+    let from = 0;
+    const add = (end) => {
+        const found = itemsOf(bytes.subarray(from, end), report.order);
+        const base = from;
+        items.push(...found.map((it) => ({ ...it, at: it.at + base })));
+    };
+    for (const at of inside.map((it) => it - start)) {
+        add(at);
+        items.push({ kind: "shift", at, len: 1, why: SHIFT });
+        from = at + 1;
+    }
+    add(bytes.length);
+    return { items, isStream: inside.length === 0 && report.order !== "utf8" };
+}
+
+/** Returns the error at an offset: its bytes, and why it is one. */
+async function errorAt(at) {
+    const { file, order, from, shifts } = report;
+    if (at < from) {
+        const why = "the BOM says the other byte order.";
+        return { at, why, bytes: await readBytes(file, 0, from), isBom: true };
+    }
+    const end = shifts.includes(at) ? at + 1 : Math.min(at + 4, stretchAt(at).end);
+    const bytes = await readBytes(file, at, end);
+    const { len, why } = shifts.includes(at) ? { len: 1, why: SHIFT } : itemsOf(bytes, order)[0];
+    return { at, why, bytes: bytes.subarray(0, len) };
 }

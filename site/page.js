@@ -1,66 +1,65 @@
 // The controls of the page, and its start.
 
 const EXAMPLES = {
-    pair: { form: "text", order: "le", input: "Grüße, мир 😀 €5" },
-    unpaired: { form: "text", order: "be", input: "a\\uDC00b\\uD800c\\uD83D\\uDE00" },
-    odd: { form: "hex", order: "le", input: "47 00 72 00 FC 00 3D D8 00" },
-    bom: { form: "hex", order: "bom", input: "FE FF 20 AC D8 3D DE 00" },
-    ntfs: { form: "text", order: "le", input: "C:\\\\temp\\\\\\uD800.txt" },
+    unpaired: "61 00 00 DC 62 00 3D D8 63 00 3D D8 00 DE",
+    odd: "FE FF 00 47 00 72 00 FC D8 3D DE",
+    lost: octets(bytesOfText("One byte was lost here.", "le")).replace(" 00 77", " 77"),
+    utf8: octets(new TextEncoder().encode("Grüße, мир €5")),
+    dump: "00000000: fffe 4700 7200 fc00 00dc df00 6500 2100  ..G.r.......e.!.",
 };
 
-function labelInput() {
-    const isHex = formOf() === "hex";
-    const example = element("code", {}, "\\uD800");
-    const words = isHex ? ["Bytes in hex"] : ["Text; ", example, " is a code unit"];
-    byId("input-label").replaceChildren(...words);
-}
-
-/** Writes the same bytes in the other form. */
-function changeForm() {
-    const all = byId("input").value;
-    const order = byId("order").value;
-    if (formOf() === "hex") {
-        byId("input").value = octets(bytesOfText(all, order).bytes);
-    } else {
-        byId("input").value = escapedText(bytesOfHex(all).bytes, order);
-    }
-    labelInput();
-    readInput();
-}
-
-/** Returns a text for bytes, with unpaired surrogates and backslashes written out. */
-function escapedText(bytes, order) {
-    const isByBom = order === "bom";
-    const { order: found, len } = isByBom ? library.detectBom(bytes, "le") : { order, len: 0 };
-    if (isByBom) {
-        byId("order").value = found;
-    }
-    const rest = bytes.slice(len, bytes.length - ((bytes.length - len) % 2));
-    if (found === "be") {
-        library.swapByteOrder(rest);
-    }
-    const text = dethrux.stringOf(new Uint16Array(rest.buffer));
-    const escaped = (unit) => `\\u${hex(unit.charCodeAt(0), 4)}`;
-    return text.replace(/\\/g, "\\\\").replace(/\p{Surrogate}/gu, escaped);
-}
-
 function useExample(name) {
-    const { form, order, input } = EXAMPLES[name];
-    document.querySelector(`input[name=form][value=${form}]`).checked = true;
-    byId("order").value = order;
-    byId("input").value = input;
-    labelInput();
-    readInput();
+    byId("form").value = "auto";
+    byId("order").value = "auto";
+    byId("align").checked = true;
+    byId("input").value = EXAMPLES[name];
+    byId("file").value = "";
+    readField();
+}
+
+function takeFile(file) {
+    byId("input").value = "";
+    byId("input-note").textContent = "";
+    byId("order").value = "auto";
+    checkFile(file, file.name);
+}
+
+/** Reads the same file or field in another way. */
+function readAgain() {
+    if (byId("input").value || !report) {
+        readField();
+    } else {
+        checkFile(report.file, report.name);
+    }
+}
+
+function switchOrder({ target }) {
+    byId("order").value = target.value;
+    byId("order").focus();
+    readAgain();
 }
 
 function listen() {
-    const on = (id, event, call) => byId(id).addEventListener(event, call);
-    on("input", "input", readInput);
-    on("order", "change", readInput);
-    const onAll = (selector, event, call) =>
-        document.querySelectorAll(selector).forEach((it) => it.addEventListener(event, call));
-    onAll("input[name=form]", "change", changeForm);
-    onAll("[data-example]", "click", ({ target }) => useExample(target.dataset.example));
+    const on = (id, event, call) =>
+        byId(id).addEventListener(event, (it) => isOff(it.target) || call(it));
+    on("input", "input", () => {
+        byId("file").value = "";
+        readField();
+    });
+    on("form", "change", readField);
+    on("order", "change", readAgain);
+    on("align", "change", readAgain);
+    on("switch", "click", switchOrder);
+    document.querySelectorAll("[data-example]").forEach((it) =>
+        it.addEventListener("click", () => useExample(it.dataset.example)),
+    );
+    on("errors", "click", ({ target }) => target.dataset.show && jumpTo(target));
+    on("earlier-errors", "click", () => showRows(firstRow - ROWS));
+    on("later-errors", "click", () => showRows(firstRow + ROWS));
+    on("row", "change", ({ target }) => showRows(Math.floor(target.value) - 1));
+    on("offset", "change", ({ target }) => showAt(Math.floor(target.value) + BEFORE));
+    on("earlier", "click", () => showAt(shown.start - WINDOW + BEFORE));
+    on("later", "click", () => showAt(shown.start + shown.bytes.length + BEFORE));
     on("strip", "keydown", pressKey);
     on("strip", "pointerdown", pressPointer);
     on("add", "click", () => addCut());
@@ -68,28 +67,34 @@ function listen() {
     on("random", "click", () => setCuts(randomCuts()));
     on("none", "click", () => setCuts([]));
     on("try", "click", tryMany);
-    on("file", "change", (event) => event.target.files[0] && takeFile(event.target.files[0]));
+    on("file", "change", ({ target }) => target.files[0] && takeFile(target.files[0]));
     // The same file may be chosen again.
-    on("file", "click", (event) => (event.target.value = ""));
-    on("made", "click", () => decodeFile(sampleFile(), "Sample text"));
-    on("stop", "click", () => stopFile("Stopped."));
-    listenForDrops();
+    on("file", "click", ({ target }) => (target.value = ""));
+    on("stop", "click", () => {
+        showNothing("Stopped.");
+        byId("file").focus();
+    });
+    listenForFiles();
 }
 
-function listenForDrops() {
-    document.addEventListener("dragover", (event) => {
-        event.preventDefault();
-        document.body.classList.add("over");
-    });
-    document.addEventListener("dragleave", () => document.body.classList.remove("over"));
-    document.addEventListener("drop", (event) => {
-        event.preventDefault();
+/** Takes a file that is dropped or pasted anywhere on the page. */
+function listenForFiles() {
+    const take = (event, { files }) => {
         document.body.classList.remove("over");
-        const [file] = event.dataTransfer.files;
-        if (file) {
-            takeFile(file);
+        if (files.length) {
+            event.preventDefault();
+            takeFile(files[0]);
+        }
+    };
+    document.addEventListener("dragover", (event) => {
+        if (event.dataTransfer.types.includes("Files")) {
+            event.preventDefault();
+            document.body.classList.add("over");
         }
     });
+    document.addEventListener("dragleave", () => document.body.classList.remove("over"));
+    document.addEventListener("drop", (event) => take(event, event.dataTransfer));
+    document.addEventListener("paste", (event) => take(event, event.clipboardData));
 }
 
 /** Returns the bytes of the module, which the page has compressed. */
@@ -101,15 +106,15 @@ async function unpackedModule() {
 
 async function start() {
     try {
-        moduleBytes = await unpackedModule();
-        library = await dethrux.instantiate(moduleBytes);
+        const bytes = await unpackedModule();
+        library = await dethrux.instantiate(bytes);
+        module = await WebAssembly.compile(bytes);
     } catch (error) {
         byId("trouble").hidden = false;
         byId("trouble").textContent = `${error.message}.`;
         return;
     }
     listen();
-    useExample("pair");
     document.body.dataset.ready = Math.round(performance.now());
 }
 

@@ -1,4 +1,47 @@
-// The strip: characters, code units, bytes, and the gaps between bytes where cuts may be.
+// The strip: characters, code units, bytes, and the gaps between bytes where cuts may be. It shows
+// a window of the file.
+
+const WINDOW = 128;
+// How many bytes are shown before the place that was asked for.
+const BEFORE = 32;
+
+/** Shows the bytes around an offset. */
+async function showAt(at) {
+    const asked = report;
+    const start = await boundaryAt(Math.max(report.from, Math.min(at - BEFORE, report.file.size)));
+    const end = await boundaryAt(start + WINDOW);
+    const bytes = await readBytes(report.file, start, end);
+    if (asked !== report) {
+        return;
+    }
+    shown = { start, bytes, order: report.order, ...itemsBetween(start, bytes) };
+    byId("offset").value = start;
+    byId("offset").max = report.file.size;
+    byId("window").textContent = `to ${counted(end)} of ${plural(report.file.size, "byte")}`;
+    turnOff("earlier", start <= report.from);
+    turnOff("later", end >= report.file.size);
+    byId("back").hidden = true;
+    cuts = [];
+    tried = new Set();
+    showStrip();
+    byId("cutting").hidden = !shown.isStream;
+    if (shown.isStream) {
+        showCuts();
+    }
+}
+
+/** Shows the error of a button in the list, and moves the focus to it. */
+async function jumpTo(button) {
+    const at = Number(button.dataset.show);
+    await showAt(at);
+    const item = byId("strip").querySelector(`[data-item="${at}"]`);
+    item.classList.add("current");
+    item.tabIndex = -1;
+    item.focus({ preventScroll: true });
+    item.scrollIntoView({ block: "center" });
+    byId("back").hidden = false;
+    byId("back").onclick = () => button.focus();
+}
 
 function showStrip() {
     const items = shown.items.length ? shown.items.map(itemElement) : [emptyElement()];
@@ -12,24 +55,31 @@ function emptyElement() {
     return element("li", { className: "none" }, note, element("span", { className: "places" }));
 }
 
-function itemElement(item) {
+/** The code units of an item; UTF-8 has none. */
+function unitElements({ at, len }) {
     const { bytes, order } = shown;
     const units = [];
-    for (let at = item.at; at < item.at + item.len; at += 2) {
-        const isWhole = at + 1 < item.at + item.len;
-        const text = isWhole ? hex(unitAt(bytes, order, at), 4) : `${hex(bytes[at], 2)}…`;
+    for (let it = at; it < at + len && order !== "utf8"; it += 2) {
+        const isWhole = it + 1 < at + len;
+        const text = isWhole ? hex(unitAt(bytes, order, it), 4) : `${hex(bytes[it], 2)}…`;
         units.push(element("span", { className: "unit" }, text), " ");
     }
+    return units;
+}
+
+function itemElement(item) {
     const places = Array.from({ length: item.len }, (_, at) => placeElement(item.at + at));
     const face = glyph(item);
+    const at = shown.start + item.at;
+    const about = item.why ? { title: `At byte ${counted(at)}: ${item.why}` } : {};
     return element(
         "li",
-        { className: `item ${item.kind}`, ...(item.why ? { title: item.why } : {}) },
+        { className: `item ${item.kind}`, "data-item": at, ...about },
         element("span", { className: [...face].length > 2 ? "glyph word" : "glyph" }, face),
         " ",
         element("span", { className: "name" }, nameOf(item)),
         " ",
-        element("span", { className: "units" }, ...units),
+        element("span", { className: "units" }, ...unitElements(item)),
         " ",
         element("span", { className: "places" }, ...places),
     );

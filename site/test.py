@@ -1,14 +1,18 @@
 #!/usr/bin/env python3
-"""Tests the page in headless Chromium: what it shows for known bytes, cuts that are moved by the
-keyboard and the mouse, a large file, both themes, a narrow and a wide window. CHROMIUM names
-another program. With a folder as its argument it also writes pictures of the page there. Prints
+"""Tests the page in headless Chromium: what it says of known bytes and of broken files of each kind,
+which it repairs after clicks, cuts that are moved by the keyboard and the mouse, large files, both
+themes, a narrow and a wide window. Python's codecs give what is expected. CHROMIUM names another
+program. With a folder as its argument it also writes pictures of the page there. Prints
 what fails, and last a line 'N passed, M failed'."""
 
 import base64
 import itertools
+import json
 import os
 import pathlib
 import re
+import shutil
+import subprocess
 import sys
 import tempfile
 import time
@@ -22,30 +26,31 @@ import build  # noqa: E402
 import site_browser  # noqa: E402
 
 MOST_BYTES = 900_000
-LARGE = 100_000_000
+LARGE = 40_000_000
 # The most seconds that something on the page may take.
 PATIENCE = 60
 TEXT = "Gr\u00fc\u00dfe, \u4e16\u754c \U0001f600!"
-WINDOWS = {"narrow": 390, "wide": 1280}
-KEYS = {"ArrowRight": 39, "ArrowLeft": 37, "Home": 36, "End": 35, "Delete": 46}
+WINDOWS = {"narrow": 360, "wide": 1280}
+KEYS = {"ArrowRight": 39, "ArrowLeft": 37, "Home": 36, "End": 35, "Delete": 46, "Tab": 9, "Enter": 13}
 
-# Bytes in hex and a byte order; the kinds of the items with their names, `valid_up_to`, `error_len`
-# and the text, by chapter 3.9 of the Unicode Standard (D91 and the conformance of ill-formed text).
+# Bytes in hex and how they are read; the kinds of the items with their names, the offsets of the
+# errors and the text, by chapter 3.9 of the Unicode Standard (D91 and the conformance of ill-formed
+# text).
 KNOWN = (
-    ("", "le", "", "0", "\u2013", ""),
-    ("61 00 AC 20", "le", "char U+0061, char U+20AC", "4", "\u2013", "a\u20ac"),
-    ("D8 3D DE 00", "be", "pair U+1F600", "4", "\u2013", "\U0001f600"),
-    ("3D D8 00 DE", "le", "pair U+1F600", "4", "\u2013", "\U0001f600"),
-    ("00 DC 61 00", "le", "ill-formed ill-formed, char U+0061", "0", "2", "\ufffda"),
-    ("61 00 3D D8 62 00", "le", "char U+0061, ill-formed ill-formed, char U+0062", "2", "2", "a\ufffdb"),
-    ("D8 3D D8 3D DE 00", "be", "ill-formed ill-formed, pair U+1F600", "0", "2", "\ufffd\U0001f600"),
-    ("61 00 3D", "le", "char U+0061, incomplete incomplete", "2", "none", "a\ufffd"),
-    ("61 00 3D D8", "le", "char U+0061, incomplete incomplete", "2", "none", "a\ufffd"),
-    ("61 00 3D D8 00", "le", "char U+0061, incomplete incomplete", "2", "none", "a\ufffd"),
-    ("FE FF 00 61", "bom", "char U+0061", "2", "\u2013", "a"),
-    ("FF FE 61 00", "bom", "char U+0061", "2", "\u2013", "a"),
-    ("61 00", "bom", "char U+0061", "2", "\u2013", "a"),
-    ("FF FE 61 00", "le", "char U+FEFF, char U+0061", "4", "\u2013", "\ufeffa"),
+    ("61 00 AC 20", "le", "char U+0061, char U+20AC", [], "a\u20ac"),
+    ("D8 3D DE 00", "be", "pair U+1F600", [], "\U0001f600"),
+    ("3D D8 00 DE", "le", "pair U+1F600", [], "\U0001f600"),
+    ("00 DC 61 00", "le", "ill-formed ill-formed, char U+0061", [0], "\ufffda"),
+    ("61 00 3D D8 62 00", "le", "char U+0061, ill-formed ill-formed, char U+0062", [2], "a\ufffdb"),
+    ("D8 3D D8 3D DE 00", "be", "ill-formed ill-formed, pair U+1F600", [0], "\ufffd\U0001f600"),
+    ("61 00 3D", "le", "char U+0061, incomplete incomplete", [2], "a\ufffd"),
+    ("61 00 3D D8", "le", "char U+0061, incomplete incomplete", [2], "a\ufffd"),
+    ("61 00 3D D8 00", "le", "char U+0061, incomplete incomplete", [2], "a\ufffd"),
+    ("FE FF 00 61", "auto", "char U+0061", [], "a"),
+    ("FF FE 61 00", "auto", "char U+0061", [], "a"),
+    ("EF BB BF C3 BC", "auto", "char U+00FC", [], "\u00fc"),
+    ("61 E2 82 62 F0 9F 98 80 C3", "utf8", "char U+0061, ill-formed ill-formed, char U+0062, "
+     "char U+1F600, incomplete incomplete", [1, 8], "a\ufffdb\U0001f600\ufffd"),
 )
 ITEMS = """[...document.querySelectorAll(".item")].map(it =>
     it.className.replace("item ", "") + " " + it.querySelector(".name").textContent).join(", ")"""
@@ -56,6 +61,42 @@ WRITTEN = """[...document.querySelectorAll("#chunks li")].map(it => [...it.query
     .find(row => row.textContent.startsWith("in UTF-8")).querySelector(".octets").textContent)"""
 READ = """[...document.querySelectorAll("#chunks li:not(.end)")].map(it =>
     it.querySelector("p").lastElementChild.textContent)"""
+# The offsets of the errors that are listed, and what each line says.
+OFFSETS = """[...document.querySelectorAll("#errors strong")].map(it =>
+    Number(it.firstChild.textContent.replace(/[^0-9]/g, "")))"""
+ERRORS = "[...document.querySelectorAll('#errors li')].map(it => it.textContent.replace('Show', '').trim())"
+ACTIVE = "document.activeElement"
+CODECS = {"le": "utf-16-le", "be": "utf-16-be"}
+NAMES = {"le": "UTF-16, little endian", "be": "UTF-16, big endian", "utf8": "UTF-8"}
+GUESS = r" \((?:a|an uncertain) guess"
+BOMS = {"le": b"\xff\xfe", "be": b"\xfe\xff"}
+# Bytes that were dumped, and what xxd 2022-01-14, hexdump of util-linux 2.38 and od of coreutils 9.1
+# print of them.
+DUMPED = b"\xff\xfe" + "Gr\u00fc\u00dfe ff 00".encode("utf-16-le") + b" \0" * 24 + b"\x00\xdca\0b"
+DUMPS = {
+    "xxd": """00000000: fffe 4700 7200 fc00 df00 6500 2000 6600  ..G.r.....e. .f.
+00000010: 6600 2000 3000 3000 2000 2000 2000 2000  f. .0.0. . . . .
+00000020: 2000 2000 2000 2000 2000 2000 2000 2000   . . . . . . . .
+00000030: 2000 2000 2000 2000 2000 2000 2000 2000   . . . . . . . .
+00000040: 2000 2000 2000 2000 00dc 6100 62          . . . ...a.b
+""",
+    "hexdump -C": """00000000  ff fe 47 00 72 00 fc 00  df 00 65 00 20 00 66 00  |..G.r.....e. .f.|
+00000010  66 00 20 00 30 00 30 00  20 00 20 00 20 00 20 00  |f. .0.0. . . . .|
+00000020  20 00 20 00 20 00 20 00  20 00 20 00 20 00 20 00  | . . . . . . . .|
+*
+00000040  20 00 20 00 20 00 20 00  00 dc 61 00 62           | . . . ...a.b|
+0000004d
+""",
+    "od -A x -t x1": """000000 ff fe 47 00 72 00 fc 00 df 00 65 00 20 00 66 00
+000010 66 00 20 00 30 00 30 00 20 00 20 00 20 00 20 00
+000020 20 00 20 00 20 00 20 00 20 00 20 00 20 00 20 00
+*
+000040 20 00 20 00 20 00 20 00 00 dc 61 00 62
+00004d
+""",
+}
+LONG = "Gr\u00fc\u00dfe, \u043c\u0438\u0440 \U0001f600! The quick brown fox jumps over the lazy dog.\n"
+CHINESE = "\u4e16\u754c\u4f60\u597d\uff0c\u6211\u4eec\u7684\u6587\u4ef6\u574f\u4e86\u3002" * 9
 
 
 class Page:
@@ -74,6 +115,10 @@ class Page:
     def equal(self, found, wanted, name):
         self.test(found == wanted, f"{name}: {found!r}, not {wanted!r}")
 
+    def says(self, name, words):
+        """Tests that an element has these words."""
+        self.test(words in self.text(name), f"{name}: {self.text(name)}, not {words}")
+
     def open(self):
         self.browser.open(self.address)
         self.wait("document.body.dataset.ready", "the page is ready")
@@ -89,25 +134,37 @@ class Page:
         end = time.monotonic() + PATIENCE
         while not self.value(condition):
             if time.monotonic() > end:
-                raise RuntimeError(f"never came: {what}: {self.text('file-line')}")
+                raise RuntimeError(f"never came: {what}: {self.text('verdict-line')}")
             time.sleep(0.02)
 
-    def enter(self, text, order, form="hex"):
+    def done(self, what):
+        """Waits until the report is shown."""
+        self.wait("document.body.dataset.state === 'done'", f"the report on {what}")
+
+    def enter(self, text, order="auto", form="hex"):
         """Enters bytes or a text as a user does."""
-        self.value(f"document.querySelector('input[value={form}]').click()")
         self.value(
-            f"byId('order').value = '{order}'; byId('input').value = {text!r};"
-            "byId('input').dispatchEvent(new Event('input'))"
+            f"byId('form').value = '{form}'; byId('order').value = '{order}'; byId('input').value ="
+            f"{json.dumps(text)}; byId('input').dispatchEvent(new Event('input', {{bubbles: true}}))"
         )
+        self.done(text[:40])
+
+    def choose(self, name, value):
+        """Chooses an entry of a list."""
+        self.value(f"byId('{name}').value = '{value}'; byId('{name}').dispatchEvent(new Event('change'))")
+        self.done(f"{name} {value}")
 
     def press(self, key):
-        for kind in ("rawKeyDown", "keyUp"):
-            self.browser.call(
-                "Input.dispatchKeyEvent", type=kind, key=key, code=key, windowsVirtualKeyCode=KEYS[key]
-            )
+        text = {"text": "\r"} if key == "Enter" else {}
+        for kind in ("keyDown" if text else "rawKeyDown", "keyUp"):
+            code = {"code": key, "windowsVirtualKeyCode": KEYS[key]}
+            self.browser.call("Input.dispatchKeyEvent", type=kind, key=key, **code, **text)
 
     def click(self, name):
-        self.value(f"document.getElementById('{name}').click()")
+        """Clicks with the mouse on what is shown."""
+        place = self.middle(f"#{name}")
+        self.mouse("mousePressed", place)
+        self.mouse("mouseReleased", place)
 
     def focus(self, cut):
         self.value(f"document.querySelector('[data-cut=\"{cut}\"]').focus()")
@@ -127,81 +184,350 @@ class Page:
 
     def give_file(self, path):
         """Chooses a file, as the dialog does."""
+        self.value("document.body.dataset.state = 'busy'")
         root = self.browser.call("DOM.getDocument")["root"]["nodeId"]
         found = self.browser.call("DOM.querySelector", nodeId=root, selector="#file")
         self.browser.call("DOM.setFileInputFiles", files=[str(path)], nodeId=found["nodeId"])
 
+    def saved(self, room, name, ending):
+        """Saves a file by a click, and returns its bytes."""
+        path = room / f"{name}.{ending}.txt"
+        size = self.value(f"report.{'text' if ending == 'utf8' else 'utf16'}.size")
+        start = clicked = time.monotonic()
+        self.click(f"save-{ending}")
+        while not (path.exists() and path.stat().st_size == size):
+            now = time.monotonic()
+            if now > start + PATIENCE:
+                break
+            # Chromium loses a download in a few hundred.
+            if now > clicked + 5 and not path.exists():
+                clicked = now
+                self.click(f"save-{ending}")
+            self.value("1")
+            time.sleep(0.01)
+        return path.read_bytes() if path.exists() else None
+
+
+def repaired_file(page, room, name, raw, wanted):
+    """Gives the page a broken file, and saves both files: the verdict's first words, a pattern for how
+    the file is read, the offsets of the errors, the text, and the byte order and BOM of the repaired
+    file."""
+    words, reading, offsets, text, order, bom = wanted
+    path = room / f"{name}.bin"
+    path.write_bytes(raw)
+    page.give_file(path)
+    page.done(name)
+    check_report(page, room, name, words, reading, offsets)
+    check_saved(page, room, name, text, order, bom)
+
+
+def check_report(page, room, name, words, reading, offsets):
+    line = page.text("verdict-line")
+    holds = line.startswith(words) and re.search(reading, line)
+    page.test(holds, f"{name}: {line}, not {words} and {reading}")
+    page.equal(page.value(OFFSETS), offsets, f"{name}: the errors")
+
+
+def check_saved(page, room, name, text, order, bom):
+    page.equal(page.saved(room, name, "utf8"), text.encode(), f"{name}: the saved text")
+    repaired = (BOMS[order] if bom else b"") + text.encode(CODECS[order])
+    page.equal(page.saved(room, name, "utf16"), repaired, f"{name}: the repaired file")
+
+
+def unpaired_surrogates(page, room):
+    """A surrogate of each kind at each place, in both byte orders, with a BOM and without."""
+    codes = {"leading": "\ud83d", "trailing": "\udc00"}
+    for order, bom, kind, place in itertools.product(CODECS, (True, False), codes, (0, 20, len(LONG))):
+        given = LONG[:place] + codes[kind] + LONG[place:]
+        raw = (BOMS[order] if bom else b"") + given.encode(CODECS[order], "surrogatepass")
+        at = 2 * bom + len(LONG[:place].encode(CODECS[order]))
+        how = r" \(as its BOM says" if bom else GUESS
+        text = raw[2 * bom :].decode(CODECS[order], "replace")
+        wanted = ("Yes: 1 error in", NAMES[order] + how, [at], text, order, bom)
+        repaired_file(page, room, f"{kind}-{place}-{order}-{bom}", raw, wanted)
+
+
+def short_files(page, room):
+    """An odd length and a pair that is cut, after one to three of its bytes."""
+    for order, count, bom in itertools.product(CODECS, (1, 2, 3), (True, False)):
+        raw = (BOMS[order] if bom else b"") + (LONG + "\U0001f600").encode(CODECS[order])[: count - 4]
+        wanted = ("Yes: 1 error in", NAMES[order], [len(raw) - count], LONG + "\ufffd", order, bom)
+        repaired_file(page, room, f"short-{count}-{order}-{bom}", raw, wanted)
+    for raw in (b"", b"\xff\xfe"):
+        words = f"No: there is no error in {len(raw)} bytes"
+        page.give_file(written(room / f"empty-{len(raw)}", raw))
+        page.done(words)
+        page.says("verdict-line", words)
+
+
+def written(path, raw):
+    path.write_bytes(raw)
+    return path
+
+
+def wrong_orders(page, room):
+    """Without a BOM the order is guessed. A wrong BOM gets a hint, and a click repairs it."""
+    for text, order in itertools.product((LONG, CHINESE), CODECS):
+        raw, name = text.encode(CODECS[order]), f"order-{order}-{len(text)}"
+        wanted = ("No: there is no error", NAMES[order] + GUESS, [], text, order, False)
+        repaired_file(page, room, name, raw, wanted)
+        other = "be" if order == "le" else "le"
+        page.choose("order", other)
+        page.says("verdict-line", f"{NAMES[other]} (as you chose")
+        page.equal(page.text("hint-line"), f"It looks more like {NAMES[order]}.", f"{name}: the hint")
+        page.give_file(written(room / f"bom-{name}.bin", BOMS[other] + raw))
+        page.done(name)
+        page.says("verdict-line", f"{NAMES[other]} (as its BOM says")
+        page.click("switch")
+        page.done("the switch")
+        check_report(page, room, f"bom-{name}", "Yes: 1 error", NAMES[order] + r" \(as you chose", [0])
+        page.equal(page.value("document.activeElement.id"), "order", "the focus after the switch")
+        page.equal(page.value("byId('hint').hidden"), True, "the hint after the switch")
+        check_saved(page, room, f"bom-{name}", text, order, True)
+
+
+def utf8_files(page, room):
+    """UTF-8 is found, with a BOM and without, and with errors."""
+    for bom, given, text in itertools.product(
+        (b"", b"\xef\xbb\xbf"), (LONG, CHINESE, "plain ASCII\r\n"), ("", "\ufffd")
+    ):
+        raw = bom + given.encode() + (b"\xe2\x82" if text else b"") + b"end"
+        offsets = [len(bom + given.encode())] if text else []
+        how = NAMES["utf8"] + (r" \(as its BOM" if bom else GUESS)
+        wanted = ("It is not UTF-16", how, offsets, given + text + "end", "le", True)
+        repaired_file(page, room, f"utf8-{len(raw)}-{len(bom)}", raw, wanted)
+    raw = LONG.encode()
+    wanted = ("It is not UTF-16", NAMES["utf8"] + GUESS, [], LONG, "le", True)
+    repaired_file(page, room, "utf8", raw, wanted)
+    page.choose("order", "le")
+    page.equal(page.text("hint-line"), "It looks more like UTF-8.", "the hint for UTF-8")
+
+
+def shifted_files(page, room):
+    """A byte is lost or added inside, in both byte orders: what follows is read from the next one."""
+    changes = ("first", "second", "added", "both")
+    for order, bom, change in itertools.product(CODECS, (True, False), changes):
+        raw = (BOMS[order] if bom else b"") + (LONG * 2).encode(CODECS[order])
+        at, far = 2 * bom + 40, 2 * bom + 100
+        broken = {
+            "first": raw[:at] + raw[at + 1 :],
+            "second": raw[: at + 1] + raw[at + 2 :],
+            "added": raw[:at] + b"\0" + raw[at:],
+            "both": raw[:at] + b"\0" + raw[at:far] + raw[far + 1 :],
+        }[change]
+        decoded = lambda part: part.decode(CODECS[order])
+        rest = at if change in ("added", "both") else at + 2
+        parts, offsets = [raw[2 * bom : at], raw[rest:]], [at]
+        if change == "both":
+            parts, offsets = [parts[0], raw[at:far], raw[far + 2 :]], [at, far + 1]
+        text = "\ufffd".join(map(decoded, parts))
+        wanted = (f"Yes: {len(offsets)} error", NAMES[order], offsets, text, order, bom)
+        repaired_file(page, room, f"shift-{change}-{order}-{bom}", broken, wanted)
+        page.says("errors", "lost or added here")
+    page.click("align")
+    page.done("no search for shifts")
+    page.test("lost or added" not in page.text("errors"), page.text("errors"))
+    page.click("align")
+    page.done("the search for shifts")
+    raw = b"\xff\xfe" + CHINESE.encode("utf-16-le")[1:]
+    wanted = ("Yes: 1 error", NAMES["le"], [2], "\ufffd" + CHINESE[1:], "le", True)
+    repaired_file(page, room, "shift-start", raw, wanted)
+
+
+def many_errors(page, room):
+    """10 MB with more errors than are kept: it takes linear time, and the page stays alive."""
+    text = LONG.replace("\n", "\udc00\ud83d") * 75_000
+    raw = b"\xff\xfe" + text.encode("utf-16-le", "surrogatepass")[: 10_000_000]
+    dense = b"\xff\xfe" + b"\x00\xdca\0" * 2_500_000
+    for name, raw in (("many", raw), ("dense", dense)):
+        wanted = raw[2:].decode("utf-16-le", "replace")
+        page.value(
+            "window.gap = 0; window.last = performance.now(); window.timer = setInterval(() => {"
+            "const now = performance.now(); gap = Math.max(gap, now - last); last = now }, 20)"
+        )
+        start = time.monotonic()
+        page.give_file(written(room / f"{name}.bin", raw))
+        page.done(name)
+        took = time.monotonic() - start
+        page.value("clearInterval(timer)")
+        count = wanted.count("\ufffd")
+        page.says("verdict-line", f"Yes: {count:,} errors")
+        page.says("range", f"of {count:,}")
+        page.test(page.value("gap") < 2000, f"{name}: the page stood still for {page.value('gap')} ms")
+        gap = page.value("gap")
+        print(f"{name}: {count} errors after {took:.1f} s, at most {gap:.0f} ms without an answer")
+        page.equal(page.saved(room, name, "utf8") == wanted.encode(), True, f"{name}: the text")
+        repaired = b"\xff\xfe" + wanted.encode("utf-16-le")
+        page.equal(page.saved(room, name, "utf16") == repaired, True, f"{name}: the repaired file")
+    page.says("range", "the first 1,000,000 are listed")
+    pages_of_errors(page)
+
+
+def pages_of_errors(page):
+    """The list has pages: the next, the one before, and one from any error on. It jumps to the last."""
+    page.click("later-errors")
+    page.wait(f"{OFFSETS}[0] === 82", "the next errors")
+    page.equal(page.value("byId('errors').start"), 21, "the number of the first error that is listed")
+    page.click("earlier-errors")
+    page.wait(f"{OFFSETS}[0] === 2", "the errors before")
+    page.value("byId('row').value = 999999; byId('row').dispatchEvent(new Event('change'))")
+    page.wait(f"{OFFSETS}.length === 2", "the last errors")
+    page.equal(page.value(OFFSETS), [2 + 4 * 999_998, 2 + 4 * 999_999], "the last errors")
+    page.value("[...document.querySelectorAll('[data-show]')].at(-1).click()")
+    page.wait("document.activeElement.dataset.item === '3999998'", "the focus on the last error")
+
+
+def stopped_file(page, room):
+    """A large file is checked with its progress, until it is stopped or to its end."""
+    raw = (LONG.encode("utf-16-le") * (LARGE // len(LONG)))[:LARGE]
+    page.give_file(written(room / "large.txt", raw))
+    page.wait("byId('progress').value > 0", "progress")
+    page.click("stop")
+    page.equal(page.text("verdict-line"), "Stopped.", "a file that was stopped")
+    page.equal(page.value("byId('busy').hidden && byId('found').hidden"), True, "what is shown of it")
+    os.link(room / "large.txt", room / "again.txt")
+    page.give_file(room / "again.txt")
+    seen, end = set(), time.monotonic() + PATIENCE
+    while page.value("document.body.dataset.state") != "done" and time.monotonic() < end:
+        seen.add(page.value("byId('progress').value"))
+    page.test(len(seen) > 2 and sorted(seen)[-1] > 0.5, f"the progress: {seen}")
+    page.says("verdict-line", "No: there is no error in 40,000,000")
+
 
 def known_bytes(page):
-    for source, order, items, valid_up_to, error_len, text in KNOWN:
+    for source, order, items, offsets, text in KNOWN:
         page.enter(source, order)
-        name = f"{source or 'nothing'} in {order}"
+        name = f"{source} in {order}"
         page.equal(page.value(ITEMS), items, name)
-        page.equal(page.text("valid-up-to"), valid_up_to, f"valid_up_to of {name}")
-        page.equal(page.text("error-len"), error_len, f"error_len of {name}")
-        page.equal(page.text("joined"), text, f"the joined text of {name}")
-        page.equal(page.text("lossy"), text, f"the text of {name}")
-        octets = text.encode().hex(" ").upper()
-        page.equal(page.text("lossy-bytes"), octets, f"UTF-8 of {name}")
-        page.equal(page.text("lossless-bytes").strip(), wtf8(source, order), f"WTF-8 of {name}")
-
-
-def lossless(page):
-    """WTF-8 with its surrogates marked, and the note that it gives the same bytes."""
-    page.enter("61 00 00 DC 5C D5 AC 20 FF DB 3D", "le")
-    found = page.value("[...document.querySelectorAll('mark')].map(it => it.textContent)")
-    page.equal([it for it in found if len(it) == 8], ["ED B0 80", "ED AF BF"], "the surrogates")
-    wanted = "61 ED B0 80 ED 95 9C E2 82 AC ED AF BF"
-    page.equal(page.text("lossless-bytes").strip(), wanted, "WTF-8")
-    note = "Converted back, it is the same 10 bytes of UTF-16. The odd byte at the end is left out."
-    page.equal(page.text("lossless-note"), note, "the note on WTF-8")
+        page.equal(page.value(OFFSETS), offsets, f"the errors of {name}")
+        page.equal(page.text("preview"), text, f"the text of {name}")
+        is_utf8 = order == "utf8" or source.startswith("EF BB BF")
+        page.says("verdict-line", "It is not UTF-16" if is_utf8 else "Yes: " if offsets else "No: ")
 
 
 def reasons(page):
     """Why each sequence is ill formed, with its place."""
     page.enter("DC 00 D8 3D 00 61 D8 3D D8 3D DE 00 D8", "be")
-    found = page.value("[...document.querySelectorAll('#errors li')].map(it => it.textContent)")
+    leading = "D8 3D becomes U+FFFD: D83D is a leading surrogate, and"
     wanted = [
-        "At byte 0: DC00 is a trailing surrogate, and there is no leading one before it.",
-        "At byte 2: D83D is a leading surrogate, and 0061 after it is not a trailing one.",
-        "At byte 6: D83D is a leading surrogate, and D83D after it is not a trailing one.",
-        "At byte 12: the bytes end after one byte of a code unit.",
+        "At byte 0 0x0 DC 00 becomes U+FFFD: DC00 is a trailing surrogate, "
+        "and there is no leading one before it.",
+        f"At byte 2 0x2 {leading} 0061 after it is not a trailing one.",
+        f"At byte 6 0x6 {leading} D83D after it is not a trailing one.",
+        "At byte 12 0xC D8 becomes U+FFFD: the text ends after one byte of a code unit.",
     ]
-    page.equal(found, wanted, "the reasons")
+    page.equal(page.value(ERRORS), wanted, "the reasons")
+    page.equal(page.text("becomes"), "FF FD", "U+FFFD in big endian")
     page.enter("3D D8 00", "le")
-    page.test("after a leading surrogate" in page.text("errors"), page.text("errors"))
-    page.enter("00 DC " * 9, "le")
-    page.test(page.text("errors").endswith("And 3 more."), page.text("errors"))
+    page.says("errors", "after a leading surrogate")
 
 
-def wtf8(source, order):
-    """The WTF-8 of bytes in hex, which Python's handler surrogatepass makes too."""
-    raw = bytes.fromhex(source)
-    has_bom = order == "bom" and raw[:2] in (b"\xff\xfe", b"\xfe\xff")
-    codec = "utf-16-be" if order == "be" or raw[:2] == b"\xfe\xff" else "utf-16-le"
-    units = raw[2 * has_bom : len(raw) // 2 * 2]
-    return units.decode(codec, "surrogatepass").encode("utf-8", "surrogatepass").hex(" ").upper()
+def late_error(page):
+    """The verdict is on all bytes, not on those that are shown."""
+    page.enter("61 00 " * 500 + "00 DC", "auto")
+    page.says("verdict-line", "Yes: 1 error in 1,002 bytes")
+    page.equal(page.value("byId('verdict').className"), "verdict invalid", "the verdict on a late error")
+    page.equal(page.value(OFFSETS), [1000], "a late error")
 
 
-def input_forms(page):
-    page.enter(TEXT, "le", "text")
-    page.equal(page.text("joined"), TEXT, "a text that was entered")
-    page.value("document.querySelector('input[value=hex]').click()")
-    wanted = TEXT.encode("utf-16-le").hex(" ").upper()
-    page.equal(page.value("byId('input').value"), wanted, "the text as bytes")
-    page.value("document.querySelector('input[value=text]').click()")
-    page.equal(page.value("byId('input').value"), TEXT, "the bytes as text")
-    page.enter("a\\uDC00\\u{1F600}\\\\", "be", "text")
+def forms_of_the_field(page):
+    """Another form reads the same field again, and back again the same bytes."""
+    source = "61 00 0D 00 0A 00 3D"
+    page.enter(source)
+    for form in ("text", "dump", "hex"):
+        page.choose("form", form)
+        page.equal(page.value("byId('input').value"), source, f"the field as {form}")
+    page.equal(page.value("octets(shown.bytes)"), source, "bytes as hex, as text and again as hex")
+    page.enter(TEXT, form="auto")
+    page.equal(page.text("preview"), TEXT, "a text that was entered")
+    page.enter("a\\uDC00\\u{1F600}\\", "be", "text")
     page.equal(page.value("octets(shown.bytes)"), "00 61 DC 00 D8 3D DE 00 00 5C", "code units in a text")
-    page.value("document.querySelector('input[value=hex]').click()")
-    page.value("document.querySelector('input[value=text]').click()")
-    page.equal(page.value("byId('input').value"), "a\\uDC00\U0001f600\\\\", "code units, there and back")
-    page.enter("61 0", "le")
-    page.test("half a byte" in page.text("input-note"), "half a byte is not noticed")
-    page.enter("61 x0", "le")
-    page.test("not a hex digit" in page.text("input-note"), "a wrong digit is not noticed")
-    page.enter("61 " * 300, "le")
-    page.test("first 256 of 300 bytes" in page.text("input-note"), "bytes are left out without a word")
+    page.says("verdict-line", "(from your text)")
+
+
+def dumps(page):
+    """A dump gives its bytes, without its offsets and its column of text, also if that looks like hex."""
+    wanted = DUMPED.hex(" ").upper()
+    for name, dump in DUMPS.items():
+        page.enter(dump, form="auto")
+        page.says("input-note", "Read as a dump: 77 bytes.")
+        found = page.value("report.file.arrayBuffer().then(it => window.raw = octets(new Uint8Array(it)))")
+        page.wait("window.raw", "the bytes of a dump")
+        page.equal(page.value("raw"), wanted, f"the bytes of a dump of {name}")
+        page.value("window.raw = undefined")
+        page.equal(page.value(OFFSETS), [72, 76], f"the errors of a dump of {name}")
+    for command in (["xxd"], ["xxd", "-g1", "-c8", "-u"], ["hexdump", "-C"]):
+        if shutil.which(command[0]):
+            found = subprocess.run(command, input=DUMPED, stdout=subprocess.PIPE, check=True).stdout
+            page.enter(found.decode(), form="auto")
+            page.equal(page.value(OFFSETS), [72, 76], f"the errors of a dump of {command}")
+
+
+def unreadable(page):
+    """What cannot be read gets no verdict, and says why."""
+    for form, source, words in (
+        ("hex", "61 x0", "bytes in hex: \u201cx0\u201d is not bytes in hex."),
+        ("hex", "61 0", "bytes in hex: \u201c0\u201d ends with half a byte."),
+        ("dump", "no dump", "a dump: \u201cno dump\u201d is not a line of a dump."),
+        ("dump", "0000: 61\n*\nffffffff: 61", "a dump: the dump leaves out too much."),
+    ):
+        page.enter(source, form=form)
+        page.says("verdict-line", f"This cannot be read as {words}")
+        page.equal(page.value("byId('verdict').className"), "verdict", f"the colour of {source!r}")
+        page.equal(page.value("byId('found').hidden"), True, f"what is shown of {source!r}")
+    page.enter("61 00", form="hex")
+    page.equal(page.value("byId('found').hidden"), False, "what is shown of bytes after that")
+
+
+def one_offset(page):
+    """Offsets count from the start of the file, the BOM too, wherever they are shown."""
+    page.enter("FE FF 00 61 DC 00 00 62")
+    page.equal(page.value(OFFSETS), [4], "an error after a BOM")
+    page.equal(page.value("byId('offset').value"), "2", "where the strip begins")
+    page.value("document.querySelector('[data-show]').click()")
+    page.wait("document.activeElement.dataset.item === '4'", "the item at the error")
+    page.equal(page.value("document.activeElement.title.slice(0, 10)"), "At byte 4:", "what the item says")
+    page.click("add")
+    wanted = page.value("Number(document.querySelector('.cut').ariaValueNow)") + 2
+    words = page.value("document.querySelector('.cut').ariaValueText")
+    page.test(f"before byte {wanted}" in words, f"a cut: {words}")
+
+
+def windows(page):
+    """The strip moves through the file, and cuts no pair at its ends."""
+    page.enter("3D D8 00 DE " * 200, "le")
+    for name, start in (("later", 128), ("later", 256), ("earlier", 128)):
+        page.click(name)
+        page.wait(f"byId('offset').value === '{start}'", f"{name} bytes")
+        page.equal(page.value(ITEMS), ", ".join(["pair U+1F600"] * 32), f"the bytes from {start} on")
+    page.value("byId('offset').value = 398; byId('offset').dispatchEvent(new Event('change'))")
+    page.wait("byId('offset').value === '396'", "the bytes from the middle of a pair on")
+    page.enter("F0 9F 98 80 " * 100, "utf8")
+    page.value("byId('offset').value = 203; byId('offset').dispatchEvent(new Event('change'))")
+    page.wait("byId('offset').value === '200'", "the bytes from the middle of a character on")
+    page.equal(page.value(ITEMS), ", ".join(["char U+1F600"] * 32), "UTF-8 from there on")
+    page.equal(page.value("byId('cutting').hidden"), True, "cuts in UTF-8")
+
+
+def keyboard(page):
+    """The order of the controls, the jump to an error and back, and the live verdict."""
+    page.enter("61 00 00 DC 62 00 3D", "auto", "auto")
+    page.value("byId('file').focus()")
+    seen = []
+    for _ in range(22):
+        seen.append(page.value(f"{ACTIVE}.id || Object.values({ACTIVE}.dataset)[0]"))
+        page.press("Tab")
+    wanted = "file input form unpaired odd lost utf8 dump order align 2 6 save-utf8 save-utf16 preview "
+    wanted += "earlier later offset add every random none"
+    page.equal(" ".join(map(str, seen)), wanted, "the order of the controls")
+    page.value("document.querySelector('[data-show]').focus()")
+    page.press("Enter")
+    page.wait("document.activeElement.dataset.item === '2'", "the focus after a jump")
+    page.test(page.value(f"{ACTIVE}.getBoundingClientRect().top >= 0"), "the item is in the window")
+    page.value("byId('back').focus()")
+    page.press("Enter")
+    page.equal(page.value("document.activeElement.dataset.show"), "2", "the focus after the way back")
+    page.equal(page.value("byId('verdict').getAttribute('role')"), "status", "the live verdict")
 
 
 def moved_cuts(page):
@@ -273,100 +599,74 @@ def dragged_cuts(page):
 
 
 def examples(page):
-    for name in page.value("Object.keys(EXAMPLES)"):
+    wanted = {"unpaired": 2, "odd": 1, "lost": 1, "utf8": 0, "dump": 1}
+    page.equal(page.value("Object.keys(EXAMPLES)"), list(wanted), "the examples")
+    for name, count in wanted.items():
         page.value(f"document.querySelector('[data-example={name}]').click()")
-        page.test(page.text("joined") and page.text("joined") == page.text("lossy"), f"the example {name}")
-        page.click("random")
-        page.equal(page.text("joined"), page.text("lossy"), f"the example {name}, cut at random")
-        page.click("try")
-        page.test((tally(page) or 0) > 30, f"many cuttings of {name}: {page.text('tally')}")
+        page.done(name)
+        page.equal(page.value("report.count"), count, f"the errors of the example {name}")
+        if page.value("shown.isStream"):
+            page.click("random")
+            page.equal(page.text("joined"), page.text("preview"), f"the example {name}, cut at random")
+            page.click("try")
+            page.test((tally(page) or 0) > 30, f"many cuttings of {name}: {page.text('tally')}")
 
 
-def large_file(page, room):
-    """A file is decoded in a worker, with its progress, until it is stopped or to its end."""
-    line = "Gr\u00fc\u00dfe, \u4e16\u754c \U0001f600!\n".encode("utf-16-le")
-    path = room / "large.txt"
-    path.write_bytes((line * (LARGE // len(line) + 1))[:LARGE])
-    page.give_file(path)
-    page.wait("byId('progress').value > 0", "progress")
-    page.click("stop")
-    at = page.value("byId('progress').value")
-    page.test(0 < at < 1, f"the progress of a file that was stopped: {at}")
-    page.equal(page.text("file-line"), "Stopped.", "a file that was stopped")
-    time.sleep(0.5)
-    page.equal(page.value("byId('progress').value"), at, "the progress after the stop")
-    again = room / "again.txt"
-    os.link(path, again)
-    page.give_file(again)
-    seen, end = set(), time.monotonic() + PATIENCE
-    while not is_done(page, again.name) and time.monotonic() < end:
-        seen.add(page.value("byId('progress').value"))
-    page.test(len(seen) > 2 and page.value("byId('progress').value") == 1, f"the progress: {seen}")
-    page.test("100 MB of 100 MB read" in page.text("file-line"), page.text("file-line"))
-    page.equal(page.value("byId('stop').disabled"), True, "the button after the end")
-    page.click("made")
-    wait_done(page, "Sample text")
-    page.test("100 MB of 100 MB read" in page.text("file-line"), page.text("file-line"))
-
-
-def is_done(page, name):
-    return page.text("file-line").startswith(f"{name}: done")
-
-
-def wait_done(page, name):
-    page.wait(f"byId('file-line').textContent.startsWith('{name}: done')", f"the end of {name}")
-
-
-def saved_file(page, room):
-    """The output of a file with an error after the first slice, cut inside a pair there."""
-    slice_len = 4 << 20
-    raw = b"a\0" * (slice_len // 2 - 1) + b"\x3d\xd8\x00\xde" + b"b\0" + b"\x00\xdc" + b"c\0" + b"\x3d"
-    text = "a" * (slice_len // 2 - 1) + "\U0001f600b\ufffdc\ufffd"
-    for bom, order in ((b"", "le"), (b"\xff\xfe", "bom")):
-        path = room / f"file-{order}.utf16"
-        path.write_bytes(bom + raw)
-        page.value(f"byId('order').value = '{order}'")
-        page.give_file(path)
-        wait_done(page, path.name)
-        error = f"{len(bom) + slice_len + 4:,}"
-        page.test(f"first error is at byte {error}." in page.text("file-line"), page.text("file-line"))
-        page.click("save")
-        saved = room / f"file-{order}.utf8.txt"
-        end = time.monotonic() + PATIENCE
-        while not saved.exists() and time.monotonic() < end:
-            page.value("1")
-            time.sleep(0.05)
-        page.test(saved.exists() and saved.read_text(encoding="utf-8") == text, f"the saved text, {order}")
-
-
-def dropped_file(page):
-    page.value("byId('order').value = 'be'")
-    page.value(
-        "const given = new DataTransfer();"
-        "given.items.add(new File([Uint8Array.of(0, 0x61, 0xdc, 0)], 'dropped.txt'));"
-        "document.dispatchEvent(new DragEvent('drop', {dataTransfer: given, cancelable: true}))"
-    )
-    wait_done(page, "dropped.txt")
-    page.equal(page.text("joined"), "a\ufffd", "the text of a dropped file")
-    page.equal(page.value("byId('input').value"), "00 61 DC 00", "the bytes of a dropped file")
+def given_files(page):
+    """A file that is dropped or pasted."""
+    for event, field in (("DragEvent('drop'", "dataTransfer"), ("ClipboardEvent('paste'", "clipboardData")):
+        page.value(
+            "document.body.dataset.state = 'busy'; const given = new DataTransfer();"
+            "given.items.add(new File([Uint8Array.of(0, 0x61, 0xdc, 0, 0, 0x62)], 'given.txt'));"
+            f"document.dispatchEvent(new {event}, {{{field}: given, cancelable: true}}))"
+        )
+        page.done("a file that was given")
+        page.equal(page.text("preview"), "a\ufffdb", f"the text of a file by {event}")
 
 
 def looks(page, pictures):
-    """Both themes in a narrow and a wide window."""
+    """Both themes in a narrow and a wide window, with each example."""
     grounds = set()
     for (window, width), theme in itertools.product(WINDOWS.items(), ("light", "dark")):
         size = {"height": 900, "deviceScaleFactor": 1, "mobile": False}
         page.browser.call("Emulation.setDeviceMetricsOverride", width=width, **size)
         site_browser.theme(page.browser, theme)
-        page.value("document.querySelector('[data-example=pair]').click()")
-        found = page.value("document.documentElement.scrollWidth")
-        page.test(found <= width, f"the page is {found} pixels wide in a window of {width}")
+        for name in page.value("Object.keys(EXAMPLES).reverse()"):
+            page.value(f"document.querySelector('[data-example={name}]').click()")
+            page.done(name)
+            found = page.value("document.documentElement.scrollWidth")
+            page.test(found <= width, f"{name}: the page is {found} pixels wide in a window of {width}")
         grounds.add(page.value("getComputedStyle(document.body).backgroundColor"))
+        contrasts(page, theme)
         if pictures:
             page.value("scrollTo(0, 0); document.activeElement.blur()")
             shot = page.browser.call("Page.captureScreenshot", captureBeyondViewport=True)
             (pictures / f"{window}-{theme}.png").write_bytes(base64.b64decode(shot["data"]))
     page.equal(len(grounds), 2, "the grounds of two themes")
+
+
+def contrasts(page, theme):
+    """The colours of text have a contrast of 4.5, and edges of controls of 3, by WCAG 2."""
+    pairs = itertools.product(("text", "quiet", "accent", "good", "bad"), ("ground", "card"))
+    for front, back in (*pairs, ("bad", "bad-ground"), *(("text", f"tint-{it}") for it in range(4))):
+        found = contrast(luminance(page, front), luminance(page, back))
+        page.test(found >= 4.5, f"the contrast of {front} on {back} in the {theme} theme is {found:.2f}")
+    found = contrast(luminance(page, "edge"), luminance(page, "ground"))
+    page.test(found >= 3, f"the contrast of edges in the {theme} theme is {found:.2f}")
+
+
+def contrast(one, other):
+    return (max(one, other) + 0.05) / (min(one, other) + 0.05)
+
+
+def luminance(page, name):
+    """The relative luminance of a colour of the page, by WCAG 2."""
+    style = "getComputedStyle(document.documentElement)"
+    digits = page.value(f"{style}.getPropertyValue('--{name}')").strip("# ")
+    digits = digits if len(digits) == 6 else "".join(it * 2 for it in digits)
+    parts = [int(digits[at : at + 2], 16) / 255 for at in (0, 2, 4)]
+    linear = [it / 12.92 if it <= 0.04045 else ((it + 0.055) / 1.055) ** 2.4 for it in parts]
+    return sum(it * weight for it, weight in zip(linear, (0.2126, 0.7152, 0.0722)))
 
 
 def unsupported(page):
@@ -376,7 +676,7 @@ def unsupported(page):
     )
     page.browser.open(page.address)
     page.wait("!document.getElementById('trouble').hidden", "the message")
-    page.test("SIMD" in page.text("trouble"), page.text("trouble"))
+    page.says("trouble", "SIMD")
     page.browser.call("Page.removeScriptToEvaluateOnNewDocument", identifier=script["identifier"])
 
 
@@ -411,14 +711,15 @@ def run(page, room, pictures):
     page.browser.call("DOM.enable")
     page.open()
     print(f"the page was ready after {page.value('document.body.dataset.ready')} ms")
-    parts = (known_bytes, lossless, reasons, input_forms, moved_cuts, pending_bytes, dragged_cuts)
-    for part in (*parts, examples, names):
+    parts = (known_bytes, reasons, late_error, forms_of_the_field, dumps, unreadable, one_offset, windows)
+    parts += (keyboard, moved_cuts, pending_bytes, dragged_cuts, examples, names, given_files)
+    for part in parts:
         part(page)
         errors(page)
-    for part in (large_file, saved_file):
+    parts = (unpaired_surrogates, short_files, wrong_orders, utf8_files, shifted_files, many_errors)
+    for part in (*parts, stopped_file):
         part(page, room)
         errors(page)
-    dropped_file(page)
     looks(page, pictures)
     errors(page)
     unsupported(page)

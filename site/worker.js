@@ -1,12 +1,159 @@
-// Decodes a file in slices, in a worker. The binding comes before this text.
-const FILE_SLICE = 4 << 20;
+// Reads a file in slices, in a worker: guesses its byte order, finds its errors, and makes the file
+// in UTF-8 and in repaired UTF-16. The binding comes before this text.
 
-/** Returns the byte order of a file and the length of its BOM. */
-async function startOf(library, file, order) {
-    if (order !== "bom") {
-        return { order, len: 0 };
+const SLICE = 4 << 20;
+// How many bytes the guess of the byte order looks at.
+const SAMPLE = 1 << 18;
+// The most errors whose offsets are kept. All are counted.
+const MOST_KEPT = 1_000_000;
+
+// Costs of a code unit: 0 is what a text most often has. Random bytes cost about 6 in UTF-16.
+const FROM = [
+    [0x0000, 12],
+    [0x0020, 0],
+    [0x007f, 12],
+    [0x00a0, 2],
+    [0x1000, 5],
+    [0x1e00, 2],
+    [0x2c00, 5],
+    [0x3000, 2],
+    [0x3100, 5],
+    [0x4e00, 4],
+    [0xa000, 5],
+    [0xac00, 4],
+    [0xd800, 2],
+    [0xe000, 16],
+    [0xf900, 5],
+    [0xff00, 2],
+    [0xfff0, 16],
+];
+const IMPLAUSIBLE = 12;
+// The cost of a byte that is left out because what follows is shifted, and of an odd byte at the
+// end. A shift must make more than this better: about eight ASCII characters or 30 of Chinese.
+const SHIFTED = 60;
+const ODD = 10;
+
+const COSTS = new Uint8Array(0x10000);
+FROM.forEach(([first, cost]) => COSTS.fill(cost, first));
+[0x09, 0x0a, 0x0d].forEach((it) => (COSTS[it] = 0));
+COSTS[0xfffd] = 2;
+// A code unit that ends with a zero byte is more often an ASCII character that is misread.
+for (let unit = 0x100; unit < 0xd800; unit += 0x100) {
+    COSTS[unit] += unit === 0x3000 ? 0 : 4;
+}
+
+/** What a code unit after another one costs: a change of the script is a bit less likely. */
+function costOf(unit, before) {
+    const isAfterLeading = (before & 0xfc00) === 0xd800;
+    if (isAfterLeading !== ((unit & 0xfc00) === 0xdc00)) {
+        return IMPLAUSIBLE;
     }
-    return library.detectBom(new Uint8Array(await file.slice(0, 2).arrayBuffer()), "le");
+    return COSTS[unit] + (unit >> 8 === before >> 8 ? 0 : 1);
+}
+
+/**
+ * Finds the cheapest reading of bytes in a byte order, and which bytes it leaves out. For each
+ * length it keeps the least cost, which is that of two bytes less with a code unit, or that of one
+ * byte less with a byte that is left out. Takes linear time.
+ */
+class Reading {
+    #isLittle;
+    #count = 0;
+    // The last byte, and the code units that end with it and one byte before.
+    #state = [0, 0, 0];
+    // The least costs of the last two lengths, at first 0 and -1, with the bytes that are left out.
+    #costs = [0, SHIFTED * 2];
+    #left = [null, null];
+
+    constructor(order) {
+        this.#isLittle = order === "le";
+    }
+
+    add(bytes) {
+        let [last, unit1, unit2] = this.#state;
+        let [cost1, cost2] = this.#costs;
+        let [left1, left2] = this.#left;
+        for (let at = 0; at < bytes.length; at += 1) {
+            const byte = bytes[at];
+            const unit = this.#isLittle ? last | (byte << 8) : (last << 8) | byte;
+            const cost = cost2 + costOf(unit, unit2);
+            const isShift = cost1 + SHIFTED < cost;
+            const left = isShift ? { at: this.#count + at, before: left1 } : left2;
+            left2 = left1;
+            left1 = left;
+            cost2 = cost1;
+            cost1 = isShift ? cost1 + SHIFTED : cost;
+            unit2 = unit1;
+            unit1 = unit;
+            last = byte;
+        }
+        this.#count += bytes.length;
+        this.#state = [last, unit1, unit2];
+        this.#costs = [cost1, cost2];
+        this.#left = [left1, left2];
+    }
+
+    /** Returns the cost of all, and the offsets that are left out, in their order. */
+    end() {
+        const isOdd = this.#costs[1] + ODD < this.#costs[0];
+        const shifts = [];
+        for (let it = this.#left[isOdd ? 1 : 0]; it; it = it.before) {
+            shifts.push(it.at);
+        }
+        return { cost: isOdd ? this.#costs[1] + ODD : this.#costs[0], shifts: shifts.reverse() };
+    }
+}
+
+function costIn(order, sample) {
+    if (order !== "utf8") {
+        const reading = new Reading(order);
+        reading.add(sample);
+        return reading.end().cost;
+    }
+    let cost = 0;
+    for (const char of new TextDecoder().decode(sample)) {
+        cost += char === "\ufffd" ? IMPLAUSIBLE : COSTS[Math.min(char.codePointAt(0), 0x4e00)];
+    }
+    return cost;
+}
+
+const readBytes = async (file, at, end) => new Uint8Array(await file.slice(at, end).arrayBuffer());
+
+/** Returns the order that a BOM says and its length, or nothing. */
+function bomOf(library, sample) {
+    if (sample[0] === 0xef && sample[1] === 0xbb && sample[2] === 0xbf) {
+        return { order: "utf8", len: 3 };
+    }
+    const { order, len, status } = library.detectBom(sample);
+    return status === "present" ? { order, len } : undefined;
+}
+
+/** Decides how a file is read: as was wanted, else by its BOM, else by a guess. */
+async function orderOf(library, file, wanted) {
+    const sample = await readBytes(file, 0, SAMPLE);
+    const bom = bomOf(library, sample);
+    const rest = sample.subarray(bom?.len ?? 0);
+    const costs = ["le", "be", "utf8"].map((order) => ({ order, cost: costIn(order, rest) }));
+    const [best] = costs.sort((one, other) => one.cost - other.cost);
+    const order = wanted ?? bom?.order ?? best.order;
+    const own = costs.find((it) => it.order === order);
+    const isSure = costs[1].cost > best.cost + SHIFTED;
+    const why = wanted ? "wanted" : bom ? "bom" : isSure ? "guess" : "unsure";
+    // A BOM of UTF-16 is a BOM in both byte orders, and the wrong one is an error.
+    const isBom = bom && (bom.order === order || (bom.order !== "utf8" && order !== "utf8"));
+    const better = own.cost > best.cost + SHIFTED ? best.order : undefined;
+    const isWrongBom = isBom && bom.order !== order;
+    return { order, why, better, from: isBom ? bom.len : 0, isWrongBom };
+}
+
+/** Returns the offsets of bytes after which the text is shifted by one byte. */
+async function shiftsOf(file, { order, from }, tell) {
+    const reading = new Reading(order);
+    for (let at = from; at < file.size; at += SLICE) {
+        reading.add(await readBytes(file, at, at + SLICE));
+        tell(at / file.size / 2);
+    }
+    return reading.end().shifts.map((it) => from + it);
 }
 
 /** Returns arrays as one. */
@@ -17,35 +164,130 @@ function together(first, second) {
     return all;
 }
 
-/** Returns the offset of the first error in a slice that begins at `at`, if there is one. */
-function errorIn(library, pending, slice, order, at, isLast) {
-    const { validUpTo, status } = library.validate(together(pending, slice), order);
-    const isError = status === "ill-formed" || (isLast && status === "incomplete");
-    return isError ? at - pending.length + validUpTo : undefined;
+/** Returns where code units were replaced. */
+function differences(bytes, repaired) {
+    const units = (array) => new Uint16Array(array.buffer, 0, array.length / 2);
+    const [before, after] = [units(bytes), units(repaired)];
+    const found = [];
+    before.forEach((unit, at) => unit !== after[at] && found.push(at * 2));
+    return found;
 }
 
-/** Decodes a file, and tells the page after each slice how far it is. */
-async function decodeFile({ bytes, file, order: wanted }) {
-    const library = await dethrux.instantiate(bytes);
-    const { order, len } = await startOf(library, file, wanted);
-    const decoder = library.decoder(order);
-    const parts = [];
-    let [written, milliseconds, firstError] = [0, 0, undefined];
-    for (let at = len; at < file.size; at += FILE_SLICE) {
-        const slice = new Uint8Array(await file.slice(at, at + FILE_SLICE).arrayBuffer());
-        const isLast = at + slice.length >= file.size;
-        firstError ??= errorIn(library, decoder.pending, slice, order, at, isLast);
-        const start = performance.now();
-        const output = decoder.feed(slice);
-        milliseconds += performance.now() - start;
-        parts.push(new Blob([output]));
-        written += output.length;
-        postMessage({ read: at + slice.length, written, milliseconds, firstError });
+/** Returns where UTF-8 is ill formed. Each call copies its window: short ones keep time linear. */
+function illFormed(library, bytes) {
+    const found = [];
+    let [at, len] = [0, 64];
+    while (at < bytes.length) {
+        const { read, status, errorLen } = library.fromUtf8(bytes.subarray(at, at + len));
+        at += read;
+        len = Math.min(len * 2, 1 << 16);
+        if (status === "ill-formed") {
+            found.push(at);
+            at += errorLen;
+            len = 64;
+        }
     }
-    const end = decoder.finish();
-    const output = new Blob([...parts, end], { type: "text/plain;charset=utf-8" });
-    postMessage({ read: file.size, written: output.size, milliseconds, firstError, order, output });
+    return found;
+}
+
+/** Converts a stretch without a shift: `made` returns both forms of whole characters and errors. */
+function coderOf(library, order) {
+    if (order === "utf8") {
+        const made = (utf16, bytes) => {
+            const text = library.toUtf8(utf16, "le").output;
+            return { text, utf16, wrong: illFormed(library, bytes) };
+        };
+        return { stream: library.encoder("le"), made };
+    }
+    const made = (text, bytes) => {
+        const utf16 = bytes.slice();
+        library.makeWellFormed(utf16, order);
+        return { text, utf16, wrong: differences(bytes, utf16) };
+    };
+    return { stream: library.decoder(order), made };
+}
+
+/** The two outputs and the errors. */
+class Result {
+    constructor(order) {
+        this.isLittle = order !== "be";
+        this.parts = { text: [], utf16: [] };
+        this.errors = [];
+        this.count = 0;
+    }
+
+    add(text, utf16) {
+        this.parts.text.push(new Blob([text]));
+        this.parts.utf16.push(new Blob([utf16]));
+    }
+
+    addBom() {
+        this.add("", Uint8Array.of(...(this.isLittle ? [0xff, 0xfe] : [0xfe, 0xff])));
+    }
+
+    addError(at) {
+        this.count += 1;
+        if (this.count <= MOST_KEPT) {
+            this.errors.push(at);
+        }
+    }
+
+    /** Adds an error at an offset, and U+FFFD for it. */
+    addReplacement(at) {
+        this.addError(at);
+        this.add("\ufffd", Uint8Array.of(...(this.isLittle ? [0xfd, 0xff] : [0xff, 0xfd])));
+    }
+
+    message() {
+        const blob = (name, type) => new Blob(this.parts[name], { type });
+        const text = blob("text", "text/plain;charset=utf-8");
+        const utf16 = blob("utf16", "application/octet-stream");
+        return { text, utf16, errors: Float64Array.from(this.errors), count: this.count };
+    }
+}
+
+/** Converts the part of a file from one offset to another. */
+async function convert(library, file, order, start, end, result, tell) {
+    const { stream, made } = coderOf(library, order);
+    for (let at = start; at < end; at += SLICE) {
+        const slice = await readBytes(file, at, Math.min(at + SLICE, end));
+        const bytes = together(stream.pending, slice);
+        const base = at + slice.length - bytes.length;
+        const output = stream.feed(slice);
+        const whole = bytes.subarray(0, bytes.length - stream.pending.length);
+        const { text, utf16, wrong } = made(output, whole);
+        wrong.forEach((it) => result.addError(base + it));
+        result.add(text, utf16);
+        tell(0.5 + at / file.size / 2);
+    }
+    const { length } = stream.pending;
+    if (length) {
+        result.addReplacement(end - length);
+    }
+}
+
+async function check({ module, file, wanted, isAligning }) {
+    const tell = (progress) => postMessage({ progress });
+    const library = await dethrux.instantiate(module);
+    const how = await orderOf(library, file, wanted);
+    const isShiftable = isAligning && how.order !== "utf8";
+    const shifts = isShiftable ? await shiftsOf(file, how, tell) : [];
+    const result = new Result(how.order);
+    if (how.isWrongBom) {
+        result.addError(0);
+    }
+    if (how.from || how.order === "utf8") {
+        result.addBom();
+    }
+    let start = how.from;
+    for (const at of shifts) {
+        await convert(library, file, how.order, start, at, result, tell);
+        result.addReplacement(at);
+        start = at + 1;
+    }
+    await convert(library, file, how.order, start, file.size, result, tell);
+    postMessage({ found: { ...how, shifts, ...result.message() } });
 }
 
 onmessage = ({ data }) =>
-    decodeFile(data).catch((error) => postMessage({ trouble: String(error.message ?? error) }));
+    check(data).catch((error) => postMessage({ trouble: String(error.message ?? error) }));
