@@ -30,7 +30,7 @@ tools=(
     python3:python3 pip:python3-pip "$python_headers:python3-dev" module=ensurepip:python3-venv
     "module=test.test_codecs:libpython${python_version:-3}-testsuite" mypy:mypy python3-distributed
     python3-setuptools module=setuptools:python3-setuptools python3-wheel-whl
-    node:nodejs npm:npm tsc:node-typescript wasm-opt:binaryen
+    node:nodejs npm:npm tsc:node-typescript esbuild:esbuild wasm-opt:binaryen
     # Documents and packages.
     cmark-gfm:cmark-gfm mandoc:mandoc doxygen:doxygen chromium:chromium dh:debhelper
     dpkg-buildpackage:dpkg-dev lintian:lintian

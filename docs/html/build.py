@@ -27,7 +27,7 @@ BUILDERS = {
     "man": references.build_man,
 }
 WORDS = {
-    "see": "The proved decoder on your bytes, in a page that you can also open without a network.",
+    "see": "A page that lists the errors of your UTF-16 file and repairs it, also without a network.",
     "tree": "Guides to the library, what it promises and why, and how to change it.",
     "rattle": "The crates: each public item with its contract, and links to the definitions.",
     "c": "The headers <code>dethrux.h</code>, <code>dethrux_alloc.h</code> and <code>dethrux.hpp</code>.",

@@ -163,6 +163,8 @@ def build_python(tree):
 def native():
     """The functions of the extension: their types, with the documentation and the line in C."""
     source = (PACKAGE / "_native.c").read_text()
+    into = re.search(r"#define INTO\(name\)((?: \\\n)?(?:.*\\\n)*.*)", source)[1]
+    source = re.sub(r'INTO\("(\w+)"\)', lambda it: on_one_line(into, it[1]), source)
     rows = {it[1]: it for it in FUNCTION.finditer(source)}
     for node in ast.parse((PACKAGE / "_native.pyi").read_text()).body:
         if isinstance(node, ast.FunctionDef):
@@ -171,6 +173,11 @@ def native():
             node.body = [ast.Expr(ast.Constant(words))]
             node.lineno = source.count("\n", 0, row.start(1)) + 1
             yield node
+
+
+def on_one_line(macro, name):
+    """The strings that a macro of a function's name becomes, without its line ends."""
+    return re.sub(r"\s*\\\n\s*", " ", macro).replace(" name", f' "{name}"')
 
 
 def assigned(node):

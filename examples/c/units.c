@@ -5,7 +5,12 @@
 
 #include <stdio.h>
 #include <string.h>
+#ifdef __APPLE__
+/* Older systems have no <uchar.h>. */
+typedef uint_least16_t char16_t;
+#else
 #include <uchar.h>
+#endif
 
 enum { MOST = 8, ROOM = 32, BLANK = 0xA5 };
 

@@ -6,12 +6,13 @@ import dethrux
 
 utf16 = sys.stdin.buffer.read()
 at = 0
-while True:
-    part = dethrux.to_utf8(utf16[at:], "little")
-    print(f'text "{part.output.decode()}"')
-    at += part.read
-    if part.status != dethrux.Status.ILL_FORMED:
-        print("end" if part.status == dethrux.Status.DONE else "incomplete", "at byte", at)
+for error in dethrux.iter_errors(utf16, "little"):
+    print(f'text "{dethrux.decode(utf16[at : error.offset], "little")}"')
+    if error.status == dethrux.Status.INCOMPLETE:
+        print("incomplete at byte", error.offset)
         break
-    print(f"ill formed at byte {at}, {part.error_len} bytes")
-    at += part.error_len
+    print(f"ill formed at byte {error.offset}, {error.len} bytes")
+    at = error.offset + error.len
+else:
+    print(f'text "{dethrux.decode(utf16[at:], "little")}"')
+    print("end at byte", len(utf16))
