@@ -9,8 +9,8 @@ import unittest
 
 import dethrux
 from dethrux import Repertoire, Status
-from expected import CODECS, IN_PIECES, LARGEST, ORDERS, READABLE, UTF8, WRITABLE, items, progress
-from expected import utf16, without_memory
+from expected import CODECS, IN_PIECES, LARGEST, ORDERS, READABLE, UTF8, WRITABLE, items, peak
+from expected import progress, utf16, without_memory
 
 UTF32 = "utf-32-le" if sys.byteorder == "little" else "utf-32-be"
 # UTF-32 in the machine's byte order: well formed, ill formed at the start and at the end, cut.
@@ -95,6 +95,20 @@ class Errors(unittest.TestCase):
                 self.assertEqual(sum(1 for _ in dethrux.iter_errors(buffer, "little")), count)
                 taken.append(time.process_time() - before)
             self.assertLess(taken[1], 32 * taken[0] + 0.1)
+
+
+class Memory(unittest.TestCase):
+    """A call takes no more memory than the longest output for its input."""
+
+    def test_the_output(self):
+        count = 500_000
+        of_utf16 = ("little", b"a\0" * count)
+        for call, order, data, size in (
+            (dethrux.to_latin1, *of_utf16, count),
+            (dethrux.to_utf32, *of_utf16, 4 * count),
+            (dethrux.from_latin1, "big", b"a" * count, 2 * count),
+        ):
+            self.assertLess(peak(call, data, order), size + 50_000, call.__name__)
 
 
 class Inspect(unittest.TestCase):
