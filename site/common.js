@@ -8,6 +8,8 @@ const REPLACEMENT = "\ufffd";
 // The library and its compiled module, which workers share.
 let library;
 let module;
+// The file that was dropped or chosen; nothing if the field is read.
+let given;
 // What the worker found in a file, with the file; nothing until it has read one.
 let report;
 // The window of the file that the strip shows: its offset, bytes, byte order and items, and
@@ -19,7 +21,8 @@ const hex = (number, digits) => number.toString(16).toUpperCase().padStart(digit
 const octets = (bytes) => Array.from(bytes, (it) => hex(it, 2)).join(" ");
 const counted = (count) => count.toLocaleString("en");
 const plural = (count, noun) => `${counted(count)} ${noun}${count === 1 ? "" : "s"}`;
-const textOf = (utf8) => new TextDecoder("utf-8", { ignoreBOM: true }).decode(utf8);
+const textOf = (utf8, stream = false) =>
+    new TextDecoder("utf-8", { ignoreBOM: true }).decode(utf8, { stream });
 
 /** Turns a button off or on. A button that is off keeps the focus. */
 const turnOff = (id, isOff) => byId(id).setAttribute("aria-disabled", isOff);

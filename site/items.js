@@ -72,34 +72,37 @@ function glyph({ point }) {
 
 const nameOf = ({ kind, point }) => (point === undefined ? kind : `U+${hex(point, 4)}`);
 
-/** Returns where the stretch without a shift that has this offset begins and ends. */
-function stretchAt(at) {
-    const { shifts, from, file } = report;
+/** Returns where the stretch of a file without a shift that has this offset begins and ends. */
+function stretchAt({ shifts, from, file }, at) {
     const before = shifts.findLast((it) => it < at);
     const end = shifts.find((it) => it >= at) ?? file.size;
     return { start: before === undefined ? from : before + 1, end };
 }
 
-/** Returns an offset at or before this one where no character is cut. */
-async function boundaryAt(at) {
-    const { start, end } = stretchAt(at);
+/** Returns an offset of a file at or before this one where no character is cut. */
+async function boundaryAt(found, at) {
+    const { file, order } = found;
+    const { start, end } = stretchAt(found, at);
     if (at <= start || at >= end) {
         return Math.min(Math.max(at, start), end);
     }
-    if (report.order === "utf8") {
-        const near = await readBytes(report.file, Math.max(start, at - 3), at + 1);
+    if (order === "utf8") {
+        const near = await readBytes(file, Math.max(start, at - 3), at + 1);
         const back = [...near].reverse().findIndex((it) => (it & 0xc0) !== 0x80);
         return at - Math.max(back, 0);
     }
     const far = at - start;
     const first = start + Math.max(0, far - (far % 2) - 2);
-    const around = await readBytes(report.file, first, Math.min(first + 4, end));
-    return start + library.floorCharBoundaryAround(around, report.order, far);
+    const around = await readBytes(file, first, Math.min(first + 4, end));
+    return start + library.floorCharBoundaryAround(around, order, far);
 }
 
-/** Returns the items of a part of the file, whose ends cut no character. */
-function itemsBetween(start, bytes) {
-    const inside = report.shifts.filter((it) => it >= start && it < start + bytes.length);
+/**
+ * Returns the items of the first `len` bytes, whose ends cut no character. What follows them says
+ * why the last item is ill formed.
+ */
+function itemsBetween(start, bytes, len) {
+    const inside = report.shifts.filter((it) => it >= start && it < start + len);
     const items = [];
     let from = 0;
     const add = (end) => {
@@ -113,7 +116,8 @@ function itemsBetween(start, bytes) {
         from = at + 1;
     }
     add(bytes.length);
-    return { items, isStream: inside.length === 0 && report.order !== "utf8" };
+    const isStream = inside.length === 0 && report.order !== "utf8";
+    return { items: items.filter((it) => it.at < len), isStream };
 }
 
 /** Returns the error at an offset: its bytes, and why it is one. */
@@ -123,7 +127,7 @@ async function errorAt(at) {
         const why = "the BOM says the other byte order.";
         return { at, why, bytes: await readBytes(file, 0, from), isBom: true };
     }
-    const end = shifts.includes(at) ? at + 1 : Math.min(at + 4, stretchAt(at).end);
+    const end = shifts.includes(at) ? at + 1 : Math.min(at + 4, stretchAt(report, at).end);
     const bytes = await readBytes(file, at, end);
     const { len, why } = shifts.includes(at) ? { len: 1, why: SHIFT } : itemsOf(bytes, order)[0];
     return { at, why, bytes: bytes.subarray(0, len) };

@@ -13,23 +13,30 @@ function useExample(name) {
     byId("order").value = "auto";
     byId("align").checked = true;
     byId("input").value = EXAMPLES[name];
+    takeField();
+}
+
+/** Reads the field instead of a file. */
+function takeField() {
+    given = undefined;
     byId("file").value = "";
     readField();
 }
 
 function takeFile(file) {
+    given = file;
     byId("input").value = "";
     byId("input-note").textContent = "";
     byId("order").value = "auto";
-    checkFile(file, file.name);
+    readAgain();
 }
 
-/** Reads the same file or field in another way. */
+/** Reads the same file or field, as it is chosen now. */
 function readAgain() {
-    if (byId("input").value || !report) {
-        readField();
+    if (given) {
+        checkFile(given, given.name);
     } else {
-        checkFile(report.file, report.name);
+        readField();
     }
 }
 
@@ -41,12 +48,9 @@ function switchOrder({ target }) {
 
 function listen() {
     const on = (id, event, call) =>
-        byId(id).addEventListener(event, (it) => isOff(it.target) || call(it));
-    on("input", "input", () => {
-        byId("file").value = "";
-        readField();
-    });
-    on("form", "change", readField);
+        byId(id).addEventListener(event, (it) => isOff(it.target) || guarded(() => call(it)));
+    on("input", "input", takeField);
+    on("form", "change", () => given || readField());
     on("order", "change", readAgain);
     on("align", "change", readAgain);
     on("switch", "click", switchOrder);
@@ -83,6 +87,7 @@ function listenForFiles() {
         document.body.classList.remove("over");
         if (files.length) {
             event.preventDefault();
+            byId("file").value = "";
             takeFile(files[0]);
         }
     };

@@ -3,8 +3,12 @@
 const FORM_NAMES = { hex: "bytes in hex", dump: "a dump", text: "text" };
 // The most bytes that a dump may stand for: a line `*` can stand for any number.
 const MOST_DUMPED = 1 << 26;
-// A line of xxd; of hexdump -C or od -A x -t x1; and what stands for repeated lines.
-const DUMP_LINE = /^[0-9a-f]{4,}: |^[0-9a-f]{6,}(?: {1,3}[0-9a-f]{2})* *(?:\||$)|^\*$/i;
+// A line of xxd; of hexdump -C or od -t x1; and what stands for repeated lines.
+const DUMP_LINES = [
+    /^[0-9a-f]{4,}: (?:[0-9a-f]{2})+(?: |$)/i,
+    /^[0-9a-f]{6,}(?: {1,3}[0-9a-f]{2})* *(?:\||$)/i,
+    /^\*$/,
+];
 
 const linesOf = (text) => text.split("\n").map((it) => it.trim()).filter(Boolean);
 const hexWords = (text) => text.split(/[\s,;:]+|0x|\\x/i).filter(Boolean);
@@ -12,7 +16,8 @@ const hexWords = (text) => text.split(/[\s,;:]+|0x|\\x/i).filter(Boolean);
 /** Guesses what a text is. */
 function guessedForm(text) {
     const lines = linesOf(text);
-    if (lines.some((it) => /[ :]/.test(it)) && lines.every((it) => DUMP_LINE.test(it))) {
+    const isDump = (line) => DUMP_LINES.some((it) => it.test(line));
+    if (lines.some((it) => /[ :]/.test(it)) && lines.every(isDump)) {
         return "dump";
     }
     return hexWords(text).every((it) => /^(?:[0-9a-f]{2})+$/i.test(it)) ? "hex" : "text";
@@ -59,13 +64,17 @@ function bytesOfDump(text) {
         if (offset === undefined) {
             throw new Error(`“${line.slice(0, 40)}” is not a line of a dump`);
         }
-        const at = parseInt(offset, 16);
+        // The offsets of od have 7 digits if they are octal.
+        const at = parseInt(offset, offset.length === 7 ? 8 : 16);
         first ??= at;
         if (isRepeated && (at - first > MOST_DUMPED || !rows.at(-1)?.length)) {
             throw new Error("the dump leaves out too much");
         }
         while (isRepeated && len < at - first) {
             add(rows.at(-1));
+        }
+        if (at - first !== len) {
+            throw new Error(`“${line.slice(0, 40)}” does not follow the line before it`);
         }
         isRepeated = false;
         // The column of text follows two spaces in a dump of xxd, and else a bar.

@@ -4,9 +4,9 @@ const ROWS = 20;
 // The most bytes of the decoded text that are shown.
 const MOST_PREVIEW = 2000;
 let worker;
-// The number of the first error in the list, from 0 on, and how often the list was asked for.
+// The number of the first error in the list, from 0 on, and the list that was asked for last.
 let firstRow = 0;
-let listings = 0;
+let lastList;
 
 /** Returns the text of this page's binding and its worker, as a program for a worker. */
 function workerUrl() {
@@ -18,17 +18,19 @@ function workerUrl() {
 function checkFile(file, name, known) {
     stop();
     const url = workerUrl();
-    worker = new Worker(url);
+    const started = new Worker(url);
+    worker = started;
     URL.revokeObjectURL(url);
-    worker.onmessage = ({ data }) => showMessage(file, name, known, data);
-    worker.onerror = ({ message }) => showNothing(`${name}: ${message || "the check failed"}.`);
+    const take = (data) => worker === started && showMessage({ file, name, known }, data);
+    worker.onmessage = ({ data }) => guarded(() => take(data));
+    worker.onerror = ({ message }) => take({ trouble: message || "the check failed" });
     const order = byId("order").value;
     const wanted = known ?? (order === "auto" ? undefined : order);
     worker.postMessage({ module, file, wanted, isAligning: !known && byId("align").checked });
     document.body.dataset.state = "busy";
-    byId("busy").hidden = name === "pasted";
+    byId("busy").hidden = !given;
     byId("progress").value = 0;
-    if (name !== "pasted") {
+    if (given) {
         byId("verdict-line").textContent = `Reading ${name}, ${plural(file.size, "byte")}…`;
         byId("verdict").className = "verdict";
     }
@@ -52,18 +54,35 @@ function showNothing(words) {
     document.body.dataset.state = "done";
 }
 
-async function showMessage(file, name, known, { progress, trouble, found }) {
+/** Makes a call. If the file cannot be read any more, it says why. */
+async function guarded(call) {
+    const running = call();
+    const found = report;
+    try {
+        await running;
+    } catch (error) {
+        if (!(error instanceof DOMException)) {
+            throw error;
+        }
+        if (found === report && !worker) {
+            showTrouble(found.name, error.message);
+        }
+    }
+}
+
+const showTrouble = (name, words) => showNothing(`${name}: ${words.replace(/\.$/, "")}.`);
+
+async function showMessage(checked, { progress, trouble, found }) {
     if (trouble) {
-        showNothing(`${name}: ${trouble}.`);
+        showTrouble(checked.name, trouble);
     } else if (found) {
         stop();
-        report = { file, name, known, ...found };
+        report = { ...checked, ...found };
         byId("found").hidden = false;
         showVerdict();
         showHint();
-        showOutputs();
-        await showRows(0);
-        await showAt(report.errors[0] ?? report.from);
+        const { errors, from } = report;
+        await Promise.all([showOutputs(), showRows(0), showAt(errors[0] ?? from)]);
         document.body.dataset.state = worker ? "busy" : "done";
     } else {
         byId("progress").value = progress;
@@ -81,7 +100,7 @@ function showVerdict() {
     const { file, order, why, known, count } = report;
     const reading = `${ORDER_NAMES[order]} (${known ? "from your text" : WHY[why]})`;
     const size = plural(file.size, "byte");
-    const isOther = order === "utf8";
+    const isOther = order === "utf8" && why !== "wanted";
     const line = isOther
         ? `It is not UTF-16 but ${reading}: ${size}, ${count ? plural(count, "error") : "no error"}.`
         : count
@@ -106,11 +125,11 @@ function showHint() {
 async function showRows(first) {
     const { errors, count, order } = report;
     firstRow = Math.max(0, Math.min(first, errors.length - 1));
-    listings += 1;
-    const listing = listings;
+    const list = {};
+    lastList = list;
     const ats = errors.subarray(firstRow, firstRow + ROWS);
     const found = await Promise.all(Array.from(ats, errorAt));
-    if (listing !== listings) {
+    if (list !== lastList) {
         return;
     }
     byId("errors").start = firstRow + 1;
@@ -144,8 +163,9 @@ function rowElement({ at, bytes, why, isBom }) {
 
 /** Offers both files, and shows how the text begins. */
 async function showOutputs() {
-    const { text, utf16, name } = report;
-    const plain = name.replace(/\.[^.]*$/, "");
+    const found = report;
+    const { text, utf16, name } = found;
+    const plain = name.replace(/(?<=.)\.[^.]*$/, "");
     for (const [ending, blob] of Object.entries({ utf8: text, utf16 })) {
         const link = byId(`save-${ending}`);
         URL.revokeObjectURL(link.href);
@@ -154,6 +174,7 @@ async function showOutputs() {
         link.querySelector("small").textContent = plural(blob.size, "byte");
     }
     const start = await readBytes(text, 0, MOST_PREVIEW);
-    const isCut = text.size > MOST_PREVIEW;
-    byId("preview").textContent = new TextDecoder().decode(start, { stream: isCut });
+    if (found === report) {
+        byId("preview").textContent = textOf(start, text.size > MOST_PREVIEW);
+    }
 }

@@ -4,22 +4,29 @@
 const WINDOW = 128;
 // How many bytes are shown before the place that was asked for.
 const BEFORE = 32;
+// What was asked for last. An answer to something else comes too late.
+let lastAsked;
 
-/** Shows the bytes around an offset. */
+/** Shows the bytes around an offset, and returns whether they are shown. */
 async function showAt(at) {
-    const asked = report;
-    const start = await boundaryAt(Math.max(report.from, Math.min(at - BEFORE, report.file.size)));
-    const end = await boundaryAt(start + WINDOW);
-    const bytes = await readBytes(report.file, start, end);
-    if (asked !== report) {
-        return;
+    const found = report;
+    const { file, order, from } = found;
+    const asked = {};
+    lastAsked = asked;
+    const start = await boundaryAt(found, Math.max(from, Math.min(at - BEFORE, file.size)));
+    const end = await boundaryAt(found, start + WINDOW);
+    const most = stretchAt(found, end).end;
+    const read = await readBytes(file, start, Math.max(end, Math.min(end + 3, most)));
+    if (asked !== lastAsked || found !== report) {
+        return false;
     }
-    shown = { start, bytes, order: report.order, ...itemsBetween(start, bytes) };
+    const bytes = read.subarray(0, end - start);
+    shown = { start, bytes, order, ...itemsBetween(start, read, bytes.length) };
     byId("offset").value = start;
-    byId("offset").max = report.file.size;
-    byId("window").textContent = `to ${counted(end)} of ${plural(report.file.size, "byte")}`;
-    turnOff("earlier", start <= report.from);
-    turnOff("later", end >= report.file.size);
+    byId("offset").max = file.size;
+    byId("window").textContent = `to ${counted(end)} of ${plural(file.size, "byte")}`;
+    turnOff("earlier", start <= from);
+    turnOff("later", end >= file.size);
     byId("back").hidden = true;
     cuts = [];
     tried = new Set();
@@ -28,12 +35,15 @@ async function showAt(at) {
     if (shown.isStream) {
         showCuts();
     }
+    return true;
 }
 
 /** Shows the error of a button in the list, and moves the focus to it. */
 async function jumpTo(button) {
     const at = Number(button.dataset.show);
-    await showAt(at);
+    if (!(await showAt(at))) {
+        return;
+    }
     const item = byId("strip").querySelector(`[data-item="${at}"]`);
     item.classList.add("current");
     item.tabIndex = -1;

@@ -48,6 +48,7 @@ KNOWN = (
     ("61 00 3D D8 00", "le", "char U+0061, incomplete incomplete", [2], "a\ufffd"),
     ("FE FF 00 61", "auto", "char U+0061", [], "a"),
     ("FF FE 61 00", "auto", "char U+0061", [], "a"),
+    ("FF FE FF FE 61 00", "auto", "char U+FEFF, char U+0061", [], "\ufeffa"),
     ("EF BB BF C3 BC", "auto", "char U+00FC", [], "\u00fc"),
     ("61 E2 82 62 F0 9F 98 80 C3", "utf8", "char U+0061, ill-formed ill-formed, char U+0062, "
      "char U+1F600, incomplete incomplete", [1, 8], "a\ufffdb\U0001f600\ufffd"),
@@ -94,6 +95,13 @@ DUMPS = {
 000040 20 00 20 00 20 00 20 00 00 dc 61 00 62
 00004d
 """,
+    "od -t x1": """0000000 ff fe 47 00 72 00 fc 00 df 00 65 00 20 00 66 00
+0000020 66 00 20 00 30 00 30 00 20 00 20 00 20 00 20 00
+0000040 20 00 20 00 20 00 20 00 20 00 20 00 20 00 20 00
+*
+0000100 20 00 20 00 20 00 20 00 00 dc 61 00 62
+0000115
+""",
 }
 LONG = "Gr\u00fc\u00dfe, \u043c\u0438\u0440 \U0001f600! The quick brown fox jumps over the lazy dog.\n"
 CHINESE = "\u4e16\u754c\u4f60\u597d\uff0c\u6211\u4eec\u7684\u6587\u4ef6\u574f\u4e86\u3002" * 9
@@ -113,7 +121,7 @@ class Page:
             print(f"failed: {name}")
 
     def equal(self, found, wanted, name):
-        self.test(found == wanted, f"{name}: {found!r}, not {wanted!r}")
+        self.test(found == wanted, f"{name}: {found!r:.300}, not {wanted!r:.300}")
 
     def says(self, name, words):
         """Tests that an element has these words."""
@@ -149,9 +157,13 @@ class Page:
         )
         self.done(text[:40])
 
-    def choose(self, name, value):
-        """Chooses an entry of a list."""
+    def change(self, name, value):
+        """Changes a control."""
         self.value(f"byId('{name}').value = '{value}'; byId('{name}').dispatchEvent(new Event('change'))")
+
+    def choose(self, name, value):
+        """Chooses an entry of a list, and waits for the report."""
+        self.change(name, value)
         self.done(f"{name} {value}")
 
     def press(self, key):
@@ -189,6 +201,11 @@ class Page:
         found = self.browser.call("DOM.querySelector", nodeId=root, selector="#file")
         self.browser.call("DOM.setFileInputFiles", files=[str(path)], nodeId=found["nodeId"])
 
+    def check(self, path, raw):
+        """Gives the page a file with these bytes, and waits for the report."""
+        self.give_file(written(path, raw))
+        self.done(path.name)
+
     def saved(self, room, name, ending):
         """Saves a file by a click, and returns its bytes."""
         path = room / f"{name}.{ending}.txt"
@@ -213,15 +230,12 @@ def repaired_file(page, room, name, raw, wanted):
     the file is read, the offsets of the errors, the text, and the byte order and BOM of the repaired
     file."""
     words, reading, offsets, text, order, bom = wanted
-    path = room / f"{name}.bin"
-    path.write_bytes(raw)
-    page.give_file(path)
-    page.done(name)
-    check_report(page, room, name, words, reading, offsets)
+    page.check(room / f"{name}.bin", raw)
+    check_report(page, name, words, reading, offsets)
     check_saved(page, room, name, text, order, bom)
 
 
-def check_report(page, room, name, words, reading, offsets):
+def check_report(page, name, words, reading, offsets):
     line = page.text("verdict-line")
     holds = line.startswith(words) and re.search(reading, line)
     page.test(holds, f"{name}: {line}, not {words} and {reading}")
@@ -235,9 +249,10 @@ def check_saved(page, room, name, text, order, bom):
 
 
 def unpaired_surrogates(page, room):
-    """A surrogate of each kind at each place, in both byte orders, with a BOM and without."""
+    """A surrogate of each kind at each place, in both byte orders. At the start a BOM matters."""
     codes = {"leading": "\ud83d", "trailing": "\udc00"}
-    for order, bom, kind, place in itertools.product(CODECS, (True, False), codes, (0, 20, len(LONG))):
+    places = ((0, True), (0, False), (20, True), (len(LONG), False))
+    for order, kind, (place, bom) in itertools.product(CODECS, codes, places):
         given = LONG[:place] + codes[kind] + LONG[place:]
         raw = (BOMS[order] if bom else b"") + given.encode(CODECS[order], "surrogatepass")
         at = 2 * bom + len(LONG[:place].encode(CODECS[order]))
@@ -249,14 +264,13 @@ def unpaired_surrogates(page, room):
 
 def short_files(page, room):
     """An odd length and a pair that is cut, after one to three of its bytes."""
-    for order, count, bom in itertools.product(CODECS, (1, 2, 3), (True, False)):
+    for order, (count, bom) in itertools.product(CODECS, ((1, True), (2, False), (3, True), (3, False))):
         raw = (BOMS[order] if bom else b"") + (LONG + "\U0001f600").encode(CODECS[order])[: count - 4]
         wanted = ("Yes: 1 error in", NAMES[order], [len(raw) - count], LONG + "\ufffd", order, bom)
         repaired_file(page, room, f"short-{count}-{order}-{bom}", raw, wanted)
     for raw in (b"", b"\xff\xfe"):
         words = f"No: there is no error in {len(raw)} bytes"
-        page.give_file(written(room / f"empty-{len(raw)}", raw))
-        page.done(words)
+        page.check(room / f"empty-{len(raw)}", raw)
         page.says("verdict-line", words)
 
 
@@ -275,12 +289,11 @@ def wrong_orders(page, room):
         page.choose("order", other)
         page.says("verdict-line", f"{NAMES[other]} (as you chose")
         page.equal(page.text("hint-line"), f"It looks more like {NAMES[order]}.", f"{name}: the hint")
-        page.give_file(written(room / f"bom-{name}.bin", BOMS[other] + raw))
-        page.done(name)
+        page.check(room / f"bom-{name}.bin", BOMS[other] + raw)
         page.says("verdict-line", f"{NAMES[other]} (as its BOM says")
         page.click("switch")
         page.done("the switch")
-        check_report(page, room, f"bom-{name}", "Yes: 1 error", NAMES[order] + r" \(as you chose", [0])
+        check_report(page, f"bom-{name}", "Yes: 1 error", NAMES[order] + r" \(as you chose", [0])
         page.equal(page.value("document.activeElement.id"), "order", "the focus after the switch")
         page.equal(page.value("byId('hint').hidden"), True, "the hint after the switch")
         check_saved(page, room, f"bom-{name}", text, order, True)
@@ -334,6 +347,17 @@ def shifted_files(page, room):
     repaired_file(page, room, "shift-start", raw, wanted)
 
 
+def changed_line_ends(page, room):
+    """A program wrote CRLF for each byte of an LF. Each line is shifted, and that takes linear time."""
+    lines, line = 40_000, LONG.encode("utf-16-le")
+    raw = BOMS["le"] + (line.replace(b"\n\0", b"\r\n\0") * lines) + line[:-2]
+    page.check(room / "lines.bin", raw)
+    offsets = [len(line) + number * (len(line) + 1) for number in range(20)]
+    check_report(page, "lines", f"Yes: {lines:,} errors in {len(raw):,} bytes", NAMES["le"], offsets)
+    text = LONG.replace("\n", "\ufffd\n") * lines + LONG[:-1]
+    check_saved(page, room, "lines", text, "le", True)
+
+
 def many_errors(page, room):
     """10 MB with more errors than are kept: it takes linear time, and the page stays alive."""
     text = LONG.replace("\n", "\udc00\ud83d") * 75_000
@@ -346,8 +370,7 @@ def many_errors(page, room):
             "const now = performance.now(); gap = Math.max(gap, now - last); last = now }, 20)"
         )
         start = time.monotonic()
-        page.give_file(written(room / f"{name}.bin", raw))
-        page.done(name)
+        page.check(room / f"{name}.bin", raw)
         took = time.monotonic() - start
         page.value("clearInterval(timer)")
         count = wanted.count("\ufffd")
@@ -370,7 +393,7 @@ def pages_of_errors(page):
     page.equal(page.value("byId('errors').start"), 21, "the number of the first error that is listed")
     page.click("earlier-errors")
     page.wait(f"{OFFSETS}[0] === 2", "the errors before")
-    page.value("byId('row').value = 999999; byId('row').dispatchEvent(new Event('change'))")
+    page.change("row", 999999)
     page.wait(f"{OFFSETS}.length === 2", "the last errors")
     page.equal(page.value(OFFSETS), [2 + 4 * 999_998, 2 + 4 * 999_999], "the last errors")
     page.value("[...document.querySelectorAll('[data-show]')].at(-1).click()")
@@ -394,6 +417,58 @@ def stopped_file(page, room):
     page.says("verdict-line", "No: there is no error in 40,000,000")
 
 
+def files_in_turn(page, room):
+    """While a file is read, another choice reads the same file, and another file takes its place."""
+    os.link(room / "large.txt", room / "turn.txt")
+    page.give_file(room / "turn.txt")
+    page.wait("byId('progress').value > 0", "progress")
+    page.value("window.stale = worker.onmessage")
+    page.change("form", "text")
+    page.says("verdict-line", "Reading turn.txt")
+    page.change("order", "be")
+    page.says("verdict-line", "Reading turn.txt")
+    page.value("stale({data: {trouble: 'a stopped worker'}})")
+    page.says("verdict-line", "Reading turn.txt")
+    page.check(room / "small.txt", b"\xff\xfea\0\x00\xdc")
+    page.says("verdict-line", "Yes: 1 error in 6 bytes of UTF-16, little endian (as its BOM says)")
+    page.choose("order", "be")
+    page.says("verdict-line", "in 6 bytes of UTF-16, big endian (as you chose)")
+    page.change("form", "auto")
+    page.says("verdict-line", "in 6 bytes of UTF-16, big endian (as you chose)")
+
+
+def files_that_go(page, room):
+    """If a file cannot be read, at first or later, one sentence says so."""
+    page.check(room / "later.bin", b"a\0" * 300 + b"\0\xdc")
+    (room / "later.bin").write_bytes(b"changed")
+    page.value("document.querySelector('[data-show]').click()")
+    page.wait("byId('found').hidden", "that a file has changed")
+    line = page.text("verdict-line")
+    page.test(re.fullmatch(r"later\.bin: [^.]+\.", line), f"a file that has changed: {line}")
+    page.value("showMessage({name: 'gone.bin'}, {trouble: 'It is gone.'})")
+    page.equal(page.text("verdict-line"), "gone.bin: It is gone.", "what the worker says of a file")
+
+
+def answers_that_come_late(page):
+    """What was asked for last is shown, and nothing of a report that is gone."""
+    page.enter("61 00 " * 500 + "00 DC 61 00", "le")
+    page.value(
+        "window.readAll = Blob.prototype.arrayBuffer; window.count = 0;"
+        "Blob.prototype.arrayBuffer = async function() { const ms = count++ ? 0 : 300;"
+        "await new Promise(it => setTimeout(it, ms)); return readAll.call(this) };"
+        "showAt(200).then(it => window.isFirst = it); showAt(600)"
+    )
+    page.wait("window.isFirst === false", "the first answer")
+    page.equal(page.value("byId('offset').value"), "568", "the place that was asked for last")
+    page.value(
+        "Blob.prototype.arrayBuffer = readAll; window.isShown = false; var it = report;"
+        "guarded(() => showMessage(it, {found: it})).then(() => isShown = true); showNothing('Gone.')"
+    )
+    page.wait("isShown", "the end of a report that is gone")
+    page.equal(page.value("byId('found').hidden"), True, "what is shown of it")
+    page.says("verdict-line", "Gone.")
+
+
 def known_bytes(page):
     for source, order, items, offsets, text in KNOWN:
         page.enter(source, order)
@@ -401,7 +476,7 @@ def known_bytes(page):
         page.equal(page.value(ITEMS), items, name)
         page.equal(page.value(OFFSETS), offsets, f"the errors of {name}")
         page.equal(page.text("preview"), text, f"the text of {name}")
-        is_utf8 = order == "utf8" or source.startswith("EF BB BF")
+        is_utf8 = order == "auto" and source.startswith("EF BB BF")
         page.says("verdict-line", "It is not UTF-16" if is_utf8 else "Yes: " if offsets else "No: ")
 
 
@@ -440,6 +515,8 @@ def forms_of_the_field(page):
     page.equal(page.value("octets(shown.bytes)"), source, "bytes as hex, as text and again as hex")
     page.enter(TEXT, form="auto")
     page.equal(page.text("preview"), TEXT, "a text that was entered")
+    page.enter("cafe: noir", form="auto")
+    page.equal(page.text("preview"), "cafe: noir", "a text that begins like a dump")
     page.enter("a\\uDC00\\u{1F600}\\", "be", "text")
     page.equal(page.value("octets(shown.bytes)"), "00 61 DC 00 D8 3D DE 00 00 5C", "code units in a text")
     page.says("verdict-line", "(from your text)")
@@ -470,6 +547,8 @@ def unreadable(page):
         ("hex", "61 0", "bytes in hex: \u201c0\u201d ends with half a byte."),
         ("dump", "no dump", "a dump: \u201cno dump\u201d is not a line of a dump."),
         ("dump", "0000: 61\n*\nffffffff: 61", "a dump: the dump leaves out too much."),
+        ("dump", "0000: 6100\n0004: 61", "a dump: \u201c0004: 61\u201d does not follow the line before it."),
+        ("dump", "0000: 6100\n*\n0001: 61", "a dump: \u201c0001: 61\u201d does not follow the line"),
     ):
         page.enter(source, form=form)
         page.says("verdict-line", f"This cannot be read as {words}")
@@ -500,10 +579,15 @@ def windows(page):
         page.click(name)
         page.wait(f"byId('offset').value === '{start}'", f"{name} bytes")
         page.equal(page.value(ITEMS), ", ".join(["pair U+1F600"] * 32), f"the bytes from {start} on")
-    page.value("byId('offset').value = 398; byId('offset').dispatchEvent(new Event('change'))")
+    page.change("offset", 398)
     page.wait("byId('offset').value === '396'", "the bytes from the middle of a pair on")
+    page.enter("61 00 " * 63 + "3D D8 " + "61 00 " * 9, "le")
+    page.change("offset", 0)
+    page.wait("shown.start === 0", "the bytes up to an error")
+    why = page.value("[...document.querySelectorAll('.item')].at(-1).title")
+    page.equal(why[:36], "At byte 126: D83D is a leading surro", "an error at the end of the window")
     page.enter("F0 9F 98 80 " * 100, "utf8")
-    page.value("byId('offset').value = 203; byId('offset').dispatchEvent(new Event('change'))")
+    page.change("offset", 203)
     page.wait("byId('offset').value === '200'", "the bytes from the middle of a character on")
     page.equal(page.value(ITEMS), ", ".join(["char U+1F600"] * 32), "UTF-8 from there on")
     page.equal(page.value("byId('cutting').hidden"), True, "cuts in UTF-8")
@@ -615,13 +699,17 @@ def examples(page):
 def given_files(page):
     """A file that is dropped or pasted."""
     for event, field in (("DragEvent('drop'", "dataTransfer"), ("ClipboardEvent('paste'", "clipboardData")):
-        page.value(
-            "document.body.dataset.state = 'busy'; const given = new DataTransfer();"
-            "given.items.add(new File([Uint8Array.of(0, 0x61, 0xdc, 0, 0, 0x62)], 'given.txt'));"
-            f"document.dispatchEvent(new {event}, {{{field}: given, cancelable: true}}))"
-        )
-        page.done("a file that was given")
-        page.equal(page.text("preview"), "a\ufffdb", f"the text of a file by {event}")
+        for name, plain in (("given.1.txt", "given.1"), (".txt", ".txt"), ("given", "given")):
+            page.value(
+                "document.body.dataset.state = 'busy'; var all = new DataTransfer();"
+                f"all.items.add(new File([Uint8Array.of(0, 0x61, 0xdc, 0, 0, 0x62)], '{name}'));"
+                f"document.dispatchEvent(new {event}, {{{field}: all, cancelable: true}}))"
+            )
+            page.done("a file that was given")
+            page.equal(page.text("preview"), "a\ufffdb", f"the text of a file by {event}")
+            saved = page.value("byId('save-utf8').download")
+            page.equal(saved, f"{plain}.utf8.txt", f"the name for {name}")
+            page.equal(page.value("byId('file').value"), "", "the file that was chosen before")
 
 
 def looks(page, pictures):
@@ -713,11 +801,12 @@ def run(page, room, pictures):
     print(f"the page was ready after {page.value('document.body.dataset.ready')} ms")
     parts = (known_bytes, reasons, late_error, forms_of_the_field, dumps, unreadable, one_offset, windows)
     parts += (keyboard, moved_cuts, pending_bytes, dragged_cuts, examples, names, given_files)
+    parts += (answers_that_come_late,)
     for part in parts:
         part(page)
         errors(page)
     parts = (unpaired_surrogates, short_files, wrong_orders, utf8_files, shifted_files, many_errors)
-    for part in (*parts, stopped_file):
+    for part in (*parts, changed_line_ends, stopped_file, files_in_turn, files_that_go):
         part(page, room)
         errors(page)
     looks(page, pictures)

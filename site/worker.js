@@ -211,14 +211,23 @@ function coderOf(library, order) {
 class Result {
     constructor(order) {
         this.isLittle = order !== "be";
+        // What is converted, in blobs, and after that in arrays and texts.
+        this.blobs = { text: [], utf16: [] };
         this.parts = { text: [], utf16: [] };
         this.errors = [];
         this.count = 0;
     }
 
     add(text, utf16) {
-        this.parts.text.push(new Blob([text]));
-        this.parts.utf16.push(new Blob([utf16]));
+        this.parts.text.push(text);
+        this.parts.utf16.push(utf16);
+    }
+
+    /** Moves what was added from the memory of the worker to blobs. */
+    flush() {
+        for (const [name, parts] of Object.entries(this.parts)) {
+            this.blobs[name].push(new Blob(parts.splice(0)));
+        }
     }
 
     addBom() {
@@ -239,31 +248,48 @@ class Result {
     }
 
     message() {
-        const blob = (name, type) => new Blob(this.parts[name], { type });
+        this.flush();
+        const blob = (name, type) => new Blob(this.blobs[name], { type });
         const text = blob("text", "text/plain;charset=utf-8");
         const utf16 = blob("utf16", "application/octet-stream");
         return { text, utf16, errors: Float64Array.from(this.errors), count: this.count };
     }
 }
 
-/** Converts the part of a file from one offset to another. */
-async function convert(library, file, order, start, end, result, tell) {
+/** Converts a file after its BOM. A stretch without a shift may be a few bytes, and cost as few. */
+async function convert(library, file, { order, from }, shifts, result, tell) {
     const { stream, made } = coderOf(library, order);
-    for (let at = start; at < end; at += SLICE) {
-        const slice = await readBytes(file, at, Math.min(at + SLICE, end));
-        const bytes = together(stream.pending, slice);
-        const base = at + slice.length - bytes.length;
-        const output = stream.feed(slice);
+    const add = (part, at) => {
+        const bytes = together(stream.pending, part);
+        const base = at + part.length - bytes.length;
+        const output = stream.feed(part);
         const whole = bytes.subarray(0, bytes.length - stream.pending.length);
         const { text, utf16, wrong } = made(output, whole);
         wrong.forEach((it) => result.addError(base + it));
         result.add(text, utf16);
+    };
+    const endAt = (at) => {
+        const { length } = stream.pending;
+        if (length) {
+            result.addReplacement(at - length);
+        }
+        stream.finish();
+    };
+    let next = 0;
+    for (let at = from; at < file.size; at += SLICE) {
+        const slice = await readBytes(file, at, at + SLICE);
+        let start = 0;
+        for (; shifts[next] < at + slice.length; next += 1) {
+            add(slice.subarray(start, shifts[next] - at), at + start);
+            endAt(shifts[next]);
+            result.addReplacement(shifts[next]);
+            start = shifts[next] - at + 1;
+        }
+        add(slice.subarray(start), at + start);
+        result.flush();
         tell(0.5 + at / file.size / 2);
     }
-    const { length } = stream.pending;
-    if (length) {
-        result.addReplacement(end - length);
-    }
+    endAt(file.size);
 }
 
 async function check({ module, file, wanted, isAligning }) {
@@ -279,13 +305,7 @@ async function check({ module, file, wanted, isAligning }) {
     if (how.from || how.order === "utf8") {
         result.addBom();
     }
-    let start = how.from;
-    for (const at of shifts) {
-        await convert(library, file, how.order, start, at, result, tell);
-        result.addReplacement(at);
-        start = at + 1;
-    }
-    await convert(library, file, how.order, start, file.size, result, tell);
+    await convert(library, file, how, shifts, result, tell);
     postMessage({ found: { ...how, shifts, ...result.message() } });
 }
 

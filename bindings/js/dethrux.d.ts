@@ -6,8 +6,9 @@
  * UTF-16 is bytes, a `Uint8Array` that a byte order follows, or code units, a `Uint16Array`.
  * Lengths, offsets and capacities count elements of the array that they are about. No function
  * keeps an array that it is given, and each returns new ones. A function throws a `TypeError` for a
- * wrong argument, and a `RangeError` for a wrong number or if there is no memory; then nothing has
- * changed. `include/dethrux.h` has the whole documentation of each call.
+ * wrong argument. It throws a `RangeError` for a wrong number, for a string that is too long, or if
+ * there is no memory. After an exception nothing has changed. `include/dethrux.h` has the whole
+ * documentation of each call.
  */
 
 /** The byte order of UTF-16: little endian or big endian. */
@@ -67,6 +68,7 @@ export class IllFormedError extends TypeError {
     readonly offset: number;
     /** How many elements it has. At the end of the input it is the incomplete character. */
     readonly length: number;
+    constructor(offset: number, length: number);
 }
 
 /** The longest well-formed prefix, its characters, and what follows it. */
@@ -88,24 +90,27 @@ export interface Bom {
 
 /**
  * A stream of UTF-16 in chunks that are cut anywhere. `decoder` replaces what is ill formed with
- * U+FFFD, or with `fatal` throws; `wtf8Decoder` keeps unpaired surrogates.
+ * U+FFFD, or throws if `fatal` is true. `wtf8Decoder` keeps unpaired surrogates.
  */
 export interface Decoder<Chunk> {
     /** What has come and is not decoded yet: at most 3 bytes. */
     readonly pending: Chunk;
     /** Returns the UTF-8, or WTF-8, of the next chunk. */
     feed(chunk: Chunk): Uint8Array;
-    /** Ends the stream: returns what is written for the pending bytes. A new stream begins. */
+    /** Ends the stream: returns what is written for what is pending. A new stream begins. */
     finish(): Uint8Array;
 }
 
-/** A stream of UTF-8 in chunks that are cut anywhere. `fatal` decides about errors. */
+/**
+ * A stream of UTF-8 in chunks that are cut anywhere. What is ill formed becomes U+FFFD, or if
+ * `fatal` is true, the encoder throws.
+ */
 export interface Encoder<Output> {
     /** What has come and is not encoded yet: at most 3 bytes. */
     readonly pending: Uint8Array;
     /** Returns the UTF-16 of the next chunk. */
     feed(chunk: Uint8Array): Output;
-    /** Ends the stream: returns U+FFFD if something is pending. The encoder begins a new stream. */
+    /** Ends the stream: returns U+FFFD if something is pending. A new stream begins. */
     finish(): Output;
 }
 
@@ -115,8 +120,8 @@ export interface StringDecoder<Chunk> {
     readonly fatal: boolean;
     readonly ignoreBOM: boolean;
     /**
-     * Returns the string of the next chunk. With `stream` it keeps an incomplete character for the
-     * next one; without, the stream ends, and a new one begins.
+     * Returns the string of the next chunk. If `stream` is true, it keeps an incomplete character
+     * for the next chunk. Otherwise the stream ends, and a new one begins.
      */
     decode(chunk?: Chunk, options?: { stream?: boolean }): string;
 }
@@ -183,8 +188,8 @@ export interface Dethrux {
     encode(text: string, order: ByteOrder, options?: StrictOptions): Uint8Array;
     encode(text: string, order?: undefined, options?: StrictOptions): Uint16Array;
     /**
-     * Writes the UTF-16 of as many characters of a string as fit into an array. Returns the number
-     * of code units of the string, and of elements that it wrote.
+     * Writes the UTF-16 of as many characters of a string as fit into an array. Returns how many
+     * code units of the string it read, and how many elements it wrote.
      */
     encodeInto(
         text: string,
@@ -234,7 +239,7 @@ export interface Dethrux {
      */
     fromUtf8Replacements(utf8: Uint8Array): number;
 
-    /** Converts all code units to WTF-8, which keeps unpaired surrogates, of 3 bytes each. */
+    /** Converts UTF-16 to WTF-8, which keeps unpaired surrogates, in 3 bytes each. */
     toWtf8: FromUtf16<Uint8Array>;
     /** Converts a chunk like `toWtf8`, but does not read a leading surrogate at its end. */
     toWtf8Partial: FromUtf16<Uint8Array>;
@@ -343,7 +348,7 @@ export interface Dethrux {
     /** Returns the BOM at the start of a stream. Without one the byte order is `otherwise`. */
     detectBom(bytes: Uint8Array, otherwise?: ByteOrder): Bom;
 
-    /** Returns a decoder to strings of bytes, or without a byte order of code units. */
+    /** Returns a decoder to strings, from bytes, or without a byte order from code units. */
     textDecoder(order: ByteOrder, options?: TextOptions): StringDecoder<Uint8Array>;
     textDecoder(order?: undefined, options?: TextOptions): StringDecoder<Uint16Array>;
     /**

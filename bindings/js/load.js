@@ -2,7 +2,15 @@
 
 import { CALLS } from "./calls.js";
 import { Machine } from "./machine.js";
-import { inWidth, SHAPES, takeForm, takeOptions, takeText, takeUtf16 } from "./shapes.js";
+import {
+    inWidth,
+    SHAPES,
+    takeArray,
+    takeForm,
+    takeOptions,
+    takeText,
+    takeUtf16,
+} from "./shapes.js";
 import { IllFormedError, LE, streams, Text } from "./streams.js";
 
 // The version of the header that has these calls, as dethrux_version returns it.
@@ -76,7 +84,7 @@ function strings(machine) {
         encodeInto(...words) {
             const text = takeText(words);
             const { part, order, width } = takeUtf16(words);
-            const read = fitting(text, part.len >> 1);
+            const read = fitting(text, Math.floor(part.len / 2));
             const len = put(text.slice(0, read), order, takeOptions(words));
             part.bytes.set(machine.textBytes(len));
             return { read, written: len / width };
@@ -95,6 +103,7 @@ function camelCase(name) {
 
 /** Returns the code units of a string. */
 export function unitsOf(text) {
+    takeText([text]);
     const units = new Uint16Array(text.length);
     for (let at = 0; at < text.length; at += 1) {
         units[at] = text.charCodeAt(at);
@@ -104,6 +113,7 @@ export function unitsOf(text) {
 
 /** Returns the string of code units. */
 export function stringOf(units) {
+    takeArray([units], "Uint16Array");
     const parts = [];
     for (let at = 0; at < units.length; at += 8192) {
         parts.push(String.fromCharCode(...units.subarray(at, at + 8192)));

@@ -153,9 +153,13 @@ export class Machine {
 
     /** Returns the string of the text, which is well formed and in little endian. */
     textString(len) {
-        return this.#buffer
-            ? this.#buffer.toString("utf16le", this.#text, this.#text + len)
-            : UTF16LE.decode(this.textBytes(len));
+        try {
+            return this.#buffer
+                ? this.#buffer.toString("utf16le", this.#text, this.#text + len)
+                : UTF16LE.decode(this.textBytes(len));
+        } catch (error) {
+            throw new RangeError(`dethrux: no string of ${len / 2} code units`, { cause: error });
+        }
     }
 
     /** Makes the memory as long as this. */

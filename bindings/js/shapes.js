@@ -19,7 +19,7 @@ function shown(value) {
 }
 
 /** Takes an array of one kind from the front of the arguments. */
-function takeArray(words, kind) {
+export function takeArray(words, kind) {
     const array = words.shift();
     if (!isArray(array, kind)) {
         throw new TypeError(`dethrux: give a ${kind}, not ${shown(array)}`);
@@ -103,9 +103,11 @@ function takeCapacity(words, enough) {
     return Math.min(takeCount(words, enough), enough);
 }
 
-function end(words) {
-    if (words.some((it) => it !== undefined)) {
-        throw new TypeError(`dethrux: there is an argument too many: ${shown(words[0])}`);
+/** Fails if there are more arguments. */
+export function end(words) {
+    const extra = words.find((it) => it !== undefined);
+    if (extra !== undefined) {
+        throw new TypeError(`dethrux: there is an argument too many: ${shown(extra)}`);
     }
 }
 
@@ -278,6 +280,7 @@ export const SHAPES = {
         const array = takeArray(words, "Uint8Array");
         const order = words[0] === undefined ? ORDERS.indexOf("be") : takeOrder(words);
         end(words);
-        return call([order, input(array)]).result;
+        // Only the first two bytes decide, and the stream may be long.
+        return call([order, input(array.subarray(0, 2))]).result;
     },
 };

@@ -1,7 +1,7 @@
 // SPDX-License-Identifier: MIT OR Apache-2.0
 
 import { bytesOf, input, ORDERS, room, state } from "./machine.js";
-import { inWidth, isArray, takeForm, takeOptions, takeOrder } from "./shapes.js";
+import { end, inWidth, isArray, takeForm, takeOptions, takeOrder } from "./shapes.js";
 
 // The bytes of a chunk that one call takes, so that the memory of the module stays small.
 const SLICE = 65536;
@@ -284,7 +284,7 @@ export class Text {
     // How many bytes of the stream are decoded.
     #read = 0;
 
-    constructor(machine, form, { fatal = false, ignoreBOM = false }) {
+    constructor(machine, form, { fatal, ignoreBOM }) {
         this.#machine = machine;
         this.#form = form;
         this.#options = { fatal: Boolean(fatal), ignoreBOM: Boolean(ignoreBOM) };
@@ -302,7 +302,8 @@ export class Text {
         return this.#options.ignoreBOM;
     }
 
-    decode(chunk, { stream = false } = {}) {
+    decode(chunk, ...words) {
+        const { stream } = takeOptions(words);
         const { order, width } = this.#form;
         const given = chunk === undefined ? NOTHING : checked(chunk, kindOf(width));
         const bytes = this.#rest.length > 0 ? joined([this.#rest, given]) : given;
@@ -311,7 +312,8 @@ export class Text {
         const whole = bytes.length - rest;
         const text = this.#text(rest > 0 ? bytes.subarray(0, whole) : bytes);
         const hasBom = this.#read === 0 && !this.ignoreBOM && text.startsWith("\uFEFF");
-        this.#rest = rest > 0 && stream ? bytes.slice(whole) : NOTHING;
+        // A slice of a Buffer would not be a copy.
+        this.#rest = rest > 0 && stream ? joined([bytes.subarray(whole)]) : NOTHING;
         this.#read = stream ? this.#read + whole : 0;
         return (hasBom ? text.slice(1) : text) + (rest > 0 && !stream ? "\uFFFD" : "");
     }
@@ -340,7 +342,6 @@ export function streams(machine, functions) {
             const convert = (bytes) => functions.fromUtf8(bytes, ORDERS[form.order]);
             return fatal ? new Strict(convert, [1, form.width]) : new Encoder(call, form);
         },
-        wtf8Decoder: (form) => new Decoder(call, form, true),
         textDecoder: (form, options) => new Text(machine, form, options),
     };
     const made = (name, words) => coders[name](takeForm(words), takeOptions(words));
@@ -355,7 +356,11 @@ export function streams(machine, functions) {
         return new BomDecoder(functions, otherwise, begun);
     };
     const encoder = (...words) => made("encoder", words);
-    const wtf8Decoder = (...words) => made("wtf8Decoder", words);
+    const wtf8Decoder = (...words) => {
+        const form = takeForm(words);
+        end(words);
+        return new Decoder(call, form, true);
+    };
     const textDecoder = (...words) => made("textDecoder", words);
     return {
         decoder,

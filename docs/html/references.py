@@ -112,6 +112,7 @@ def build_rust(tree):
     options = [it for setting in settings for it in ("--config", setting)]
     with tempfile.TemporaryDirectory() as room:
         # A copy, since cargo writes a file next to the crate.
+        ignored = shutil.ignore_patterns("target")
         shutil.copytree(TOP / "bindings/rust", f"{room}/rust", ignore=ignored)
         to = {"CARGO_TARGET_DIR": f"{room}/target", "RUSTDOCFLAGS": "-D warnings"}
         command = ["cargo", "doc", "--quiet", "--no-deps", "--offline", *options]
@@ -127,20 +128,12 @@ def build_rust(tree):
     write("rust/index.html", "Rust", markdown(text))
 
 
-def ignored(folder, names):
-    return {"target"} & {*names}
-
-
 def build_python(tree):
     """Writes a page about the Python package, and returns what is not documented."""
     need(MARKDOWN)
     modules = {it.stem: ast.parse(it.read_text()) for it in PACKAGE.glob("*.py")}
     package = modules.pop("__init__")
-    exported = next(
-        ast.literal_eval(it.value)
-        for it in package.body
-        if isinstance(it, ast.Assign) and it.targets[0].id == "__all__"
-    )
+    exported = ast.literal_eval(next(it.value for it in package.body if assigned(it) == "__all__"))
     found = {}
     for module, parsed in modules.items():
         for node in parsed.body:
@@ -154,8 +147,7 @@ def build_python(tree):
         node, path = found[name]
         source = link("python/index.html", tree.page(path)) + f"#L{node.lineno}"
         parts += described(name, node, source)
-        if isinstance(node, (ast.FunctionDef, ast.ClassDef)):
-            lost += [f"{path}: {it} has no documentation" for it in undocumented(name, node)]
+        lost += [f"{path}: {it} has no documentation" for it in undocumented(node)]
     write("python/index.html", "Python", markdown("\n\n".join(parts) + "\n"))
     return lost
 
@@ -194,26 +186,25 @@ def described(name, node, source):
     """The parts of the page about a name: its heading, its signature and its documentation."""
     head = f'<h2 id="{name}"><a href="#{name}"><code>{name}</code></a> '
     parts = [f'{head}<a class="source" href="{source}">source</a></h2>']
-    if isinstance(node, ast.FunctionDef):
-        parts += [block(signature(node)), docs_of(node)]
-    elif isinstance(node, ast.ClassDef):
+    if isinstance(node, ast.ClassDef):
         parts += [block(class_of(node)), docs_of(node)]
-        for method in methods_of(node):
-            parts += [block(signature(method)), docs_of(method)]
-    else:
+    elif not isinstance(node, ast.FunctionDef):
         parts.append(block(ast.unparse(node)))
+    for function in functions_of(node):
+        parts += [block(signature(function)), docs_of(function)]
     return parts
 
 
-def methods_of(node):
-    """The public methods of a class, with the one that makes an instance."""
-    found = [it for it in node.body if isinstance(it, ast.FunctionDef)]
+def functions_of(node):
+    """A function itself, or the public methods of a class with the one that makes an instance."""
+    nodes = node.body if isinstance(node, ast.ClassDef) else [node]
+    found = [it for it in nodes if isinstance(it, ast.FunctionDef)]
     return [it for it in found if it.name == "__init__" or not it.name.startswith("_")]
 
 
-def undocumented(name, node):
+def undocumented(node):
     """The names of a function, or of a class and its methods, that have no documentation."""
-    nodes = [node, *methods_of(node)]
+    nodes = [node] * isinstance(node, ast.ClassDef) + functions_of(node)
     return [it.name for it in nodes if it.name != "__init__" and not ast.get_docstring(it)]
 
 

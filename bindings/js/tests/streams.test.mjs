@@ -1,10 +1,10 @@
 import assert from "node:assert/strict";
 import { test } from "node:test";
-import { IllFormedError, load, stringOf, unitsOf } from "dethrux";
+import { load, stringOf, unitsOf } from "dethrux";
+import { be, isIllFormed, le, replaced, utf8 } from "./common.mjs";
 
 const dethrux = await load();
-const utf8 = (text) => new TextEncoder().encode(text);
-const le = (text) => new Uint8Array(unitsOf(text).buffer);
+const TYPED = Object.getPrototypeOf(Uint8Array.prototype);
 const TEXT = "a\u00e9\u4e00\u{1f600}\udc00b\ud800";
 
 /** The chunks that a stream gives for these. */
@@ -20,11 +20,7 @@ const together = (chunks) => new Uint8Array(Buffer.concat(chunks));
 const singly = (array) => Array.from(array, (_, at) => array.subarray(at, at + 1));
 
 test("a stream of bytes in both byte orders", async () => {
-    for (const order of ["le", "be"]) {
-        const bytes = le(TEXT);
-        if (order === "be") {
-            dethrux.swapByteOrder(bytes);
-        }
+    for (const [order, bytes] of Object.entries({ le: le(TEXT), be: be(TEXT) })) {
         const found = await passed(singly(bytes), dethrux.decoderStream(order));
         assert.deepEqual(together(found), utf8(TEXT));
         assert.ok(found.every((it) => it.length > 0));
@@ -37,10 +33,10 @@ test("a stream of code units", async () => {
 });
 
 test("a stream with a BOM, and without one", async () => {
-    const bytes = le(`\ufeff${TEXT}`);
-    assert.deepEqual(together(await passed(singly(bytes), dethrux.decoderStream("bom"))), utf8(TEXT));
-    dethrux.swapByteOrder(bytes);
-    assert.deepEqual(together(await passed([bytes], dethrux.decoderStream("bom"))), utf8(TEXT));
+    for (const bytes of [le(`\ufeff${TEXT}`), be(`\ufeff${TEXT}`)]) {
+        assert.deepEqual(together(await passed(singly(bytes), dethrux.decoderStream("bom"))), utf8(TEXT));
+        assert.deepEqual(together(await passed([bytes], dethrux.decoderStream("bom"))), utf8(TEXT));
+    }
     const without = await passed(singly(le(TEXT)), dethrux.decoderStream("bom", "le"));
     assert.deepEqual(together(without), utf8(TEXT));
     assert.deepEqual(await passed([], dethrux.decoderStream("bom")), []);
@@ -51,9 +47,7 @@ test("streams to WTF-8", async () => {
     const wanted = dethrux.toWtf8(unitsOf(TEXT)).output;
     assert.deepEqual(together(await passed(singly(unitsOf(TEXT)), dethrux.wtf8DecoderStream())), wanted);
     assert.deepEqual(together(await passed(singly(le(TEXT)), dethrux.wtf8DecoderStream("le"))), wanted);
-    const swapped = le(TEXT);
-    dethrux.swapByteOrder(swapped);
-    assert.deepEqual(together(await passed(singly(swapped), dethrux.wtf8DecoderStream("be"))), wanted);
+    assert.deepEqual(together(await passed(singly(be(TEXT)), dethrux.wtf8DecoderStream("be"))), wanted);
     const odd = [...le(TEXT), 0x61].map((it) => Uint8Array.of(it));
     await assert.rejects(passed(odd, dethrux.wtf8DecoderStream("le")), /odd byte/);
     const decoder = dethrux.wtf8Decoder("le");
@@ -136,31 +130,23 @@ test("a chunk without memory for its text changes nothing", () => {
     const decoder = dethrux.decoder("le");
     decoder.feed(Uint8Array.of(0x3d));
     const chunk = new Uint8Array(70_000);
-    const typed = Object.getPrototypeOf(Uint8Array.prototype);
-    const { set } = typed;
     // The text of the whole chunk, 3 bytes for D83D, which is unpaired, and 1 for each unit after.
-    typed.set = function (...words) {
+    const failing = (set) => function (...words) {
         if (this.length === 35_002) {
             throw new RangeError("no memory");
         }
         return set.apply(this, words);
     };
     chunk[0] = 0xd8;
-    try {
-        assert.throws(() => decoder.feed(chunk), /no memory/);
-    } finally {
-        typed.set = set;
-    }
+    assert.throws(() => replaced(TYPED, "set", failing, () => decoder.feed(chunk)), /no memory/);
     assert.deepEqual(decoder.pending, Uint8Array.of(0x3d));
     assert.equal(decoder.feed(chunk).length, 35_002);
 });
 
 /** Whether a call fails that has memory for this many copies. */
 function fails(copies, call) {
-    const typed = Object.getPrototypeOf(Uint8Array.prototype);
-    const { slice } = typed;
     let left = copies;
-    typed.slice = function (...words) {
+    const failing = (slice) => function (...words) {
         left -= 1;
         if (left < 0) {
             throw new RangeError("no memory");
@@ -168,13 +154,11 @@ function fails(copies, call) {
         return slice.apply(this, words);
     };
     try {
-        call();
+        replaced(TYPED, "slice", failing, call);
         return false;
     } catch (error) {
         assert.match(error.message, /no memory/);
         return true;
-    } finally {
-        typed.slice = slice;
     }
 }
 
@@ -218,18 +202,57 @@ test("a wrong chunk changes nothing", () => {
     assert.deepEqual(decoder.pending, Uint8Array.of(0x3d));
 });
 
-const WHOLE = "a\u00e9\u4e00\u{1f600}\ufeffb";
-const fatal = true;
-const be = (text) => new Uint8Array(Buffer.from(text, "utf16le").swap16());
-
-/** Whether a call throws that something is ill formed there. */
-function isIllFormed(call, offset, length) {
-    assert.throws(call, (error) => {
-        assert.ok(error instanceof IllFormedError);
-        assert.deepEqual([error.offset, error.length], [offset, length]);
-        return true;
+/** What a stream writes for two chunks, whose arrays change after it took them. */
+function fedChanging(take, chunks) {
+    return chunks.map((chunk) => {
+        const found = take(chunk);
+        chunk.fill(0x41);
+        return found;
     });
 }
+
+test("no stream keeps a chunk, not even a Buffer", () => {
+    const fatal = true;
+    const [first, second] = [[0x61, 0, 0x3d, 0xd8], [0, 0xde]];
+    for (const Kind of [Uint8Array, Buffer]) {
+        const chunks = (...given) => given.map((it) => Kind.from(it));
+        const text = dethrux.textDecoder("le");
+        const take = (chunk) => text.decode(chunk, { stream: true });
+        assert.deepEqual(fedChanging(take, chunks(first, second)), ["a", "\u{1f600}"]);
+        for (const decoder of [dethrux.decoder("le"), dethrux.decoder("le", { fatal }), dethrux.wtf8Decoder("le")]) {
+            const found = fedChanging((it) => decoder.feed(it), chunks(first, second));
+            assert.deepEqual(found, [utf8("a"), utf8("\u{1f600}")]);
+        }
+        const bom = dethrux.decoder("bom");
+        const found = fedChanging((it) => bom.feed(it), chunks([0xff], [0xfe, ...first], second));
+        assert.deepEqual(together(found), utf8("a\u{1f600}"));
+        for (const encoder of [dethrux.encoder("le"), dethrux.encoder("le", { fatal })]) {
+            const found = fedChanging((it) => encoder.feed(it), chunks([0x61, 0xe2, 0x82], [0xac]));
+            assert.deepEqual(found, [le("a"), le("\u20ac")]);
+        }
+    }
+});
+
+test("a large chunk needs little memory of the module", async () => {
+    let pages = 0;
+    const counting = (grow) => function (count) {
+        pages += count;
+        return grow.call(this, count);
+    };
+    for (const options of [{}, { fatal: true }]) {
+        const library = await load();
+        replaced(WebAssembly.Memory.prototype, "grow", counting, () => {
+            for (const order of ["le", "bom"]) {
+                library.decoder(order, ...(order === "bom" ? ["le"] : []), options).feed(new Uint8Array(4_000_000));
+            }
+            library.encoder("le", options).feed(new Uint8Array(4_000_000));
+        });
+    }
+    assert.ok(pages < 20, `${pages} pages of 64 KiB`);
+});
+
+const WHOLE = "a\u00e9\u4e00\u{1f600}\ufeffb";
+const fatal = true;
 
 test("strict streams of well-formed text, cut anywhere", async () => {
     const cases = [
