@@ -288,12 +288,12 @@ package() {
         ls "$room/dethrux-$(< "$top/VERSION")"/{LICENSE-APACHE,LICENSE-MIT,THIRD-PARTY.md}
 }
 
-# Runs the build script for a target as cargo does, in `folder`, with words for env.
+# Runs the build script for a target as cargo does, in `folder`, with a feature and words for env.
 run_build_script() {
     local target=$1
     shift
     rm -rf "$room/made" && mkdir "$room/made" &&
-        (cd "$folder" && env -u DETHRUX_LIB_DIR -u CC -u AR CARGO_FEATURE_BUNDLED= \
+        (cd "$folder" && env -u DETHRUX_LIB_DIR -u CC -u AR "CARGO_FEATURE_$feature=" \
             OPT_LEVEL=0 HOST="$host" TARGET="$target" OUT_DIR="$room/made" "$@" "$build_script")
 }
 
@@ -338,13 +338,18 @@ test_other_targets() {
     for target in x86_64-pc-windows-msvc riscv64gc-unknown-linux-gnu; do
         count "$target" refuses_target $target "there is no assembly for $target: $said"
     done
+    for target in {x86_64,aarch64}-apple-darwin x86_64-pc-windows-gnu; do
+        said='the feature `dynamic` is only for Linux: turn it off, or turn `bundled` on, to link'
+        said+=" libdethrux.a for $target"
+        feature=DYNAMIC count "dynamic for $target" refuses_target $target "$said"
+    done
 }
 
 # What the build script compiles for other targets than this machine. cargo needs the standard
 # library of a target, so the script that it built before runs with cargo's variables.
 test_targets() {
     local arm=aarch64-linux-gnu windows=x86_64-w64-mingw32 target build_script
-    local folder=$here/dethrux
+    local folder=$here/dethrux feature=BUNDLED
     build_script=$(find "$CARGO_TARGET_DIR" -path '*/dethrux-*/build-script-build' | head -n 1)
     test_other_targets
     for target in x86_64-unknown-linux-{gnu,musl}; do
@@ -363,7 +368,7 @@ test_targets() {
         'windows-x86-64-v2.o windows.o'
     count 'a program for Windows' links_for_windows
     count 'x86_64-apple-darwin' makes x86_64-apple-darwin 'llvm:mach-o 64-bit x86-64' \
-        macos-x86-64-v2.o CC=clang
+        macos-x86-64-v2.o CC=clang CARGO_FEATURE_DYNAMIC=
     count 'aarch64-apple-darwin' makes aarch64-apple-darwin 'llvm:mach-o arm64' \
         macos-aarch64.o CC=clang
 }

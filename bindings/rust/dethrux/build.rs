@@ -15,8 +15,8 @@ int main(void) {
     return printf(\"%u.%u.%u\", found / 1000000, found / 1000 % 1000, found % 1000) < 0;
 }";
 
-/// The targets for which `dist/src` has assembly, and its files. Assembly needs no libc, so that for
-/// glibc is also for musl.
+/// The targets for which `dist/src` has assembly, and its files. Assembly needs no libc, so the
+/// files for glibc are also for musl.
 const TARGETS: [(&str, &[&str]); 5] = [
     ("x86_64-unknown-linux-gnu", &["linux-x86-64-v2.s"]),
     ("aarch64-unknown-linux-gnu", &["linux-aarch64.s"]),
@@ -57,12 +57,19 @@ fn is_set(name: &str) -> bool {
 
 /// Links a library, or compiles one.
 fn provide() -> Result<(), String> {
-    let (kind, file) = match is_set("CARGO_FEATURE_DYNAMIC") {
-        true => ("dylib", "libdethrux.so"),
-        false => ("static", "libdethrux.a"),
-    };
     let is_bundled = is_set("CARGO_FEATURE_BUNDLED");
-    let is_native = env::var("HOST") == env::var("TARGET");
+    let target = env::var("TARGET").unwrap_or_default();
+    let is_native = env::var("HOST").as_ref() == Ok(&target);
+    let (kind, file) = match is_set("CARGO_FEATURE_DYNAMIC") {
+        true if target.contains("-linux-") => ("dylib", "libdethrux.so"),
+        true if !is_bundled => {
+            return Err(format!(
+                "the feature `dynamic` is only for Linux: turn it off, or turn `bundled` on, to \
+                 link libdethrux.a for {target}"
+            ))
+        }
+        _ => ("static", "libdethrux.a"),
+    };
     let here = env::current_dir().unwrap_or_default();
     let has_file = |folder: &PathBuf| folder.join(file).is_file();
     let found = match env::var_os("DETHRUX_LIB_DIR").map(PathBuf::from) {
@@ -90,7 +97,7 @@ fn provide() -> Result<(), String> {
     // A package has the assembly in its folder.
     let mut folders = [here.join("dist"), here.join("../../../dist")].into_iter();
     match folders.find(|folder| folder.join("src").is_dir()) {
-        Some(dist) if is_bundled || kind == "static" => compile(&dist),
+        Some(dist) if is_bundled || kind == "static" => compile(&dist, &target),
         _ => Err(format!(
             "there is no {file}: install libdethrux, or set DETHRUX_LIB_DIR to its folder"
         )),
@@ -129,8 +136,7 @@ fn version_of(library: &Path) -> Option<String> {
 }
 
 /// Compiles the assembly for the target, and links it.
-fn compile(dist: &Path) -> Result<(), String> {
-    let target = env::var("TARGET").unwrap_or_default();
+fn compile(dist: &Path, target: &str) -> Result<(), String> {
     let features = env::var("CARGO_CFG_TARGET_FEATURE").unwrap_or_default();
     let has = |name: &&str| features.split(',').any(|it| it == *name);
     // The compiler for glibc serves for musl.

@@ -7,8 +7,8 @@ use crate::{ffi, Buffer, ByteOrder};
 pub enum Status {
     /// All of the input was read.
     Done,
-    /// What was read is followed by an ill-formed sequence of this many bytes, in UTF-32 code units.
-    /// Resume after it.
+    /// What was read is followed by an ill-formed sequence of this many bytes, or code units of
+    /// UTF-32. Resume after it.
     IllFormed(usize),
     /// The input ends inside a character.
     Incomplete,
@@ -18,8 +18,8 @@ pub enum Status {
     NotLatin1,
 }
 
-/// How far a call came. Both numbers count bytes, or code units of UTF-32, and both ends are between
-/// characters.
+/// How far a call came. Both numbers count bytes, or code units of UTF-32, and both ends are
+/// between characters.
 #[derive(Clone, Copy, Debug, Eq, PartialEq)]
 pub struct Progress {
     /// How much of the input was read.

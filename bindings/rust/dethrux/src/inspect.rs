@@ -261,8 +261,8 @@ pub fn compare(
 ///
 /// The pattern has the byte order of the text. Both may be any bytes, well formed or not. A pattern
 /// of odd length occurs only at the end of a text of odd length, and the empty one at each
-/// boundary. The time is linear in both lengths, as measured with the most expensive inputs that are
-/// known; this is not proved.
+/// boundary. The time is linear in both lengths, as measured with the most expensive inputs that
+/// are known; this is not proved.
 ///
 /// ```
 /// use dethrux::{find, ByteOrder::LittleEndian};

@@ -53,8 +53,8 @@ impl Sealed for Strict {
     }
 }
 
-/// Converts what it reads: UTF-16 to UTF-8 with a [`Decoder`], or strictly with
-/// [`strict`](Reader::strict), UTF-8 to UTF-16 with an [`Encoder`].
+/// Converts what it reads. With a [`Decoder`] it converts UTF-16 to UTF-8, with an [`Encoder`]
+/// UTF-8 to UTF-16. [`strict`](Reader::strict) makes one that replaces nothing.
 ///
 /// An error of the inner reader is returned unchanged, and reading may continue after it. You can
 /// read into a buffer of any length; a character may be cut. As a `BufRead` it has `lines`:
@@ -110,7 +110,7 @@ impl<R, T> Reader<R, T> {
         }
     }
 
-    /// Returns the inner reader. What was read from it but not converted is lost.
+    /// Returns the inner reader. What was read from it, but not yet from this reader, is lost.
     pub fn into_inner(self) -> R {
         self.inner
     }
@@ -249,7 +249,7 @@ impl<R: Read> Reader<R, Strict> {
     /// from the start of the stream, with its byte order mark; above `usize::MAX` it is
     /// `usize::MAX`.
     ///
-    /// So stop after an error: `lines` returns it again and again.
+    /// Stop after an error, because `lines` returns it again each time.
     ///
     /// ```
     /// use dethrux::{io::Reader, ByteOrder::LittleEndian, Utf16Error};

@@ -20,7 +20,7 @@
 //!   [`from_utf8`] and others between your buffers; [`Decoder`] and [`Encoder`] for streams;
 //!   [`Utf16Chunks`]; [`display`].
 //! - [`to_utf32`], [`from_utf32`], [`to_latin1`], [`from_latin1`] and others; [`inspect`], which
-//!   says what a text needs.
+//!   counts characters and returns the smallest repertoire.
 //! - [`to_wtf8`], [`from_wtf8`] and others for WTF-8, which keeps unpaired surrogates; its streams
 //!   [`Wtf8Decoder`] and [`Wtf8Encoder`]; [`os_string_from_units`] and [`units_from_os_str`] with
 //!   the feature `std`.
@@ -29,7 +29,9 @@
 //! - Feature `std`, the default: [`io::Reader`], strict and lossy, and [`io::Writer`]; `Error` for
 //!   the errors, and their conversions to `std::io::Error`.
 //! - Feature `bundled`: compiles the library with the C compiler, even if one is installed.
-//! - Feature `dynamic`: links `libdethrux.so` instead of `libdethrux.a`.
+//! - Feature `dynamic`: on Linux, links `libdethrux.so` instead of `libdethrux.a`, unless the
+//!   feature `bundled` compiles the library. On other systems the build refuses `dynamic`, unless
+//!   `bundled` is on.
 //!
 //! Lengths and offsets count bytes. In UTF-32, and in [`UnitsError`], they count code units. Only
 //! [`detect_bom`], [`io::Reader::with_bom`] and [`io::Reader::strict_with_bom`] look for a byte

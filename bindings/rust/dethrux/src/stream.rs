@@ -47,6 +47,38 @@ impl<const N: usize> Stream<N> {
     }
 }
 
+/// Implements the methods that are the same for every stream.
+macro_rules! stream {
+    ($Name:ident, $most:literal) => {
+        impl $Name {
+            /// Returns the start of a stream.
+            #[must_use]
+            pub const fn new(order: ByteOrder) -> Self {
+                let stream = Stream::new(order);
+                $Name { stream }
+            }
+
+            /// Returns the byte order of the UTF-16.
+            #[must_use]
+            pub const fn byte_order(&self) -> ByteOrder {
+                self.stream.order
+            }
+
+            /// Returns the bytes that were read but are not converted yet,
+            #[doc = concat!("at most ", $most, ".")]
+            #[must_use]
+            pub fn pending(&self) -> &[u8] {
+                self.stream.state.pending()
+            }
+        }
+    };
+}
+
+pub(crate) use stream;
+
+stream!(Decoder, "three");
+stream!(Encoder, "three");
+
 /// Decodes a stream of UTF-16, cut anywhere, to UTF-8, with U+FFFD for each unpaired surrogate and
 /// for an incomplete character at the end.
 ///
@@ -77,26 +109,6 @@ pub struct Decoder {
 }
 
 impl Decoder {
-    /// Returns a decoder at the start of a stream.
-    #[must_use]
-    pub const fn new(order: ByteOrder) -> Self {
-        Decoder {
-            stream: Stream::new(order),
-        }
-    }
-
-    /// Returns the byte order of the stream.
-    #[must_use]
-    pub const fn byte_order(&self) -> ByteOrder {
-        self.stream.order
-    }
-
-    /// Returns the bytes that are not decoded yet, at most three.
-    #[must_use]
-    pub fn pending(&self) -> &[u8] {
-        self.stream.state.pending()
-    }
-
     /// Returns a capacity in bytes that suffices to feed every chunk of `len` bytes.
     #[must_use]
     pub const fn max_len(len: usize) -> usize {
@@ -140,7 +152,7 @@ impl Decoder {
     /// Ends the stream: returns U+FFFD if bytes are pending, else `None`.
     pub fn finish(mut self) -> Option<char> {
         let mut utf8 = [0; 3];
-        (self.finish_to(&mut utf8) > 0).then_some(char::REPLACEMENT_CHARACTER)
+        (self.finish_to(&mut utf8) != 0).then_some(char::REPLACEMENT_CHARACTER)
     }
 
     /// Ends the stream and begins another. Returns how many bytes were written.
@@ -170,26 +182,6 @@ pub struct Encoder {
 }
 
 impl Encoder {
-    /// Returns an encoder at the start of a stream.
-    #[must_use]
-    pub const fn new(order: ByteOrder) -> Self {
-        Encoder {
-            stream: Stream::new(order),
-        }
-    }
-
-    /// Returns the byte order of the UTF-16.
-    #[must_use]
-    pub const fn byte_order(&self) -> ByteOrder {
-        self.stream.order
-    }
-
-    /// Returns the bytes that are not encoded yet, at most three.
-    #[must_use]
-    pub fn pending(&self) -> &[u8] {
-        self.stream.state.pending()
-    }
-
     /// Returns a capacity in bytes that suffices to feed every chunk of `len` bytes.
     #[must_use]
     pub const fn max_len(len: usize) -> usize {
@@ -232,7 +224,7 @@ impl Encoder {
     /// `None`.
     pub fn finish(mut self) -> Option<[u8; 2]> {
         let mut utf16 = [0; 2];
-        (self.finish_to(&mut utf16) > 0).then_some(utf16)
+        (self.finish_to(&mut utf16) != 0).then_some(utf16)
     }
 
     /// Ends the stream and begins another. Returns how many bytes were written.

@@ -5,8 +5,11 @@ use alloc::vec::Vec;
 
 #[cfg(feature = "alloc")]
 use crate::buffer::append;
-use crate::stream::Stream;
+use crate::stream::{stream, Stream};
 use crate::{ffi, Buffer, ByteOrder, Progress};
+
+stream!(Wtf8Decoder, "three");
+stream!(Wtf8Encoder, "six");
 
 /// Decodes a stream of UTF-16, cut anywhere, to WTF-8, with each unpaired surrogate as itself.
 ///
@@ -29,26 +32,6 @@ pub struct Wtf8Decoder {
 }
 
 impl Wtf8Decoder {
-    /// Returns a decoder at the start of a stream.
-    #[must_use]
-    pub const fn new(order: ByteOrder) -> Self {
-        Wtf8Decoder {
-            stream: Stream::new(order),
-        }
-    }
-
-    /// Returns the byte order of the stream.
-    #[must_use]
-    pub const fn byte_order(&self) -> ByteOrder {
-        self.stream.order
-    }
-
-    /// Returns the bytes that are not decoded yet, at most three.
-    #[must_use]
-    pub fn pending(&self) -> &[u8] {
-        self.stream.state.pending()
-    }
-
     /// Returns a capacity in bytes that suffices to feed every chunk of `len` bytes.
     #[must_use]
     pub const fn max_len(len: usize) -> usize {
@@ -109,26 +92,6 @@ pub struct Wtf8Encoder {
 }
 
 impl Wtf8Encoder {
-    /// Returns an encoder at the start of a stream.
-    #[must_use]
-    pub const fn new(order: ByteOrder) -> Self {
-        Wtf8Encoder {
-            stream: Stream::new(order),
-        }
-    }
-
-    /// Returns the byte order of the UTF-16.
-    #[must_use]
-    pub const fn byte_order(&self) -> ByteOrder {
-        self.stream.order
-    }
-
-    /// Returns the bytes that are not encoded yet, at most six.
-    #[must_use]
-    pub fn pending(&self) -> &[u8] {
-        self.stream.state.pending()
-    }
-
     /// Returns a capacity in bytes that suffices to feed every chunk of `len` bytes.
     #[must_use]
     pub const fn max_len(len: usize) -> usize {

@@ -312,6 +312,15 @@ fn a_reader_returns_the_errors_of_the_inner_one() {
     }
 }
 
+/// The bytes of code units.
+fn bytes(order: ByteOrder, units: &[u16]) -> Vec<u8> {
+    let unit_bytes = |unit: &u16| match order {
+        LittleEndian => unit.to_le_bytes(),
+        BigEndian => unit.to_be_bytes(),
+    };
+    units.iter().flat_map(unit_bytes).collect()
+}
+
 /// Texts in a byte order, well formed and ill formed, of even and of odd lengths.
 fn streams(order: ByteOrder) -> Vec<Vec<u8>> {
     let units: [&[u16]; 7] = [
@@ -323,11 +332,7 @@ fn streams(order: ByteOrder) -> Vec<Vec<u8>> {
         &[0x61, 0xD800, 0x62],
         &[0x61, 0x62, 0xD800],
     ];
-    let bytes = |unit: &u16| match order {
-        LittleEndian => unit.to_le_bytes(),
-        BigEndian => unit.to_be_bytes(),
-    };
-    let whole = units.map(|units| units.iter().flat_map(bytes).collect::<Vec<u8>>());
+    let whole = units.map(|units| bytes(order, units));
     let odd = whole.clone().map(|utf16| [&utf16[..], b"\xD8"].concat());
     whole.into_iter().chain(odd).collect()
 }
@@ -418,19 +423,6 @@ fn a_reader_reads_nothing_for_an_empty_buffer() {
     assert_eq!(reader.into_inner(), b"\0a");
 }
 
-/// The bytes of code units, and an odd byte at the end if it is to be there.
-fn bytes(order: ByteOrder, units: &[u16], odd: &[u8]) -> Vec<u8> {
-    let bytes = |unit: &u16| match order {
-        LittleEndian => unit.to_le_bytes(),
-        BigEndian => unit.to_be_bytes(),
-    };
-    units
-        .iter()
-        .flat_map(bytes)
-        .chain(odd.iter().copied())
-        .collect()
-}
-
 /// The offset and the length of an error about the UTF-16 of a strict reader.
 fn fields(error: &Error) -> (usize, Option<usize>) {
     assert_eq!(error.kind(), ErrorKind::InvalidData);
@@ -461,49 +453,29 @@ fn read_strictly(mut reader: impl Read, len: usize) -> (String, Option<(usize, O
     (String::from_utf8(all).unwrap(), end)
 }
 
-/// Code units, and their text before the first error, which the second value is, and the third if
-/// an odd byte is at the end.
-type Strict = (
-    &'static [u16],
-    &'static str,
-    Option<(usize, Option<usize>)>,
-    (usize, Option<usize>),
-);
+/// Code units, their text before the first error, and the error.
+type Strict = (&'static [u16], &'static str, Option<(usize, Option<usize>)>);
 
 const STRICT: [Strict; 8] = [
-    (&[], "", None, (0, None)),
-    (
-        &[0x61, 0xD83D, 0xDE00, 0x2605],
-        "a\u{1F600}★",
-        None,
-        (8, None),
-    ),
-    (&[0xFEFF, 0x61], "\u{FEFF}a", None, (4, None)),
-    (&[0xDC00, 0x61], "", Some((0, Some(2))), (0, Some(2))),
-    (&[0x61, 0xD800, 0x62], "a", Some((2, Some(2))), (2, Some(2))),
-    (
-        &[0x61, 0xD800, 0xD800, 0xDC00],
-        "a",
-        Some((2, Some(2))),
-        (2, Some(2)),
-    ),
-    (
-        &[0x61, 0x62, 0xDC00],
-        "ab",
-        Some((4, Some(2))),
-        (4, Some(2)),
-    ),
-    (&[0x61, 0xD800], "a", Some((2, None)), (2, None)),
+    (&[], "", None),
+    (&[0x61, 0xD83D, 0xDE00, 0x2605], "a\u{1F600}★", None),
+    (&[0xFEFF, 0x61], "\u{FEFF}a", None),
+    (&[0xDC00, 0x61], "", Some((0, Some(2)))),
+    (&[0x61, 0xD800, 0x62], "a", Some((2, Some(2)))),
+    (&[0x61, 0xD800, 0xD800, 0xDC00], "a", Some((2, Some(2)))),
+    (&[0x61, 0x62, 0xDC00], "ab", Some((4, Some(2)))),
+    (&[0x61, 0xD800], "a", Some((2, None))),
 ];
 
 #[test]
 fn a_strict_reader_stops_at_the_first_error_wherever_the_stream_is_cut() {
     for order in [LittleEndian, BigEndian] {
-        for (units, text, even, odd) in STRICT {
-            for (utf16, end) in [
-                (bytes(order, units, b""), even),
-                (bytes(order, units, b"\xD8"), Some(odd)),
-            ] {
+        for (units, text, error) in STRICT {
+            let even = bytes(order, units);
+            let odd = [&even[..], b"\xD8"].concat();
+            // An odd byte is incomplete, unless there is an error before it.
+            let odd_error = error.or(Some((even.len(), None)));
+            for (utf16, end) in [(even, error), (odd, odd_error)] {
                 for (len, buffer_len) in (1..6).flat_map(|len| (1..9).map(move |it| (len, it))) {
                     let wanted = (text.to_string(), end);
                     let steps = Steps::new(utf16.chunks(len).map(Ok));
@@ -519,15 +491,15 @@ fn a_strict_reader_stops_at_the_first_error_wherever_the_stream_is_cut() {
 
 #[test]
 fn a_strict_reader_counts_from_the_start_of_the_stream() {
-    for (order, mark) in [(LittleEndian, 0xFEFF), (BigEndian, 0xFEFF)] {
+    for order in [LittleEndian, BigEndian] {
         let mut units: Vec<u16> = text().encode_utf16().collect();
         let len = 2 * units.len();
         units.extend([0xDC00, 0x61]);
         for buffer_len in [3, 100, 100_000] {
-            let utf16 = bytes(order, &units, b"");
+            let utf16 = bytes(order, &units);
             let found = read_strictly(Reader::strict(&utf16[..], order), buffer_len);
             assert!(found == (text(), Some((len, Some(2)))));
-            let marked = [bytes(order, &[mark], b""), utf16].concat();
+            let marked = [bytes(order, &[0xFEFF]), utf16].concat();
             for default_order in [LittleEndian, BigEndian] {
                 let reader = Reader::strict_with_bom(&marked[..], default_order).unwrap();
                 let found = read_strictly(reader, buffer_len);
@@ -555,16 +527,11 @@ fn std_reads_on_after_an_interruption() {
         .read_to_string(&mut found)
         .unwrap();
     assert_eq!(found, "h\u{1F600}\ni");
+    let wanted = ["h\u{1F600}", "i"];
     let lines = Reader::strict(steps(), LittleEndian).lines();
-    assert_eq!(
-        lines.collect::<Result<Vec<_>>>().unwrap(),
-        ["h\u{1F600}", "i"]
-    );
+    assert_eq!(lines.collect::<Result<Vec<_>>>().unwrap(), wanted);
     let lines = Reader::new(steps(), Decoder::new(LittleEndian)).lines();
-    assert_eq!(
-        lines.collect::<Result<Vec<_>>>().unwrap(),
-        ["h\u{1F600}", "i"]
-    );
+    assert_eq!(lines.collect::<Result<Vec<_>>>().unwrap(), wanted);
 }
 
 #[test]

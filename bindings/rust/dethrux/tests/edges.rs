@@ -58,16 +58,11 @@ fn code_units(order: ByteOrder, utf16: &[u8]) -> Vec<u16> {
     utf16.chunks_exact(2).map(unit).collect()
 }
 
-/// The bytes of code units, of even and of odd lengths.
-fn with_ends(order: ByteOrder, units: &[u16]) -> [Vec<u8>; 3] {
-    let ends: [&[u8]; 3] = [b"", b"\xD8", b"a"];
-    ends.map(|end| [&bytes(order, units)[..], end].concat())
-}
-
-/// Well-formed and ill-formed bytes.
+/// Well-formed and ill-formed bytes, of even and of odd lengths.
 fn utf16_samples(order: ByteOrder) -> Vec<Vec<u8>> {
-    let sample = |units: &&[u16]| with_ends(order, units);
-    UNITS.iter().flat_map(sample).collect()
+    let ends: [&[u8]; 3] = [b"", b"\xD8", b"a"];
+    let samples = |units: &&[u16]| ends.map(|end| [&bytes(order, units)[..], end].concat());
+    UNITS.iter().flat_map(samples).collect()
 }
 
 /// Calls a test with both byte orders and each sample of UTF-16.
@@ -705,13 +700,6 @@ fn characters_are_those_of_the_items() {
         assert_eq!(to_utf32_lossy_len(order, utf16), all.len());
         let found = inspect(order, utf16);
         assert_eq!((found.error, found.chars), (error, valid.len()));
-        let most = valid.iter().max().map_or(0, |most| u32::from(*most));
-        let kinds = [Repertoire::Ascii, Repertoire::Latin1, Repertoire::Bmp];
-        let kind = [0x7F, 0xFF, 0xFFFF].iter().position(|end| most <= *end);
-        assert_eq!(
-            found.repertoire,
-            kind.map_or(Repertoire::Unicode, |at| kinds[at])
-        );
     });
 }
 
@@ -753,17 +741,8 @@ fn what_is_not_utf32_is_found_wherever_it_is() {
             assert_eq!(error.valid_up_to(), at);
             assert_eq!(error.to_string(), format!("{shown}{at}"));
             assert_eq!(utf32_as_chars(&utf32), Err(error));
-            let io = std::io::Error::from(error);
-            assert_eq!(io.kind(), std::io::ErrorKind::InvalidData);
-            assert_eq!(io.get_ref().unwrap().downcast_ref(), Some(&error));
             for order in ORDERS {
                 assert_eq!(encode_from_utf32(order, &utf32), Err(error));
-                let mut buffer = [0; 80];
-                let found = from_utf32_lossy(order, &utf32, &mut buffer);
-                let text = |at: usize| "\u{1F600}".repeat(at);
-                let wanted = encode(order, &(text(at) + "\u{FFFD}" + &text(19 - at)));
-                assert_eq!(buffer[..found.written], wanted);
-                assert_eq!(from_utf32_lossy_len(&utf32), wanted.len());
             }
         }
     }
@@ -792,9 +771,6 @@ fn latin1_is_the_first_characters_of_unicode() {
             .iter()
             .map(|byte| unsafe { byte.assume_init() })
             .eq(0..=255));
-        let after = bytes(order, &[0x61, 0x100]);
-        let found = to_latin1(order, &after, &mut [0; 1]);
-        assert_eq!((found.read, found.status), (2, Status::NotLatin1));
     }
 }
 

@@ -44,6 +44,12 @@ fn errors_become_those_of_std() {
         assert!(is_of(&found, &error));
         assert_eq!(found.to_string(), error.to_string());
     }
+    let error = validate_utf32(&[0x68, 0xD800]).unwrap_err();
+    assert!(is_of(&std::io::Error::from(error), &error));
+    for wtf8 in [b"h\xFF", b"h\xED"] {
+        let error = units_from_wtf8(wtf8).unwrap_err();
+        assert!(is_of(&std::io::Error::from(error), &error));
+    }
 }
 
 #[test]

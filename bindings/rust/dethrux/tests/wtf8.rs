@@ -261,6 +261,11 @@ fn streams_keep_what_does_not_fit_and_resume_after_what_is_ill_formed() {
     }
     assert_eq!(Wtf8Encoder::max_len(usize::MAX), usize::MAX);
     assert_eq!(Wtf8Decoder::max_len(usize::MAX), usize::MAX);
+    assert_eq!([0, 1, 2, 3].map(Wtf8Decoder::max_len), [3, 6, 6, 9]);
+    let (mut decoder, mut to) = (Wtf8Decoder::new(BigEndian), [0; 9]);
+    assert_eq!(decoder.feed(b"\xD8\x3D\x26", &mut to).written, 0);
+    assert_eq!(decoder.feed(b"\x05", &mut to).written, 6);
+    assert_eq!(to[..6], *b"\xED\xA0\xBD\xE2\x98\x85");
     // A pending surrogate and a letter have all the bytes that suffice, less the two of a pair.
     let (mut encoder, mut to) = (Wtf8Encoder::new(BigEndian), [0; 9]);
     assert_eq!(encoder.feed(b"\xED\xA0\xBD", &mut to).written, 0);
@@ -272,51 +277,22 @@ fn streams_keep_what_does_not_fit_and_resume_after_what_is_ill_formed() {
 
 #[test]
 fn what_is_not_wtf8_is_an_error() {
-    let cases: [(&[u8], usize, Option<usize>, &str); 5] = [
-        (
-            b"a\xED\xA0\xBD\xED\xB8\x80",
-            4,
-            Some(3),
-            "invalid wtf-8 sequence of 3 bytes from index 4",
-        ),
-        (
-            b"\xFF",
-            0,
-            Some(1),
-            "invalid wtf-8 sequence of 1 bytes from index 0",
-        ),
-        (
-            b"a\xED\xA0b",
-            1,
-            Some(2),
-            "invalid wtf-8 sequence of 2 bytes from index 1",
-        ),
-        (
-            b"ab\xED\xA0",
-            2,
-            None,
-            "incomplete wtf-8 byte sequence from index 2",
-        ),
-        (
-            b"\xF0\x9F\x98",
-            0,
-            None,
-            "incomplete wtf-8 byte sequence from index 0",
-        ),
+    let cases: [(&[u8], usize, Option<usize>); 5] = [
+        (b"a\xED\xA0\xBD\xED\xB8\x80", 4, Some(3)),
+        (b"\xFF", 0, Some(1)),
+        (b"a\xED\xA0b", 1, Some(2)),
+        (b"ab\xED\xA0", 2, None),
+        (b"\xF0\x9F\x98", 0, None),
     ];
-    for (wtf8, valid_up_to, error_len, shown) in cases {
+    for (wtf8, at, error_len) in cases {
+        let what = error_len.map_or("incomplete wtf-8 byte sequence".to_string(), |len| {
+            format!("invalid wtf-8 sequence of {len} bytes")
+        });
         for order in ORDERS {
             let error = encode_from_wtf8(order, wtf8).unwrap_err();
             assert_eq!(units_from_wtf8(wtf8), Err(error));
-            assert_eq!(
-                (error.valid_up_to(), error.error_len()),
-                (valid_up_to, error_len)
-            );
-            assert_eq!(error.to_string(), shown);
-            let io = std::io::Error::from(error);
-            assert_eq!(io.kind(), std::io::ErrorKind::InvalidData);
-            let inner = io.get_ref().and_then(|inner| inner.downcast_ref());
-            assert_eq!(inner, Some(&error));
+            assert_eq!((error.valid_up_to(), error.error_len()), (at, error_len));
+            assert_eq!(error.to_string(), format!("{what} from index {at}"));
         }
     }
 }

@@ -21,7 +21,7 @@ const TEXTS: [&str; 9] = [
     "\u{100}",
 ];
 
-/// The UTF-16 of a text, by std.
+/// The UTF-16 of a text.
 fn utf16<E: ByteOrder>(text: &str) -> Vec<u8> {
     let units: Vec<u16> = text.encode_utf16().collect();
     let mut bytes = vec![0; 2 * units.len()];
@@ -196,7 +196,7 @@ fn read<E: 'static + ByteOrder>(text: &str) {
 }
 
 /// Takes some characters from the front and from the back, and the rest in each way.
-fn iterate<E: ByteOrder>(string: &WString<E>, text: &str, (front, back): (usize, usize)) {
+fn iterate<E: ByteOrder>(string: &WString<E>, text: &str, drops: (usize, usize)) {
     let (mut chars, mut expected) = (string.chars(), text.chars());
     let (mut indices, starts) = (string.char_indices(), boundaries(text));
     let mut pairs = starts
@@ -204,11 +204,11 @@ fn iterate<E: ByteOrder>(string: &WString<E>, text: &str, (front, back): (usize,
         .zip(text.chars())
         .collect::<Vec<_>>()
         .into_iter();
-    for _ in 0..front {
+    for _ in 0..drops.0 {
         assert_eq!(chars.next(), expected.next());
         assert_eq!(indices.next(), pairs.next());
     }
-    for _ in 0..back {
+    for _ in 0..drops.1 {
         assert_eq!(chars.next_back(), expected.next_back());
         assert_eq!(indices.next_back(), pairs.next_back());
     }
@@ -216,49 +216,31 @@ fn iterate<E: ByteOrder>(string: &WString<E>, text: &str, (front, back): (usize,
     type Rest = fn(&mut dyn DoubleEndedIterator<Item = Pair>) -> Vec<Pair>;
     let rests: [Rest; 2] = [|rest| rest.collect(), |rest| rest.rev().collect()];
     for rest in rests {
-        let (mut indices, mut pairs) = (front_and_back(string, front, back), pairs.clone());
+        let (mut indices, mut pairs) = (after(string.char_indices(), drops), pairs.clone());
         assert_eq!(rest(&mut indices), rest(&mut pairs));
         assert_eq!((indices.next(), indices.next_back()), (None, None));
     }
     assert_eq!(
-        front_and_back(string, front, back).count(),
+        after(string.char_indices(), drops).count(),
         pairs.clone().count()
     );
-    assert_eq!(front_and_back(string, front, back).last(), pairs.last());
+    assert_eq!(after(string.char_indices(), drops).last(), pairs.last());
     let rest: String = expected.clone().collect();
-    assert_eq!(characters(string, front, back).collect::<String>(), rest);
-    assert_eq!(
-        characters(string, front, back).count(),
-        rest.chars().count()
-    );
-    assert_eq!(characters(string, front, back).last(), rest.chars().last());
-    let reversed = characters(string, front, back).rev();
+    assert_eq!(after(string.chars(), drops).collect::<String>(), rest);
+    assert_eq!(after(string.chars(), drops).count(), rest.chars().count());
+    assert_eq!(after(string.chars(), drops).last(), rest.chars().last());
+    let reversed = after(string.chars(), drops).rev();
     assert!(reversed.eq(expected.rev()));
-    let mut ended = characters(string, front, back);
+    let mut ended = after(string.chars(), drops);
     ended.by_ref().for_each(drop);
     assert_eq!((ended.next(), ended.next_back()), (None, None));
 }
 
-fn characters<E: ByteOrder>(
-    string: &WString<E>,
-    front: usize,
-    back: usize,
-) -> utf16string::WStrChars<'_, E> {
-    let mut chars = string.chars();
-    chars.by_ref().take(front).for_each(drop);
-    chars.by_ref().rev().take(back).for_each(drop);
-    chars
-}
-
-fn front_and_back<E: ByteOrder>(
-    string: &WString<E>,
-    front: usize,
-    back: usize,
-) -> utf16string::WStrCharIndices<'_, E> {
-    let mut indices = string.char_indices();
-    indices.by_ref().take(front).for_each(drop);
-    indices.by_ref().rev().take(back).for_each(drop);
-    indices
+/// An iterator from which some items were taken, from the front and from the back.
+fn after<I: DoubleEndedIterator>(mut items: I, (front, back): (usize, usize)) -> I {
+    items.by_ref().take(front).for_each(drop);
+    items.by_ref().rev().take(back).for_each(drop);
+    items
 }
 
 #[test]
@@ -274,20 +256,17 @@ fn constructors_of_a_byte_order_take_that_one() {
     for text in TEXTS {
         let (mut little, mut big) = (utf16::<LE>(text), utf16::<BE>(text));
         // SAFETY: the bytes are well formed.
-        unsafe {
-            assert_eq!(WStr::from_utf16le_unchecked(&little).to_utf8(), text);
-            assert_eq!(WStr::from_utf16be_unchecked(&big).to_utf8(), text);
-            assert_eq!(
+        let unchecked = unsafe {
+            [
+                WStr::from_utf16le_unchecked(&little).to_utf8(),
+                WStr::from_utf16be_unchecked(&big).to_utf8(),
                 WStr::from_utf16le_unchecked_mut(&mut little).to_utf8(),
-                text
-            );
-            assert_eq!(WStr::from_utf16be_unchecked_mut(&mut big).to_utf8(), text);
-            assert_eq!(
+                WStr::from_utf16be_unchecked_mut(&mut big).to_utf8(),
                 WString::from_utf16le_unchecked(little.clone()).to_utf8(),
-                text
-            );
-            assert_eq!(WString::from_utf16be_unchecked(big.clone()).to_utf8(), text);
-        }
+                WString::from_utf16be_unchecked(big.clone()).to_utf8(),
+            ]
+        };
+        assert_eq!(unchecked, [text; 6]);
         assert_eq!(WStr::from_utf16le(&little).unwrap().to_utf8(), text);
         assert_eq!(WStr::from_utf16be(&big).unwrap().to_utf8(), text);
         assert_eq!(WStr::from_utf16le_mut(&mut little).unwrap().to_utf8(), text);
@@ -329,24 +308,15 @@ fn ill_formed_bytes_are_refused_by_each_constructor() {
         little.chunks_exact_mut(2).for_each(<[u8]>::reverse);
         assert_eq!(errors::<BE>(big), [error; 3]);
         assert_eq!(errors::<LE>(&little), [error; 3]);
-        assert_eq!(WStr::from_utf16be(big).is_err(), error.is_some());
-        assert_eq!(WStr::from_utf16le(&little).is_err(), error.is_some());
-        assert_eq!(
+        let refused = [
+            WStr::from_utf16be(big).is_err(),
+            WStr::from_utf16le(&little).is_err(),
             WString::from_utf16be(big.to_vec()).is_err(),
-            error.is_some()
-        );
-        assert_eq!(
             WString::from_utf16le(little.clone()).is_err(),
-            error.is_some()
-        );
-        assert_eq!(
             WStr::from_utf16be_mut(&mut big.to_vec()).is_err(),
-            error.is_some()
-        );
-        assert_eq!(
             WStr::from_utf16le_mut(&mut little).is_err(),
-            error.is_some()
-        );
+        ];
+        assert_eq!(refused, [error.is_some(); 6]);
     }
 }
 
@@ -570,4 +540,19 @@ fn values_are_shown_to_programmers() {
     assert!(format!("{text:?}").contains("[0, 97]"));
     let error = WStr::<BE>::from_utf16(b"\0").unwrap_err();
     assert!(format!("{error:?}").contains("valid_up_to: 0"));
+}
+
+#[test]
+fn byte_orders_refuse_other_lengths() {
+    for len in [0, 1, 3] {
+        assert!(panics(|| LE::write_u16_into(&[0x61], &mut [0; 3][..len])));
+        assert!(panics(|| BE::write_u16_into(&[0x61], &mut [0; 3][..len])));
+    }
+    assert!(panics(|| BE::read_u16(&[0])));
+    assert!(panics(LE::default));
+    let mut bytes = [0; 4];
+    BE::write_u16_into(&[0x6162, 0x6364], &mut bytes);
+    assert_eq!((bytes, BE::read_u16(&bytes)), (*b"abcd", 0x6162));
+    LE::write_u16_into(&[0x6162, 0x6364], &mut bytes);
+    assert_eq!((bytes, LE::read_u16(&bytes)), (*b"badc", 0x6162));
 }
