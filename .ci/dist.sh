@@ -77,8 +77,9 @@ refuses() {
 
 # Tests that a processor or a system without assembly is refused.
 refuses_target() {
+    local systems='x86_64 and aarch64 Linux, x86_64 Windows, and macOS'
     printf '#!/bin/sh\necho %s\n' "$1" > "$room/other" && chmod +x "$room/other" &&
-        refuses "there is no assembly for $1" CC="$room/other"
+        refuses "there is no assembly for $1: only for $systems" CC="$room/other"
 }
 
 need "${tools[@]}" || finish

@@ -1,11 +1,12 @@
 #!/usr/bin/env bash
 # Tests the library for macOS, which clang and LLVM's linker build from dist/: its symbols, and the
 # tables of cases, which here run over the linked code under Linux. .ci/macos.py puts this into
-# memory like the loader of macOS, and qemu emulates ARM64. Nothing of macOS itself is here. If this
+# memory like the loader of macOS, and qemu emulates ARM64. No part of macOS is used. If this
 # runs as root, apt-get installs missing tools; a tool that is still missing is a failure. The last
 # line is 'N passed, M failed'.
 set -uo pipefail
 top=$(cd "$(dirname "$0")/.." && pwd)
+version=$(< "$top/VERSION")
 room=$(mktemp -d)
 trap 'rm -rf "$room"' EXIT
 . "$top/.ci/checks.sh"
@@ -33,7 +34,7 @@ with_make() {
 # Tests that a library which contains the static one does not export its calls.
 hides_calls() {
     clang --target=$1 -dynamiclib $linker -Wl,-all_load "$room/$1/libdethrux.a" -o "$room/all" &&
-        [ -z "$(llvm-nm -g --defined-only "$room/all")" ]
+        llvm-nm -g --defined-only "$room/all" > "$room/names" && [ ! -s "$room/names" ]
 }
 
 with_cmake() {
@@ -47,7 +48,19 @@ with_cmake() {
     cmake -S "$top/dist" -B "$room/cmake-$1" "${options[@]}" &&
         cmake --build "$room/cmake-$1" --target dethrux_shared dethrux_static &&
         exports_header names -g --defined-only "$room/cmake-$1/libdethrux.dylib" &&
-        calls_memory_alone names -u "$room/cmake-$1/libdethrux.a"
+        calls_memory_alone names -u "$room/cmake-$1/libdethrux.a" &&
+        cmake --install "$room/cmake-$1" --prefix "$room/prefix-$1" &&
+        diff <(cd "$room/prefix-$1/lib" && find . -name '*dethrux*' ! -type d | sort) - << END &&
+./cmake/dethrux/dethruxConfig.cmake
+./cmake/dethrux/dethruxConfigVersion.cmake
+./libdethrux.$version.dylib
+./libdethrux.${version%.*}.dylib
+./libdethrux.a
+./libdethrux.dylib
+./pkgconfig/dethrux.pc
+END
+        cmake -S "$top/packaging/test" -B "$room/user-$1" "${options[@]}" \
+            -DCMAKE_PREFIX_PATH="$room/prefix-$1" -DCMAKE_FIND_ROOT_PATH_MODE_PACKAGE=BOTH
 }
 
 # Runs a program of examples/c over a linked library, with a compiler for Linux.
@@ -64,10 +77,14 @@ tables() {
 words_of_make() {
     printf '#!/bin/sh\necho arm64-apple-darwin23.6.0\n' > "$room/cc" && chmod +x "$room/cc" &&
         make -n -C "$top/dist" "CC=$room/cc" check > "$room/words" &&
-        grep -F -- '-install_name @rpath/libdethrux.' "$room/words" &&
+        grep -F -- "-install_name @rpath/libdethrux.${version%.*}.dylib" "$room/words" &&
+        grep -F -- "-compatibility_version ${version%.*} -current_version $version" \
+            "$room/words" &&
+        [ "$(grep -c -- '-Wl,-rpath,@loader_path' "$room/words")" = 5 ] &&
         grep -c 'src/macos-aarch64\.s' "$room/words" | grep -x 2 &&
         [ "$(grep -c '^out/.*_\(static\|shared\)' "$room/words")" = 5 ] &&
-        ! make -n -C "$top/dist" "CC=$room/cc" install
+        ! make -n -C "$top/dist" "CC=$room/cc" install > "$room/words" 2> "$room/why" &&
+        grep -F 'on macOS CMake installs this: see docs/INSTALL.md' "$room/why"
 }
 
 need "${tools[@]}" "${for_arm64[@]}" || finish
