@@ -2,15 +2,19 @@
 
 import array
 import ctypes
+import functools
 import mmap
+import os
 import sys
 import tempfile
 import threading
 import tracemalloc
+from pathlib import Path
 from typing import NamedTuple, Optional
 
 from dethrux import Status
 
+TOP = Path(os.environ.get("DETHRUX_TOP") or Path(__file__).resolve().parents[3])
 CODECS = {"little": "utf-16-le", "big": "utf-16-be"}
 ORDERS = tuple(CODECS)
 REPLACEMENT = "\ufffd"
@@ -63,6 +67,7 @@ class Item(NamedTuple):
     is_incomplete: bool = False
 
 
+@functools.lru_cache(maxsize=None)
 def items(raw, codec):
     """Return the characters and the ill-formed sequences of bytes, as CPython finds them."""
     found = []

@@ -100,10 +100,10 @@ class Functions(unittest.TestCase):
                 for errors, final in itertools.product(HANDLERS, (False, True)):
                     self.assert_same("utf_16_le_decode", little, errors, final)
                     self.assert_same("utf_16_be_decode", big, errors, final)
-                for raw, errors in itertools.product((little, big), ("strict", "replace")):
+                for raw, errors in itertools.product((little, big), ("replace", None)):
                     for final in (False, True):
                         self.assert_same("utf_16_decode", raw, errors, final)
-                        for order in (-1, 0, 1):
+                        for order in (-1, 0, 1, True):
                             self.assert_same("utf_16_ex_decode", raw, errors, order, final)
 
     def test_defaults(self):
@@ -194,8 +194,17 @@ class Handlers(unittest.TestCase):
         except Exception as error:
             return type(error)
 
-    def assert_same_kind(self, found, expected, *shown):
-        self.assertEqual(self.kind(found), self.kind(expected), shown)
+    def assert_same_kinds(self, shown, *pairs):
+        for found, expected in pairs:
+            self.assertEqual(self.kind(found), self.kind(expected), shown)
+
+    def assert_decoded(self, data, order, errors, raw=None):
+        """Compare with CPython, to a str and to UTF-8. Data that is not bytes has these bytes."""
+        codec, raw = CODECS[order], data if raw is None else raw
+        found = outcome(dethrux.decode, data, order, errors)
+        self.assertEqual(found, outcome(raw.decode, codec, errors))
+        found = outcome(dethrux.decode_to_utf8, data, order, errors)
+        self.assertEqual(found, outcome(lambda: raw.decode(codec, errors).encode("utf-8", errors)))
 
     def test_odd_names(self):
         """They are refused also for well-formed input, but not if they are just unknown."""
@@ -208,44 +217,36 @@ class Handlers(unittest.TestCase):
             functions = f"{short}_decode", f"{short}_encode"
             decode, encode = ((getattr(own, it), getattr(codecs, it)) for it in functions)
             for raw in raws:
-                self.assert_same_kind(
-                    lambda: decode[0](raw, name, True),
-                    lambda: decode[1](raw, name, True),
-                    name,
-                    raw,
-                )
-                for call in (
-                    lambda: dethrux.decode(raw, order, name),
-                    lambda: raw.decode(f"dethrux-{codec}", name),
-                ):
-                    self.assert_same_kind(call, lambda: raw.decode(codec, name), name, raw)
-                self.assert_same_kind(
-                    lambda: dethrux.decode_to_utf8(raw, order, name),
-                    lambda: raw.decode(codec, name).encode("utf-8", name),
-                    name,
-                    raw,
+                text_of = lambda: raw.decode(codec, name)
+                self.assert_same_kinds(
+                    (name, raw),
+                    (lambda: decode[0](raw, name, True), lambda: decode[1](raw, name, True)),
+                    (lambda: dethrux.decode(raw, order, name), text_of),
+                    (lambda: raw.decode(f"dethrux-{codec}", name), text_of),
+                    (
+                        lambda: dethrux.decode_to_utf8(raw, order, name),
+                        lambda: text_of().encode("utf-8", name),
+                    ),
                 )
             for text in texts:
-                self.assert_same_kind(
-                    lambda: encode[0](text, name), lambda: encode[1](text, name), name, text
-                )
-                for call in (
-                    lambda: dethrux.encode(text, order, name),
-                    lambda: text.encode(f"dethrux-{codec}", name),
-                ):
-                    self.assert_same_kind(call, lambda: text.encode(codec, name), name, text)
-                self.assert_same_kind(
-                    lambda: text.encode("dethrux-utf-16", name),
-                    lambda: text.encode("utf-16", name),
-                    name,
-                    text,
+                raw_of = lambda: text.encode(codec, name)
+                self.assert_same_kinds(
+                    (name, text),
+                    (lambda: encode[0](text, name), lambda: encode[1](text, name)),
+                    (lambda: dethrux.encode(text, order, name), raw_of),
+                    (lambda: text.encode(f"dethrux-{codec}", name), raw_of),
+                    (
+                        lambda: text.encode("dethrux-utf-16", name),
+                        lambda: text.encode("utf-16", name),
+                    ),
                 )
             for utf8 in utf8s:
-                self.assert_same_kind(
-                    lambda: dethrux.encode_from_utf8(utf8, order, name),
-                    lambda: utf8.decode("utf-8", name).encode(codec, name),
-                    name,
-                    utf8,
+                self.assert_same_kinds(
+                    (name, utf8),
+                    (
+                        lambda: dethrux.encode_from_utf8(utf8, order, name),
+                        lambda: utf8.decode("utf-8", name).encode(codec, name),
+                    ),
                 )
 
     def test_a_name_that_is_not_ascii(self):
@@ -268,19 +269,10 @@ class Handlers(unittest.TestCase):
             for function in (handler, lambda error: ("!" * 9, error.end)):
                 codecs.register_error(name, function)
                 codecs.register_error("dethrux.test.alias", function)
-                for (order, codec), each in itertools.product(
-                    CODECS.items(), (name, "dethrux.test.alias")
-                ):
+                for order, each in itertools.product(CODECS, (name, "dethrux.test.alias")):
                     raw = utf16_of(wrong, order)
                     for data in (raw, raw + b"\xd8"):
-                        self.assertEqual(
-                            outcome(dethrux.decode, data, order, each),
-                            outcome(data.decode, codec, each),
-                        )
-                        self.assertEqual(
-                            outcome(dethrux.decode_to_utf8, data, order, each),
-                            outcome(lambda: data.decode(codec, each).encode("utf-8", each)),
-                        )
+                        self.assert_decoded(data, order, each)
             codecs.register_error(name, kept[name])
 
     def test_many_errors_of_each_handler(self):
@@ -288,17 +280,10 @@ class Handlers(unittest.TestCase):
         handlers = ("replace", "ignore", "backslashreplace", "surrogatepass", "surrogateescape")
         for wrong in ("\udc00", "\ud800", "\udfff\udbff", "\ud800\ud83d\ude00", "\udc00\xff"):
             for count, kind in itertools.product((1, 2, 17, 300), ("", "a", "\xe9", "\u4e00")):
-                for order, codec in CODECS.items():
+                for order in CODECS:
                     raw = utf16_of((kind + wrong) * count + kind, order)
                     for data, errors in itertools.product((raw, raw + b"\xd8"), handlers):
-                        self.assertEqual(
-                            outcome(dethrux.decode, data, order, errors),
-                            outcome(data.decode, codec, errors),
-                        )
-                        self.assertEqual(
-                            outcome(dethrux.decode_to_utf8, data, order, errors),
-                            outcome(lambda: data.decode(codec, errors).encode("utf-8", errors)),
-                        )
+                        self.assert_decoded(data, order, errors)
 
     def test_room_for_backslashes(self):
         """They take more bytes of UTF-8 than any code unit."""
@@ -317,7 +302,15 @@ class Handlers(unittest.TestCase):
                 decode = f"{codec.replace('-', '_')}_decode"
                 raw = "a\udc00bc\ud800d".encode(codec, "surrogatepass")
                 found = []
-                for function in (getattr(codecs, decode), getattr(dethrux._codecs, decode)):
+                for function in (
+                    getattr(codecs, decode),
+                    getattr(dethrux._codecs, decode),
+                    lambda *given: (dethrux.decode(given[0], order, given[1]), len(raw)),
+                    lambda *given: (
+                        dethrux.decode_to_utf8(given[0], order, given[1]).decode(),
+                        len(raw),
+                    ),
+                ):
                     buffer = bytearray(raw)
 
                     def handler(error):
@@ -340,21 +333,14 @@ class Handlers(unittest.TestCase):
                     buffer.append(0)
                 text = "a?bc?d", len(raw)
                 expected = text if change == "write" else BufferError
-                self.assertEqual(found, [expected] * 2)
+                self.assertEqual(found, [expected] * 4)
 
     def test_buffers_in_pieces(self):
         for order, codec in CODECS.items():
             for text in ("a\udc00b", "ab", "\udc00" * 20):
                 raw = text.encode(codec, "surrogatepass")
                 for errors in ("strict", "replace", "ignore", "backslashreplace", "surrogatepass"):
-                    self.assertEqual(
-                        outcome(dethrux.decode, spread(raw), order, errors),
-                        outcome(raw.decode, codec, errors),
-                    )
-                    self.assertEqual(
-                        outcome(dethrux.decode_to_utf8, spread(raw), order, errors),
-                        outcome(lambda: raw.decode(codec, errors).encode("utf-8", errors)),
-                    )
+                    self.assert_decoded(spread(raw), order, errors, raw)
 
     def test_an_exported_buffer(self):
         """Others may look at a buffer during a call, and a call leaves it free."""
@@ -420,7 +406,7 @@ class Streams(unittest.TestCase):
 
     def test_stateless(self):
         for name, errors in itertools.product(NAMES, ("strict", "replace", "surrogatepass")):
-            for raw in (b"", b"a\0", b"\0a\xdc\0", b"\xfe\xff\0a\xd8", b"a\0\x3d\xd8"):
+            for raw in (b"", b"a\0", b"\0a\xdc\0", b"\xfe\xff\0a\xd8", b"a\0\x3d\xd8", b"\xff\xff"):
                 self.run_both(name, lambda info: info, [("decode", raw, errors), ("decode", raw)])
             for text in ("", "a\U0001f600", "\ud800"):
                 self.run_both(name, lambda info: info, [("encode", text, errors), ("encode", text)])

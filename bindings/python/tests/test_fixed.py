@@ -9,7 +9,7 @@ import unittest
 
 import dethrux
 from dethrux import Repertoire, Status
-from expected import CODECS, IN_PIECES, LARGEST, ORDERS, READABLE, UTF8, WRITABLE, items, peak
+from expected import CODECS, IN_PIECES, LARGEST, NOT_BUFFERS, ORDERS, UTF8, WRITABLE, items
 from expected import progress, utf16, without_memory
 
 UTF32 = "utf-32-le" if sys.byteorder == "little" else "utf-32-be"
@@ -54,15 +54,14 @@ def errors(raw, codec):
 
 class Errors(unittest.TestCase):
     def test_each(self):
-        for order, kind in itertools.product(ORDERS, READABLE):
-            for raw in utf16(order):
-                found = [*dethrux.iter_errors(kind(raw), order)]
-                self.assertEqual(found, errors(raw, CODECS[order]), (order, raw, kind))
-                self.assertEqual(len(found), dethrux.to_utf8_replacements(raw, order))
-                for each in found:
-                    self.assertIs(type(each), dethrux.IllFormed)
-                    self.assertIs(type(each.status), Status)
-                    self.assertEqual((each.offset, each.len, each.status), each)
+        for order, raw in ((order, raw) for order in ORDERS for raw in utf16(order)):
+            found = [*dethrux.iter_errors(raw, order)]
+            self.assertEqual(found, errors(raw, CODECS[order]), (order, raw))
+            self.assertEqual(len(found), dethrux.to_utf8_replacements(raw, order))
+            for each in found:
+                self.assertIs(type(each), dethrux.IllFormed)
+                self.assertIs(type(each.status), Status)
+                self.assertEqual((each.offset, each.len, each.status), each)
 
     def test_from_an_offset(self):
         for at, expected in ((0, 2), (2, 2), (4, None), (6, None), (7, None), (2**64, None)):
@@ -82,7 +81,6 @@ class Errors(unittest.TestCase):
         with self.assertRaises(BufferError):
             buffer.append(0)
         self.assertEqual([*found], [(2, 2, Status.ILL_FORMED)])
-        del found
         buffer.append(0)
 
     def test_linear_time(self):
@@ -95,20 +93,6 @@ class Errors(unittest.TestCase):
                 self.assertEqual(sum(1 for _ in dethrux.iter_errors(buffer, "little")), count)
                 taken.append(time.process_time() - before)
             self.assertLess(taken[1], 32 * taken[0] + 0.1)
-
-
-class Memory(unittest.TestCase):
-    """A call takes no more memory than the longest output for its input."""
-
-    def test_the_output(self):
-        count = 500_000
-        of_utf16 = ("little", b"a\0" * count)
-        for call, order, data, size in (
-            (dethrux.to_latin1, *of_utf16, count),
-            (dethrux.to_utf32, *of_utf16, 4 * count),
-            (dethrux.from_latin1, "big", b"a" * count, 2 * count),
-        ):
-            self.assertLess(peak(call, data, order), size + 50_000, call.__name__)
 
 
 class Inspect(unittest.TestCase):
@@ -148,7 +132,8 @@ class Parts(unittest.TestCase):
             for raw, each in itertools.product((text, text[:-1]), patterns):
                 pattern = each.encode(codec, "surrogatepass")
                 at = [0, *itertools.accumulate(item.length for item in items(raw, codec))]
-                places = [it for it in at if it + len(pattern) in at and raw.startswith(pattern, it)]
+                places = [it for it in at if raw.startswith(pattern, it)]
+                places = [it for it in places if it + len(pattern) in at]
                 for start, end in itertools.product(self.ENDS, repeat=2):
                     # `bytes.find` finds the empty pattern where any pattern may begin and end.
                     least = raw.find(b"", start, end)
@@ -172,7 +157,7 @@ class Parts(unittest.TestCase):
 
 
 class Fixed(unittest.TestCase):
-    """UTF-32 and Latin-1."""
+    """UTF-8, UTF-32 and Latin-1."""
 
     def test_conversions(self):
         for order in ORDERS:
@@ -180,6 +165,8 @@ class Fixed(unittest.TestCase):
                 call = getattr(dethrux, name)
                 whole = progress(raw, source, target, stops, LARGEST)
                 self.assertEqual(call(raw, order), whole, (name, raw, order))
+                for capacity in (None, 10**30):
+                    self.assertEqual(call(raw, order, capacity), whole, (name, raw, order))
                 for capacity in range(len(whole[0]) + 2):
                     expected = progress(raw, source, target, stops, capacity)
                     self.assertEqual(call(raw, order, capacity), expected, (name, raw, capacity))
@@ -274,13 +261,6 @@ class Into(unittest.TestCase):
             self.assertEqual(found._fields, ("read", "written", "status", "error_len"))
             self.assertIs(type(found.status), Status)
             self.assertEqual(bytes(memoryview(buffer))[:2], b"ab")
-        for wrong in (b"abc", "abc", 5, None, memoryview(b"abc"), memoryview(bytearray(8))[::2]):
-            message = "^a writable buffer in one piece is required, not '.*'$"
-            with self.assertRaisesRegex(TypeError, message):
-                dethrux.to_utf8_into(b"a\0", "little", wrong)
-        buffer = bytearray(8)
-        dethrux.to_utf8_into(b"a\0", "little", buffer)
-        buffer.append(0)
 
     def test_overlap(self):
         buffer = bytearray(b"a\0" * 8)
@@ -293,23 +273,31 @@ class Into(unittest.TestCase):
         self.assertEqual(found, (8, 4, Status.DONE, 0))
         found = dethrux.to_utf8_into(view[14:], "big", view[:14])
         self.assertEqual(found, (2, 3, Status.DONE, 0))
+        # An empty buffer overlaps no other.
+        found = dethrux.to_utf8_into(view[4:4], "little", view)
+        self.assertEqual(found, (0, 0, Status.DONE, 0))
+        found = dethrux.to_utf8_into(view, "little", view[4:4])
+        self.assertEqual(found, (0, 0, Status.NO_SPACE, 0))
 
     def test_the_address_of_utf32(self):
         view = memoryview(bytearray(16))
         message = "^a buffer for UTF-32 must be aligned to four bytes$"
-        for start in (1, 2, 3):
-            for call in (dethrux.to_utf32_into, dethrux.to_utf32_lossy_into):
+        for call in (dethrux.to_utf32_into, dethrux.to_utf32_lossy_into):
+            for start in (1, 2, 3):
                 with self.assertRaisesRegex(ValueError, message):
                     call(b"a\0", "little", view[start:])
-        found = dethrux.to_utf32_into(b"a\0", "little", view[4:])
-        self.assertEqual(found, (2, 4, Status.DONE, 0))
+                # An empty buffer may be anywhere, and an empty array is.
+                for empty in (view[start:start], array.array("I")):
+                    found = call(b"a\0", "little", empty)
+                    self.assertEqual(found, (0, 0, Status.NO_SPACE, 0))
+            self.assertEqual(call(b"a\0", "little", view[4:]), (2, 4, Status.DONE, 0))
 
 
 class Strict(unittest.TestCase):
     """Streams that raise at the first error."""
 
     def streams(self):
-        """Return a kind, a byte order, a sample, and CPython's codecs of what it reads and writes."""
+        """Return a kind, a byte order, a sample, and the codecs of what it reads and writes."""
         for order, codec in CODECS.items():
             for raw in utf16(order):
                 yield dethrux.StrictDecoder, order, raw, codec, "utf-8"
@@ -318,8 +306,9 @@ class Strict(unittest.TestCase):
 
     def test_every_chunking(self):
         for kind, order, raw, source, target in self.streams():
-            wrong = [item for item in itertools.accumulate(errors(raw, source)[:1])]
-            for first, second in itertools.combinations_with_replacement(range(len(raw) + 1), 2):
+            wrong = errors(raw, source)[:1]
+            cuts = itertools.product(range(len(raw) + 1), range(9))
+            for first, second in ((first, first + more) for first, more in cuts):
                 decoder, found = kind(order), b""
                 try:
                     for chunk in (raw[:first], raw[first:second], raw[second:]):
@@ -345,6 +334,7 @@ class Strict(unittest.TestCase):
         self.assertEqual(decoder.offset, start)
         copy = pickle.loads(pickle.dumps(error))
         self.assertEqual((copy.args, copy.offset), (error.args, error.offset))
+        self.assertEqual((str(copy), copy.reason), (str(error), error.reason))
 
     def test_an_exception_changes_nothing(self):
         decoder = dethrux.StrictDecoder("little")
@@ -355,8 +345,9 @@ class Strict(unittest.TestCase):
             self.assertEqual((caught.exception.offset, decoder.pending), (2, b"\x3d"))
         with self.assertRaises(dethrux.StreamError):
             decoder.finish()
-        with self.assertRaises(TypeError):
-            decoder.feed("a")
+        for wrong in NOT_BUFFERS:
+            with self.assertRaises(TypeError):
+                decoder.feed(wrong)
         self.assertEqual(decoder.feed(array.array("H", b"\xd8\0\xde\x62")), b"\xf0\x9f\x98\x80")
         self.assertEqual((decoder.pending, decoder.offset), (b"\x62", 6))
 

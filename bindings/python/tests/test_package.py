@@ -13,9 +13,9 @@ from unittest import mock
 
 import dethrux
 from dethrux import _load
+from expected import TOP
 
 FOLDER = Path(dethrux.__file__).parent
-TOP = Path(os.environ.get("DETHRUX_TOP") or Path(__file__).resolve().parents[3])
 EXTENSION = f"_native{sysconfig.get_config_var('EXT_SUFFIX')}"
 FAST = f"{_load._FAST.name}/{EXTENSION}"
 

@@ -3,6 +3,7 @@
 import os
 import re
 import shlex
+import signal
 import subprocess
 import sys
 import tempfile
@@ -13,15 +14,16 @@ from unittest import mock
 
 import dethrux
 from dethrux import __main__ as program
+from expected import TOP, peak
 
-TOP = Path(os.environ.get("DETHRUX_TOP") or Path(__file__).resolve().parents[3])
 TABLE = TOP / ".ci" / "program.txt"
-FOLDER = str(Path(dethrux.__file__).parent.parent)
+ENVIRONMENT = {**os.environ, "PYTHONPATH": str(Path(dethrux.__file__).parent.parent)}
+PYTHON = shlex.quote(sys.executable)
 ORDERS = {"cat": "le be auto", "enc": "le be le-bom be-bom", "check": "le be auto"}
 # Cases that do not apply: a fault of a call of the program's C library, which Python makes before
-# it runs this program; less memory than Python takes; and a folder as standard input, with which
-# Python does not start.
-NOT_OF_PYTHON = re.compile(r"with_little_memory|with_fault|with_each|ulimit -v|< folder")
+# it runs this program; less memory than Python takes; a folder as standard input, with which Python
+# does not start; and an offset of more than 32 bits, which an int of Python has like any other.
+NOT_OF_PYTHON = "with_little_memory|with_fault|with_each|ulimit -v|< folder|head -c 4294967296"
 # What the commands of the table call.
 PRELUDE = """
 letters() { head -c "$1" /dev/zero | tr '\\0' a; }
@@ -44,21 +46,45 @@ def usage(name):
     return f"usage: python -m dethrux {name} [{ORDERS[name].replace(' ', '|')}] [FILE]\n".encode()
 
 
-class Cases(unittest.TestCase):
+def forked(*words, given=b"", folder="."):
+    """Run a program in a copy of this process. Return the status, the output and the message.
+
+    The output ends with what the program left of the input.
+    """
+    with tempfile.TemporaryFile() as data, tempfile.TemporaryFile() as output:
+        with tempfile.TemporaryFile() as message:
+            files = data, output, message
+            data.write(given)
+            data.seek(0)
+            child = os.fork()
+            if child == 0:
+                try:
+                    os.chdir(folder)
+                    for number, file in enumerate(files):
+                        os.dup2(file.fileno(), number)
+                    os._exit(program.main([*map(os.fsdecode, words)]))
+                finally:
+                    os._exit(99)
+            status = os.waitstatus_to_exitcode(os.waitpid(child, 0)[1])
+            left = os.read(data.fileno(), len(given) + 1)
+            output.seek(0)
+            message.seek(0)
+            return status, output.read() + left, message.read()
+
+
+class Table(unittest.TestCase):
     """Each case in a folder with the files of the table."""
 
     @classmethod
     def setUpClass(cls):
         folder = tempfile.TemporaryDirectory()
         cls.addClassCleanup(folder.cleanup)
-        cls.folder = Path(folder.name)
-        cls.folder.joinpath("folder").mkdir()
+        cls.folder = Path(folder.name) / "files"
+        cls.folder.joinpath("folder").mkdir(parents=True)
         for name in ORDERS:
-            program = cls.folder / name
-            program.write_text(
-                f'#!/bin/sh\nexec {shlex.quote(sys.executable)} -m dethrux {name} "$@"\n'
-            )
-            program.chmod(0o755)
+            script = cls.folder / name
+            script.write_text(f'#!/bin/sh\nexec {PYTHON} -S -m dethrux {name} "$@"\n')
+            script.chmod(0o755)
         for whose, file, *command in rows():
             if whose == "file":
                 cls.shell(f"{{ {command[0]}; }} > {file}")
@@ -66,85 +92,74 @@ class Cases(unittest.TestCase):
     @classmethod
     def shell(cls, command, **named):
         """Run a command of the table."""
-        environment = {**os.environ, "PYTHONPATH": FOLDER}
         words = ["bash", "-c", PRELUDE + command]
-        return subprocess.run(words, cwd=cls.folder, env=environment, capture_output=True, **named)
-
-    def printed(self, text):
-        """Return the bytes that printf writes."""
-        return b"" if text in ("", "-") else self.shell(f"printf {shlex.quote(text)}").stdout
-
-    def count_of(self, words, variables):
-        """Return how many words there are, without the one for the byte order."""
-        given = self.shell(f"{variables}; set -- {words}; printf '%s\\n' $# \"$1\"").stdout
-        count, first = given.split(b"\n")[:2]
-        return int(count) - (first.decode(errors="replace") in ORDERS[self.name_of(variables)])
+        return subprocess.run(words, cwd=cls.folder, env=ENVIRONMENT, capture_output=True, **named)
 
     @staticmethod
-    def name_of(variables):
-        """Return the program of the variables of a command."""
-        return re.search(r"P=\./(\w+)", variables)[1]
+    def printed(text):
+        """Return the bytes that printf writes."""
+        return b"" if text == "-" else text.encode().decode("unicode_escape").encode("latin-1")
 
-    def run_case(self, name, words, given, output, status, message):
-        """Run a case in each byte order that it names. Return what is wrong."""
+    def variables(self, name, order):
+        """Return what a command begins with."""
         big, front = ("trailing", "front_report") if name == "check" else ("zeros", "front")
+        of_order = f"{front}_{order}"
+        front = of_order if (self.folder / of_order).exists() else front
         other = "le-bom" if name == "enc" else "auto"
-        line = usage(name) if message == "usage" else f"dethrux {name}: {message}\n".encode()
-        expected = int(status or 0), self.printed(output), line if message else b""
-        wrong = []
-        for order in ORDERS[name].split() if "$W" in str(given) else ["le"]:
-            of_order = f"{front}_{order}"
-            end = of_order if (self.folder / of_order).exists() else front
-            command = f"P=./{name} W={order} A={other} BIG={big} FRONT={end}; "
-            if words == "$":
-                # Each case has its own folder, in which it may make files.
-                command += 'd=$(mktemp -d -p .); ln -s "$PWD"/* $d; cd $d; '
-                # One word that is not a byte order names a file.
-                command += given.replace("$P LE", "$P LE LE")
-                with self.folder.joinpath("hi").open("rb") as hi:
-                    run = self.shell(command, stdin=hi)
-            else:
-                run = self.shell(f"{command}$P {words}; s=$?; cat; exit $s", input=given)
-            found = run.returncode, run.stdout, run.stderr.replace(b"usag\n", b"usag")
-            if found != expected:
-                wrong.append((command, words, found, expected))
-        return wrong
+        return f"P=./{name} W={order} A={other} BIG={big} FRONT={front}; "
+
+    def run_command(self, name, order, command):
+        """Run a command in a new folder. Return the status, the output and the message."""
+        place = "cd $(mktemp -d -p ..); ln -s ../files/* .; "
+        run = self.shell(self.variables(name, order) + place + command, input=b"h\0i\0")
+        return run.returncode, run.stdout, run.stderr
+
+    def is_refused(self, name, words):
+        """Return whether there is more than a byte order and a file."""
+        command = f"set -- {words}; printf '%s\\n' $# \"$1\""
+        count, first = self.run_command(name, "le", command)[1].split(b"\n")[:2]
+        return int(count) - (first.decode(errors="replace") in ORDERS[name]) > 1
 
     def cases(self):
-        """Return the cases that apply, with the name of a program."""
+        """Return each case that applies: a program, words or a command, and what is expected."""
         for whose, words, *rest in rows():
             given, output, status, message = (*rest, "", "", "")[:4]
-            if whose == "file" or NOT_OF_PYTHON.search(f"{words} {given}"):
+            if whose == "file" or re.search(NOT_OF_PYTHON, given):
                 continue
-            words = "" if words == "-" else words
             for name in ORDERS if whose == "all" else [whose]:
-                if given == "!":
-                    variables = f"P=./{name} A={'le-bom' if name == 'enc' else 'auto'}"
-                    # With fewer words one of them names a file, or there is none.
-                    if self.count_of(words, variables) > 1:
-                        yield name, words, b"h\0i\0", r"h\0i\0", "2", "usage"
-                elif words == "$":
+                if given != "!":
                     yield name, words, given, output, status, message
-                else:
-                    yield name, words, self.printed(given), output, status, message
+                elif self.is_refused(name, words):
+                    command = f"$P {words}; s=$?; cat; exit $s"
+                    yield name, "$", command, r"h\0i\0", "2", "usage"
 
     def test_each_case(self):
-        cases = list(self.cases())
-        self.assertGreater(len(cases), 200)
-        with ThreadPoolExecutor(os.cpu_count()) as pool:
-            found = list(pool.map(lambda case: self.run_case(*case), cases))
-        self.assertEqual([each for wrong in found for each in wrong], [])
+        count, commands = 0, []
+        for name, words, given, output, status, message in self.cases():
+            line = usage(name) if message == "usage" else f"dethrux {name}: {message}\n".encode()
+            expected = int(status or 0), self.printed(output), line if message else b""
+            if words == "$":
+                # One word that is not a byte order names a file.
+                given = given.replace("$P LE", "$P LE LE")
+                # The words for big endian are in other rows.
+                orders = {"le", program.PROGRAMS[name].default} if "$W" in given else {"le"}
+                commands += [((name, order, given), expected) for order in orders]
+            else:
+                words = [] if words == "-" else shlex.split(words)
+                found = forked(name, *words, given=self.printed(given))
+                self.assertEqual(found, expected, (name, words, given))
+                count += 1
+        self.assertGreater(min(count, len(commands)), 90)
+        # After a failure no more commands begin.
+        pool = ThreadPoolExecutor(os.cpu_count())
+        self.addCleanup(pool.shutdown, cancel_futures=True)
+        found = pool.map(lambda command: self.run_command(*command[0]), commands)
+        for (command, expected), each in zip(commands, found):
+            self.assertEqual(each, expected, command)
 
 
 class Program(unittest.TestCase):
-    """Files, the default byte orders, the help, and memory."""
-
-    def run_program(self, *words, data=b"", **named):
-        """Return the status, the output and the line on standard error."""
-        command = [sys.executable, "-m", "dethrux", *words]
-        environment = {**os.environ, "PYTHONPATH": FOLDER}
-        run = subprocess.run(command, input=data, capture_output=True, env=environment, **named)
-        return run.returncode, run.stdout, run.stderr
+    """Files, the default byte orders, the help, interrupts, failures, and memory."""
 
     def test_files(self):
         with tempfile.TemporaryDirectory() as folder:
@@ -152,35 +167,34 @@ class Program(unittest.TestCase):
             for order, codec in (("le", "utf-16-le"), ("be", "utf-16-be")):
                 path.write_bytes("gr\xfc\xdfe \U0001f600".encode(codec))
                 expected = 0, "gr\xfc\xdfe \U0001f600".encode(), b""
-                self.assertEqual(self.run_program("cat", order, str(path)), expected)
-                self.assertEqual(
-                    self.run_program("check", order, str(path)),
-                    (0, b"bytes: 16, characters: 7, ill-formed: 0\n", b""),
-                )
+                self.assertEqual(forked("cat", order, path), expected)
+                expected = 0, b"bytes: 16, characters: 7, ill-formed: 0\n", b""
+                self.assertEqual(forked("check", order, path), expected)
                 path.write_bytes(b"le")
-                self.assertEqual(
-                    self.run_program("enc", order, "notes.txt", cwd=folder),
-                    (0, "le".encode(codec), b""),
-                )
+                found = forked("enc", order, "notes.txt", folder=folder)
+                self.assertEqual(found, (0, "le".encode(codec), b""))
             for name in ORDERS:
-                line = f"dethrux {name}: missing: No such file or directory\n".encode()
-                for words in (["missing"], ["le", "missing"]):
-                    found = self.run_program(name, *words, cwd=folder)
-                    self.assertEqual(found, (1, b"", line))
+                for words in ([b"missing\xff"], ["le", b"missing\xff"]):
+                    line = b": missing\xff: No such file or directory\n"
+                    expected = 1, b"", f"dethrux {name}".encode() + line
+                    self.assertEqual(forked(name, *words, folder=folder), expected)
                 line = f"dethrux {name}: read failed\n".encode()
-                self.assertEqual(self.run_program(name, "le", folder), (1, b"", line))
+                self.assertEqual(forked(name, "le", folder), (1, b"", line))
 
     def test_the_default_byte_orders(self):
-        self.assertEqual(self.run_program("enc", data=b"a"), (0, b"\xff\xfea\0", b""))
-        self.assertEqual(self.run_program("cat", data=b"\xff\xfea\0"), (0, b"a", b""))
-        self.assertEqual(self.run_program("cat", data=b"\0a"), (0, b"a", b""))
         # Only the first chunk has a BOM.
         long = b"\xff\xfe" + b"a\0" * 100_000
-        self.assertEqual(self.run_program("cat", data=long), (0, b"a" * 100_000, b""))
         counts = b"bytes: 200002, characters: 100000, ill-formed: 0\n"
-        self.assertEqual(self.run_program("check", data=long), (0, counts, b""))
         report = b"0x2 (2): incomplete character\nbytes: 3, characters: 0, ill-formed: 1\n"
-        self.assertEqual(self.run_program("check", data=b"\xff\xfea"), (1, report, b""))
+        for name, given, status, output in (
+            ("enc", b"a", 0, b"\xff\xfea\0"),
+            ("cat", b"\xff\xfea\0", 0, b"a"),
+            ("cat", b"\0a", 0, b"a"),
+            ("cat", long, 0, b"a" * 100_000),
+            ("check", long, 0, counts),
+            ("check", b"\xff\xfea", 1, report),
+        ):
+            self.assertEqual(forked(name, given=given), (status, output, b""))
 
     def test_a_bom_in_two_chunks(self):
         for first, second in (b"\xff", b"\xfea\0"), (b"", b"\xff\xfea\0"):
@@ -191,63 +205,74 @@ class Program(unittest.TestCase):
     def test_a_write_of_less_than_all(self):
         written = []
 
-        def write(_, data):
-            written.append(bytes(data[:2]))
-            return len(written[-1])
+        def write(file, data):
+            written.append((file, bytes(data[:2])))
+            return len(data[:2])
 
         with mock.patch("os.write", write):
             program.write_output(b"abcde")
-        self.assertEqual(written, [b"ab", b"cd", b"e"])
+            program.say("fgh")
+        expected = [(1, b"ab"), (1, b"cd"), (1, b"e"), (2, b"fg"), (2, b"h")]
+        self.assertEqual(written, expected)
+        with mock.patch("os.write", side_effect=[0, 1]):
+            self.assertRaises(program.Failure, program.write_output, b"a")
+
+    def test_out_of_memory(self):
+        with mock.patch.object(program, "say") as say:
+            self.assertEqual(program.guarded("x", mock.Mock(side_effect=MemoryError)), 1)
+        say.assert_called_once_with("x: out of memory\n")
+
+    def test_interrupts(self):
+        """An interrupt ends a program, but not one that was started to ignore interrupts."""
+        words = [sys.executable, "-m", "dethrux", "cat", "le"]
+        kept = signal.getsignal(signal.SIGINT)
+        for handler, expected in (
+            (signal.SIG_DFL, (-signal.SIGINT, b"", b"")),
+            (signal.SIG_IGN, (0, b"b", b"")),
+        ):
+            signal.signal(signal.SIGINT, handler)
+            pipes = dict.fromkeys(("stdin", "stdout", "stderr"), subprocess.PIPE)
+            try:
+                run = subprocess.Popen(words, env=ENVIRONMENT, **pipes)
+            finally:
+                signal.signal(signal.SIGINT, kept)
+            with run:
+                run.stdin.write(b"a\0")
+                run.stdin.flush()
+                self.assertEqual(run.stdout.read(1), b"a")
+                run.send_signal(signal.SIGINT)
+                output, line = run.communicate(b"b\0")
+            self.assertEqual((run.returncode, output, line), expected)
 
     def test_help(self):
         for words in (["--help"], ["cat", "--help"], ["enc", "--help"], ["check", "--help"]):
-            status, output, line = self.run_program(*words)
+            status, output, line = forked(*words)
             self.assertEqual((status, line), (0, b""))
             for name in ORDERS:
                 self.assertIn(usage(name)[len("usage: ") :], output)
         line = b"usage: python -m dethrux cat|enc|check [ORDER] [FILE]\n"
         for words in ([], ["other"], ["le"], [""]):
-            self.assertEqual(self.run_program(*words), (2, b"", line))
+            self.assertEqual(forked(*words), (2, b"", line))
         for name in ORDERS:
             for words in (["-x"], ["le", "-"], ["le", "le", "le"]):
-                self.assertEqual(self.run_program(name, *words), (2, b"", usage(name)))
-        found = subprocess.run(
-            f"{shlex.quote(sys.executable)} -m dethrux --help > /dev/full",
-            shell=True,
-            stderr=subprocess.PIPE,
-        )
+                self.assertEqual(forked(name, *words), (2, b"", usage(name)))
+        words = ["sh", "-c", f"{PYTHON} -m dethrux --help > /dev/full"]
+        found = subprocess.run(words, env=ENVIRONMENT, stderr=subprocess.PIPE)
         self.assertEqual((found.returncode, found.stderr), (1, b"dethrux: write failed\n"))
 
     def test_constant_memory(self):
-        """Sixteen times the input takes no more memory, and neither does its report."""
-        pieces = {"cat": b"a\0" * 7 + b"\0\xdc", "enc": b"a\xff" * 8}
-        pieces["check"] = pieces["cat"]
-        for name, piece in pieces.items():
+        """Three times the input takes no more memory, and neither does its report."""
+        wrong = b"a\0" * 31 + b"\0\xdc"
+        for name, piece in (("cat", wrong), ("enc", b"a\xff" * 8), ("check", wrong)):
             most = []
-            for count in (16, 256):
-                script = (
-                    "import resource, sys\nfrom dethrux import __main__\n"
-                    f"__main__.main([{name!r}, 'le'])\n"
-                    "use = resource.getrusage(resource.RUSAGE_SELF).ru_maxrss\n"
-                    "print(use, file=sys.stderr)"
-                )
-                words = [sys.executable, "-c", script]
-                environment = {**os.environ, "PYTHONPATH": FOLDER}
-                feed = f"import sys\nfor _ in range({count}):\n"
-                feed += f"    sys.stdout.buffer.write({piece!r} * 4096)"
-                with subprocess.Popen(
-                    [sys.executable, "-c", feed], stdout=subprocess.PIPE
-                ) as source:
-                    run = subprocess.run(
-                        words,
-                        stdin=source.stdout,
-                        stdout=subprocess.DEVNULL,
-                        stderr=subprocess.PIPE,
-                        env=environment,
-                        check=True,
-                    )
-                most.append(int(run.stderr))
-            self.assertLess(most[1] - most[0], 2048, (name, "KiB"))
+            for count in (2, 6):
+                with tempfile.TemporaryFile() as file:
+                    file.write(piece * (count * program.CHUNK // len(piece)))
+                    file.seek(0)
+                    chunks = program.read_chunks(file.fileno())
+                    run = program.PROGRAMS[name].run
+                    most.append(peak(run, "le", chunks, lambda data: None))
+            self.assertLess(most[1] - most[0], 2 * program.CHUNK, name)
 
 
 if __name__ == "__main__":

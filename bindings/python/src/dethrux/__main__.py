@@ -27,8 +27,8 @@ auto    the byte order by the byte order mark (BOM), or big endian without one;
 le-bom  a BOM, then little endian; the default of enc
 be-bom  a BOM, then big endian
 
-The status is 0, or 1 for ill-formed input of check and if reading or writing
-failed, or 2 for other arguments.
+The exit status is 0. It is 1 if check finds an ill-formed sequence, and if
+reading, writing or an allocation fails. It is 2 for other arguments.
 """
 # How many bytes are read at a time.
 CHUNK = 1 << 16
@@ -39,7 +39,7 @@ Write = Callable[[bytes], None]
 
 
 class Failure(Exception):
-    """What the line on standard error says."""
+    """A failure, with what the line on standard error says."""
 
 
 def decode_stream(word: str, chunks: Chunks, write: Write) -> int:
@@ -157,14 +157,20 @@ def read_chunks(file: int) -> Chunks:
         raise Failure("read failed") from None
 
 
+def write_all(file: int, is_open: bool, data: bytes) -> None:
+    """Write bytes to a file. Raise ``OSError`` if it is not open or takes none."""
+    view = memoryview(data)
+    while view:
+        written = os.write(file, view) if is_open else 0
+        if written == 0:
+            raise OSError
+        view = view[written:]
+
+
 def write_output(data: bytes) -> None:
     """Write bytes to standard output."""
-    view = memoryview(data)
     try:
-        while view:
-            if sys.stdout is None:
-                raise OSError
-            view = view[os.write(1, view) :]
+        write_all(1, sys.stdout is not None, data)
     except OSError:
         raise Failure("write failed") from None
 
@@ -181,10 +187,9 @@ def opened(path: Optional[str]) -> int:
 
 
 def say(line: str) -> None:
-    """Write a line to standard error, if it takes one."""
+    """Write a line to standard error, if it takes one. A path has the bytes that it was given as."""
     try:
-        if sys.stderr is not None:
-            os.write(2, line.encode(errors="backslashreplace"))
+        write_all(2, sys.stderr is not None, os.fsencode(line))
     except OSError:
         pass
 
@@ -214,7 +219,9 @@ def refused(line: str) -> int:
 
 def main(arguments: list[str]) -> int:
     """Run the program that the arguments name. Return the status."""
-    signal.signal(signal.SIGINT, signal.SIG_DFL)
+    # An interrupt ends the program, unless whoever started it ignores interrupts.
+    if signal.getsignal(signal.SIGINT) is signal.default_int_handler:
+        signal.signal(signal.SIGINT, signal.SIG_DFL)
     if "--help" in arguments[:2]:
         return guarded("dethrux", help_of_all)
     name, *rest = arguments or [""]

@@ -9,8 +9,9 @@
 
 /* The documentation of a conversion to a buffer. */
 #define INTO(name) \
-    "Convert like ``" name "``, but write to a buffer that you own, and overlaps no other.\n\n" \
-    "The bytes after those that were written have no meaning."
+    "Convert like ``" name "``, but write to a buffer that you own, from its start.\n\n" \
+    "It may not overlap the input. The bytes after those that were written have no\n" \
+    "meaning."
 
 /* Each function of the module, how many arguments it requires, its parameters, and its
  * documentation. `_native.pyi` has their types. */
@@ -20,8 +21,9 @@
     X(next_error, 3, UTF16_AT, "utf16, byteorder, at", \
       "Return the first ill-formed sequence of the bytes from an offset on, or None.") \
     X(inspect, 2, UTF16, "utf16, byteorder", \
-      "Return the longest well-formed prefix, its characters, and what follows it.\n\n" \
-      "That is their number, and the smallest repertoire that has them all.") \
+      "Return the length of the longest well-formed prefix, and what follows it.\n\n" \
+      "Also return how many characters the prefix has, and the smallest repertoire\n" \
+      "that contains them.") \
     X(count_chars, 2, UTF16, "utf16, byteorder", \
       "Return the number of characters.\n\n" \
       "For ill-formed input: the number of complete code units that are not\n" \
@@ -80,7 +82,7 @@
       "Convert UTF-16 to UTF-32, up to the first ill-formed sequence.\n\n" \
       "Each character is four bytes, in the machine's byte order.") \
     X(to_utf32_lossy, 2, UTF16_CAPACITY, "utf16, byteorder, capacity=None", \
-      "Convert UTF-16 to UTF-32, with U+FFFD for what is ill formed, as in ``to_utf8_lossy``.") \
+      "Convert UTF-16 to UTF-32, with U+FFFD for what is ill formed, like ``to_utf8_lossy``.") \
     X(to_utf32_lossy_len, 2, UTF16, "utf16, byteorder", \
       "Return the length of what ``to_utf32_lossy`` returns for the whole input.") \
     X(validate_utf32, 1, UTF32, "utf32", \
@@ -89,8 +91,8 @@
       "surrogate or above 0x10FFFF.") \
     X(from_utf32, 2, UTF32_CAPACITY, "utf32, byteorder, capacity=None", \
       "Convert UTF-32 in the machine's byte order to UTF-16, up to the first error.\n\n" \
-      "``byteorder`` is of the UTF-16. With ``Status.INCOMPLETE`` at most three bytes\n" \
-      "at the end are not read.") \
+      "``byteorder`` is the byte order of the UTF-16. With ``Status.INCOMPLETE`` at\n" \
+      "most three bytes at the end are not read.") \
     X(from_utf32_lossy, 2, UTF32_CAPACITY, "utf32, byteorder, capacity=None", \
       "Convert UTF-32 to UTF-16, with U+FFFD for each ill-formed code unit.\n\n" \
       "An incomplete code unit at the end is also replaced.") \

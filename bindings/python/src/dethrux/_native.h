@@ -209,6 +209,14 @@ static bool hold_writable(PyObject *object, Py_buffer *held) {
     if (PyObject_GetBuffer(object, held, PyBUF_WRITABLE) == 0) {
         return true;
     }
+    if (PyObject_CheckBuffer(object)) {
+        /* One that was released or closed cannot be read either, and raises why. */
+        PyErr_Clear();
+        if (PyObject_GetBuffer(object, held, PyBUF_FULL_RO) < 0) {
+            return false;
+        }
+        PyBuffer_Release(held);
+    }
     PyErr_Format(PyExc_TypeError, "a writable buffer in one piece is required, not '%s'",
                  Py_TYPE(object)->tp_name);
     return false;
@@ -260,7 +268,7 @@ static PyObject *pair(PyObject *first, size_t number) {
     return both;
 }
 
-/* Returns a member of `Status` or of `BomStatus`, or NULL if there is none. */
+/* Returns the member of an enumeration with this number, or NULL if there is none. */
 static PyObject *member(PyObject *members, uint32_t number) {
     PyObject *found = PyTuple_GetItem(members, (Py_ssize_t) number);
     Py_XINCREF(found);
@@ -585,10 +593,14 @@ static PyObject *progress(const native *it, arguments given, conversion *convert
 }
 
 /* Returns whether a conversion can write to a buffer, or raises an exception. The library takes
- * neither buffers that overlap nor UTF-32 at an address that is not a multiple of four. */
+ * neither buffers that overlap nor UTF-32 at an address that is not a multiple of four. An empty
+ * buffer overlaps no other, and may be anywhere. */
 static bool fits(const input *from, direction way, const Py_buffer *to) {
     uintptr_t source = (uintptr_t) from->bytes, target = (uintptr_t) to->buf;
-    if (source < target + (size_t) to->len && target < source + from->len) {
+    if (to->len == 0) {
+        return true;
+    }
+    if (from->len != 0 && source < target + (size_t) to->len && target < source + from->len) {
         PyErr_SetString(PyExc_ValueError, "the buffers must not overlap");
         return false;
     }
@@ -602,8 +614,11 @@ static bool fits(const input *from, direction way, const Py_buffer *to) {
 /* Converts to a buffer that is held. Returns a `ProgressInto`. */
 static PyObject *converted_into(const native *it, conversion *convert, dethrux_byte_order order,
                                 const input *from, const Py_buffer *to) {
+    /* What an empty buffer points to, since its address may be any. */
+    static uint32_t nothing;
+    void *start = to->len == 0 ? &nothing : to->buf;
     PyThreadState *saved = without_gil(from->without_gil);
-    dethrux_progress done = convert(order, from->bytes, from->len, to->buf, (size_t) to->len);
+    dethrux_progress done = convert(order, from->bytes, from->len, start, (size_t) to->len);
     with_gil(saved);
     PyObject *fields[] = {PyLong_FromSize_t(done.read), PyLong_FromSize_t(done.written),
                           member(it->statuses, done.status),

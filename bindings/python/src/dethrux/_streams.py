@@ -132,10 +132,15 @@ class StrictDecoder:
         try:
             self._whole(data, self._byteorder)
         except UnicodeDecodeError as error:
-            found = StreamError(*error.args)
-            found.offset = self._offset + error.start
-            found.reason += f", at byte {found.offset} of the stream"
-            raise found from None
+            raise self._error(error) from None
+
+    def _error(self, error: UnicodeDecodeError) -> StreamError:
+        """Return the exception for an error of the pending bytes and a chunk."""
+        offset = self._offset + error.start
+        reason = f"{error.reason}, at byte {offset} of the stream"
+        found = StreamError(error.encoding, error.object, error.start, error.end, reason)
+        found.offset = offset
+        return found
 
     _partial = staticmethod(_native.to_utf8)
     _whole = staticmethod(_native.decode_to_utf8)

@@ -77,7 +77,7 @@ class ProgressInto(NamedTuple):
 
 
 class IllFormed(NamedTuple):
-    """The offset and the length of an ill-formed sequence, which U+FFFD replaces.
+    """The offset and the length of an ill-formed sequence, which one U+FFFD replaces.
 
     It is an unpaired surrogate, of two bytes, with ``Status.ILL_FORMED``. With
     ``Status.INCOMPLETE`` it is an incomplete character at the end, of one to
