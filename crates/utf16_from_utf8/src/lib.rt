@@ -1,5 +1,5 @@
-//! Conversion of UTF-8 to UTF-16 with SIMD. Bytes are validated while they are written: blocks of
-//! sixty-four, and what is shorter by sixteen.
+//! Conversion of UTF-8 to UTF-16 with SIMD. It validates bytes while it writes them, sixty-four at
+//! a time, or sixteen if few are left.
 #![tactic(auto)]
 
 mod append;

@@ -1,5 +1,5 @@
-//! Reads sixteen bytes wherever characters begin: the units that end there, and what may not follow
-//! the bytes before it.
+//! Reads sixteen bytes, which may begin inside a character. It finds the units that end there, and
+//! the bytes that may not follow those before them.
 
 ghost use Rattle.std.specs.Prelude.{◌≡◌, ◌+◌, ◌-◌, ◌<◌, ◌≤◌, ◌↔◌, ℕ, drop, length, slice_index};
 ghost use Rattle.std.specs.Str.{IsUtf8};
@@ -12,8 +12,8 @@ use crate::lanes::{each, greater, previous_lanes};
 use crate::sixteen::{Units, units_of, units_of_ascii};
 use std::simd::prelude::*;
 
-// The units that end at sixteen bytes, and not zero for each byte that may not follow the three
-// before it.
+// The units that end at sixteen bytes. Lane i of `faults` is not zero if byte i may not follow the
+// three before it.
 #[derive(Clone, Copy)]
 pub(crate) struct Sixteen {
     pub(crate) units: Units,

@@ -20,8 +20,8 @@ use crate::threes::write_threes;
 use std::simd::prelude::*;
 use utf16_units::{Moved, Utf16Order};
 
-// The number of bytes written, and not zero for each byte that was read and may not follow those
-// before it, in any of the vectors.
+// The number of bytes written. Lane i of `faults` is not zero if byte i of a vector that was read
+// may not follow the three before it.
 #[derive(Clone, Copy)]
 struct Tried {
     written: usize,

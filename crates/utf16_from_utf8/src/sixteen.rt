@@ -16,8 +16,8 @@ use crate::units::{ended_bits, four_bytes, high_bytes, low_bytes, previous_bytes
 use std::simd::prelude::*;
 use utf16_units::Utf16Order;
 
-// The units that end at sixteen bytes, by lanes: their high bytes, their low bytes, and a bit for
-// each byte at which one ends.
+// The units that end at sixteen bytes. If one ends at byte i, bit i of `ended` is set, and lane i
+// of `highs` and `lows` has its two bytes.
 #[derive(Clone, Copy)]
 pub(crate) struct Units {
     pub(crate) highs: u8x16,

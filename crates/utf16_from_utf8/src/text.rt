@@ -60,7 +60,7 @@ fn write_whole<E: Utf16Order>(text: &[u8], out: &mut [u8]) -> usize
 }
 
 /// Writes a text at the start of the bytes in UTF-16 to the start of `out`, and validates it at the
-/// same time: all of the bytes if they are a text of at least `FEW_TEXT` bytes and `out` has
+/// same time. It writes all bytes if they are a text of at least `FEW_TEXT` bytes, and `out` has
 /// `2 * bytes.len() + SLACK` bytes. Returns the number of bytes read, which are well formed, and
 /// the number of bytes written. The bytes after those written may be overwritten.
 ///

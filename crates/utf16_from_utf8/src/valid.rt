@@ -1,4 +1,4 @@
-//! Whether bytes are a text, sixteen at a time, wherever characters begin.
+//! Tests whether bytes are a text, sixteen at a time.
 
 ghost use Rattle.std.specs.Prelude.{◌≤◌, ◌↔◌, IsTrue, length};
 ghost use Rattle.std.specs.Str.{IsUtf8};

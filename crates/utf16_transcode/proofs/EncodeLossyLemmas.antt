@@ -3,13 +3,13 @@
 use Rattle.std.proofs.Common.{◌≡◌, ℕ, zero, suc, ◌+◌, ◌*◌, ◌<◌, ◌≤◌, Bool, true, false, cond, List, [], ◌∷◌, ◌++◌, Option, length, take, drop, refl, sym, ap, ap₂, ◌∙◌, subst, ⊎_elim, arith, append-nil, append_assoc, drop_at, length-append, take_at, take-append-drop}
 use Rattle.std.proofs.lemmas.Bool.{cases_lt, cond-true}
 use Rattle.std.proofs.lemmas.List.{append_cancel_left, drop-drop}
-use Rattle.std.proofs.lemmas.Str.{IsUtf8-append, IsUtf8-from_is_utf8, chars-append, is_utf8-from_IsUtf8, utf8_lossy_chunk, utf8_lossy_empty, utf8_lossy_last_chunk, utf8_lossy_step, utf8_valid_len_le, utf8_valid_len-IsValidUpTo}
+use Rattle.std.proofs.lemmas.Str.{IsUtf8-append, IsUtf8-from_is_utf8, chars-append, is_utf8-from_IsUtf8, utf8_lossy_chunk, utf8_lossy_empty, utf8_lossy_last_chunk, utf8_lossy_step, utf8_lossy-IsUtf8, utf8_valid_len_le, utf8_valid_len-IsValidUpTo}
 use Rattle.std.specs.Option.{unwrap_or}
 use Rattle.std.specs.Str.{IsUtf8, chars, is_utf8}
 use Rattle.std.specs.Str.Lossy.{after_first_chunk, replacement_bytes, utf8_invalid_len, utf8_lossy, utf8_valid_len, valid_len_up_to}
 use Rattle.utf16_units.proofs.SizeLemmas.{size-le}
 use Rattle.utf16_units.specs.Encoding.{size}
-use Rattle.utf16_units.proofs.EncodingLemmas.{size-append, size-cons}
+use Rattle.utf16_units.proofs.EncodingLemmas.{size-append, size-cons, size-nil}
 use Rattle.utf16_units.proofs.IllFormedLemmas.{take-past}
 use Rattle.utf16_transcode.proofs.FromUtf8Lemmas.{IsUtf8-behind}
 use Rattle.utf16_transcode.specs.FromUtf8.{IsIllFormedUtf8, text_of_utf8}
@@ -154,3 +154,16 @@ pub chunk-most : (bytes valid invalid rest : List ℕ) → IsUtf8 valid → byte
 chunk-most bytes valid invalid rest text split =
     let all = ap length split ∙ length-append valid (invalid ++ rest) in
     omega (arith, size-le valid text, all, length-append invalid rest)
+
+-- ---- the whole length
+
+-- nothing adds nothing
+pub size-empty : (bytes : List ℕ) → length bytes ≡ 0 → size (text_of_utf8 bytes) ≡ 0
+size-empty bytes none = ap size (text-empty bytes none) ∙ size-nil
+
+-- UTF-8 stays as it is
+pub size-whole : (bytes text : List ℕ) (len : ℕ) → IsUtf8 bytes → text ≡ bytes → len ≡ size (chars text)
+    → (len ≡ size (text_of_utf8 bytes)) × (len ≤ 2 * length bytes)
+size-whole bytes text len utf8 same is =
+    let own = is ∙ ap (λ b. size (chars b)) same in
+    (own ∙ ap (λ b. size (chars b)) (sym (utf8_lossy-IsUtf8 bytes utf8)), omega (arith, own, size-le bytes utf8))

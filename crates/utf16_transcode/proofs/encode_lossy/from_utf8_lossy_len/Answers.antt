@@ -1,11 +1,8 @@
-use Rattle.std.proofs.Common.{◌≡◌, ◌+◌, ◌*◌, ◌≤◌, ◌<◌, length, arith, rules, sym, ap, ◌∙◌, subst}
-use Rattle.std.proofs.lemmas.Str.{utf8_lossy-IsUtf8}
+use Rattle.std.proofs.Common.{◌≡◌, ◌+◌, ◌*◌, ◌≤◌, ◌<◌, length, arith, rules, ap, ◌∙◌, subst}
 use Rattle.std.specs.Str.{IsUtf8, chars}
 use Rattle.std.specs.Str.Chunks.{utf8_chunks_rest}
 use Rattle.utf16_units.specs.Encoding.{size}
-use Rattle.utf16_units.proofs.EncodingLemmas.{size-nil}
-use Rattle.utf16_units.proofs.SizeLemmas.{size-le}
-use Rattle.utf16_transcode.proofs.EncodeLossyLemmas.{chunk-most, size-chunk, size-last, text-empty}
+use Rattle.utf16_transcode.proofs.EncodeLossyLemmas.{chunk-most, size-chunk, size-empty, size-last, size-whole}
 use Rattle.utf16_transcode.proofs.encode_lossy.from_utf8_lossy_len.Goals as goal
 use Rattle.utf16_transcode.proofs.encode_lossy.from_utf8_lossy_len.Goals.{After-utf16_len-in-loop-chunk}
 
@@ -42,28 +39,22 @@ loop-chunk-preserved c =
     let none : length c.in-Some.chunk.invalid.now ≡ 0 = search rules in
     let len = c.utf16_len-in-loop-chunk.ensures ∙ ap (λ b. size (chars b)) c.valid.ensures in
     let all = size-last (utf8_chunks_rest c.loop-chunk.chunk-iterator) c.in-Some.chunk.valid.now c.in-Some.chunk.invalid.now (utf8_chunks_rest c.next.new.self) steps.0 steps.3.0 none (steps.2 none) in
-    let left = ap size (text-empty _ (steps.2 none)) ∙ size-nil in
+    let left = size-empty _ (steps.2 none) in
     (omega (arith, c.loop-chunk.invariant.0), omega (arith, most (goal.at.loop-chunk-preserved c).After-utf16_len-in-loop-chunk))
 
 pub returns-clause-size : goal.returns-clause-size
 returns-clause-size c =
-    let left = ap size (text-empty _ c.in-None.ensures.steps.0) ∙ size-nil in
+    let left = size-empty _ c.in-None.ensures.steps.0 in
     omega (arith, c.loop-chunk.invariant.0)
 
-pub returns-in-Ok-clause-size : goal.returns-in-Ok-clause-size
-returns-in-Ok-clause-size c =
-    c.utf16_len-in-Ok.ensures ∙ ap (λ b. size (chars b)) (c.in-Ok.ensures.0 ∙ sym (utf8_lossy-IsUtf8 c.args.text.now c.in-Ok.ensures.1))
-
-pub returns-in-Ok-clause-most : goal.returns-in-Ok-clause-most
-returns-in-Ok-clause-most c =
-    let is = ap (λ b. size (chars b)) c.in-Ok.ensures.0 in
-    omega (arith, c.utf16_len-in-Ok.ensures, is, size-le c.args.text.now c.in-Ok.ensures.1)
-
 pub returns-then-is_short_text-clause-size : goal.returns-then-is_short_text-clause-size
-returns-then-is_short_text-clause-size c =
-    c.utf16_len.ensures ∙ ap (λ b. size (chars b)) (c.from_utf8_unchecked.ensures ∙ sym (utf8_lossy-IsUtf8 c.args.text.now (c.is_short_text.ensures c.if-is_short_text.true)))
+returns-then-is_short_text-clause-size c = (size-whole c.args.text.now _ _ (c.is_short_text.ensures c.if-is_short_text.true) c.from_utf8_unchecked.ensures c.utf16_len.ensures).0
 
 pub returns-then-is_short_text-clause-most : goal.returns-then-is_short_text-clause-most
-returns-then-is_short_text-clause-most c =
-    let is = ap (λ b. size (chars b)) c.from_utf8_unchecked.ensures in
-    omega (arith, c.utf16_len.ensures, is, size-le c.args.text.now (c.is_short_text.ensures c.if-is_short_text.true))
+returns-then-is_short_text-clause-most c = (size-whole c.args.text.now _ _ (c.is_short_text.ensures c.if-is_short_text.true) c.from_utf8_unchecked.ensures c.utf16_len.ensures).1
+
+pub returns-in-Ok-clause-size : goal.returns-in-Ok-clause-size
+returns-in-Ok-clause-size c = (size-whole c.args.text.now _ _ c.in-Ok.ensures.1 c.in-Ok.ensures.0 c.utf16_len-in-Ok.ensures).0
+
+pub returns-in-Ok-clause-most : goal.returns-in-Ok-clause-most
+returns-in-Ok-clause-most c = (size-whole c.args.text.now _ _ c.in-Ok.ensures.1 c.in-Ok.ensures.0 c.utf16_len-in-Ok.ensures).1
