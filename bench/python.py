@@ -34,9 +34,12 @@ ROUNDS = int(sys.argv[1]) if len(sys.argv) > 1 else 25
 
 
 def with_emoji(sample):
-    """Return 2,000 characters of a sample, of which on average one in twenty is an emoji."""
+    """Return 2^19 characters of a sample, of which on average one in twenty is an emoji.
+
+    In a shorter text that is repeated a processor would learn where the emoji are.
+    """
     chance = random.Random(0)
-    letters = itertools.islice(itertools.cycle(sample), 2000)
+    letters = itertools.islice(itertools.cycle(sample), 1 << 19)
     return "".join("😀" if chance.randrange(20) == 0 else it for it in letters)
 
 
@@ -47,7 +50,7 @@ def text_of(sample, size):
     """Return a text of a size."""
     chars = len(sample)
     if size == "1 MiB":
-        return sample * ((1 << 20) // len(sample.encode("utf-16-le")))
+        return sample * max(1, (1 << 20) // len(sample.encode("utf-16-le")))
     count = int(size.split()[0])
     return (sample * (count // chars + 1))[:count]
 

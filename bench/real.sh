@@ -53,7 +53,8 @@ cxx -c simdutf_calls.cc -o "$room/simdutf_calls.o" &
 rust --edition 2024 real_programs.rs
 wait
 cxx -static simdutf_cat.cc "$room/simdutf.o" -o "$room/simdutf_cat"
-for space in 16 32; do
+# Three rounds, since other work of the host can slow a machine down for seconds.
+for space in 16 32 16 32 16 32; do
     printf '.section .text.pad,"axR",@progbits\n.balign 16\n.skip %s\n.section .note.GNU-stack,"",@progbits\n' $space |
         gcc -c -x assembler -o "$room/pad.o" -
     # simdutf's sections are aligned to 32 bytes, so they come before the padding.
