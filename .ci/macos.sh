@@ -37,6 +37,8 @@ hides_calls() {
         llvm-nm -g --defined-only "$room/all" > "$room/names" && [ ! -s "$room/names" ]
 }
 
+# What CMake builds and installs, and how another project finds it. CMake asks a Mac for its
+# version, and allows @rpath from 10.5 on.
 with_cmake() {
     local option options=(-DCMAKE_{C,ASM}_COMPILER=clang -DCMAKE_{C,ASM}_COMPILER_TARGET=$1)
     options+=(-DCMAKE_SYSTEM_NAME=Darwin -DCMAKE_SYSTEM_PROCESSOR=${1%%-*} -Wno-dev)
@@ -59,8 +61,10 @@ with_cmake() {
 ./libdethrux.dylib
 ./pkgconfig/dethrux.pc
 END
-        cmake -S "$top/packaging/test" -B "$room/user-$1" "${options[@]}" \
-            -DCMAKE_PREFIX_PATH="$room/prefix-$1" -DCMAKE_FIND_ROOT_PATH_MODE_PACKAGE=BOTH
+        printf '#!/bin/sh\necho 11.0\n' > "$room/sw_vers" && chmod +x "$room/sw_vers" &&
+        PATH=$room:$PATH cmake -S "$top/packaging/test" -B "$room/user-$1" "${options[@]}" \
+            -DCMAKE_PREFIX_PATH="$room/prefix-$1" -DCMAKE_FIND_ROOT_PATH_MODE_PACKAGE=BOTH |
+            grep -Fx -- "-- the shared library is @rpath/libdethrux.${version%.*}.dylib"
 }
 
 # Runs a program of examples/c over a linked library, with a compiler for Linux.
