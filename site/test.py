@@ -249,10 +249,10 @@ def check_saved(page, room, name, text, order, bom):
 
 
 def unpaired_surrogates(page, room):
-    """A surrogate of each kind at each place, in both byte orders. At the start a BOM matters."""
+    """A surrogate of each kind at each place, in both byte orders, with a BOM and without."""
     codes = {"leading": "\ud83d", "trailing": "\udc00"}
-    places = ((0, True), (0, False), (20, True), (len(LONG), False))
-    for order, kind, (place, bom) in itertools.product(CODECS, codes, places):
+    places = (0, 20, len(LONG))
+    for order, bom, kind, place in itertools.product(CODECS, (True, False), codes, places):
         given = LONG[:place] + codes[kind] + LONG[place:]
         raw = (BOMS[order] if bom else b"") + given.encode(CODECS[order], "surrogatepass")
         at = 2 * bom + len(LONG[:place].encode(CODECS[order]))
@@ -264,7 +264,7 @@ def unpaired_surrogates(page, room):
 
 def short_files(page, room):
     """An odd length and a pair that is cut, after one to three of its bytes."""
-    for order, (count, bom) in itertools.product(CODECS, ((1, True), (2, False), (3, True), (3, False))):
+    for order, count, bom in itertools.product(CODECS, (1, 2, 3), (True, False)):
         raw = (BOMS[order] if bom else b"") + (LONG + "\U0001f600").encode(CODECS[order])[: count - 4]
         wanted = ("Yes: 1 error in", NAMES[order], [len(raw) - count], LONG + "\ufffd", order, bom)
         repaired_file(page, room, f"short-{count}-{order}-{bom}", raw, wanted)

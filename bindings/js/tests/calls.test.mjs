@@ -102,7 +102,7 @@ test("strings: isWellFormed, toWellFormed and Buffer", () => {
 
 test("bytes: TextDecoder, whole and in streams", () => {
     const numbers = random(7);
-    for (let round = 0; round < 1000; round += 1) {
+    for (let round = 0; round < 3000; round += 1) {
         const bytes = bytesOf(numbers.next().value % 40, numbers);
         for (const [order, label] of [["le", "utf-16le"], ["be", "utf-16be"]]) {
             const text = new TextDecoder(label, { ignoreBOM: true }).decode(bytes);
@@ -119,7 +119,7 @@ test("bytes: TextDecoder, whole and in streams", () => {
 test("UTF-8: TextDecoder, whole and in streams", () => {
     const numbers = random(8);
     const starts = [0x41, 0x80, 0xbf, 0xc2, 0xe0, 0xed, 0xa0, 0xef, 0xf0, 0x9f, 0xf4, 0x90, 0xff];
-    for (let round = 0; round < 1000; round += 1) {
+    for (let round = 0; round < 3000; round += 1) {
         const bytes = Uint8Array.from({ length: numbers.next().value % 20 }, () => starts[numbers.next().value % starts.length]);
         const text = new TextDecoder("utf-8", { ignoreBOM: true }).decode(bytes);
         assert.equal(stringOf(dethrux.fromUtf8Lossy(bytes).output), text);
@@ -478,9 +478,9 @@ function equal(found, wanted, ...about) {
     }
 }
 
-/** Each pair in a byte order, also with an odd byte that begins another character or none. */
+/** Each text in a byte order, also with an odd byte that begins another character or none. */
 function* inputs(order) {
-    for (const text of PAIRS) {
+    for (const text of TEXTS) {
         for (const odd of [[], [0x61], [0xd8], [0xdc]]) {
             yield Uint8Array.of(...BYTES[order](text), ...odd);
         }
@@ -491,7 +491,7 @@ test("decode gives what TextDecoder gives", () => {
     for (const order of ["le", "be"]) {
         for (const options of OPTIONS) {
             const platform = new TextDecoder(`utf-16${order}`, options);
-            for (const bytes of [...inputs(order), ...TEXTS.map(BYTES[order])]) {
+            for (const bytes of inputs(order)) {
                 const wanted = outcome(() => platform.decode(bytes));
                 for (const library of LIBRARIES) {
                     const found = outcome(() => library.decode(bytes, order, options));

@@ -141,8 +141,7 @@ class Table(unittest.TestCase):
             if words == "$":
                 # One word that is not a byte order names a file.
                 given = given.replace("$P LE", "$P LE LE")
-                # The words for big endian are in other rows.
-                orders = {"le", program.PROGRAMS[name].default} if "$W" in given else {"le"}
+                orders = ORDERS[name].split() if "$W" in given else ["le"]
                 commands += [((name, order, given), expected) for order in orders]
             else:
                 words = [] if words == "-" else shlex.split(words)

@@ -16,7 +16,7 @@ def wtf8_of(raw, codec):
     return raw.decode(codec, "surrogatepass").encode("utf-8", "surrogatepass")
 
 
-def random_units(order, count):
+def random_units(order, count=2000):
     """Return code units, half of which are surrogates."""
     choices = random.Random(1)
     for _ in range(count):
@@ -27,11 +27,11 @@ def random_units(order, count):
         yield b"".join(unit.to_bytes(2, order) for unit in units)
 
 
-def each_input(count=2000):
+def each_input():
     """Return each byte order, its codec, and whole code units with their WTF-8."""
     for order, codec in CODECS.items():
         samples = [raw for raw in utf16(order) if len(raw) % 2 == 0]
-        for raw in [*samples, *random_units(order, count)]:
+        for raw in [*samples, *random_units(order)]:
             yield order, codec, raw, wtf8_of(raw, codec)
 
 
@@ -94,7 +94,7 @@ class Wtf8(unittest.TestCase):
                     self.assertEqual(dethrux.from_wtf8_len(data), len(found.output))
 
     def test_odd_bytes(self):
-        for order, codec, raw, wtf8 in each_input(300):
+        for order, codec, raw, wtf8 in each_input():
             odd = raw + b"\xd8"
             found = dethrux.to_wtf8(odd, order)
             self.assertEqual(found, (wtf8, len(raw), Status.INCOMPLETE, 0))
@@ -138,7 +138,7 @@ class Wtf8(unittest.TestCase):
         self.assertEqual(call(data, order, capacity), (wanted[:written], read, status, 0))
 
     def test_streams(self):
-        for order, _codec, raw, wtf8 in each_input(300):
+        for order, _codec, raw, wtf8 in each_input():
             for length in (1, 2, 3, 5):
                 there = in_chunks(
                     dethrux.to_wtf8_partial, dethrux.decode_to_wtf8, raw, order, length
