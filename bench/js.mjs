@@ -1,5 +1,6 @@
 // Times the package next to Node's own way: `node js.mjs TEXTS`, in a folder where the package is
-// installed. Prints how many times as fast it is, on 64 KiB of each text and on short ones.
+// installed. Prints how many times as fast it is, on 64 KiB of each text and of made ones, and on
+// short ones.
 import { readFileSync, readdirSync } from "node:fs";
 import { join } from "node:path";
 import { load } from "dethrux";
@@ -54,6 +55,13 @@ function ratios(text, times) {
 const row = (name, numbers) =>
     console.log(`| ${name} | ${numbers.map((it) => it.toFixed(2)).join(" | ")} |`);
 
+// Texts of one kind. In the last, on average one character in twenty is an emoji; none repeats.
+const MADE = {
+    ASCII: "the quick brown fox jumps over the lazy dog ".repeat(745),
+    Chinese: "漢字文字列変換速度測定計算機科学言語処理".repeat(1639),
+    "letters, emoji": Array.from({ length: 32768 }, (_, at) =>
+        (Math.imul(at + 1, 2654435761) >>> 8) % 20 ? "abcdefgh"[at % 8] : "😀").join(""),
+};
 const names = Object.keys(ways(""));
 const files = readdirSync(process.argv[2]).filter((it) => it.endsWith(".txt"));
 const texts = files.map((it) => readFileSync(join(process.argv[2], it), "utf8"));
@@ -64,6 +72,9 @@ const rows = texts.map((text, at) => {
     row(files[at].replace(".txt", ""), found);
     return found;
 });
+for (const [name, text] of Object.entries(MADE)) {
+    row(name, ratios(text.slice(0, 32768).toWellFormed(), 1));
+}
 const sorted = names.map((_, column) => rows.map((it) => it[column]).sort((a, b) => a - b));
 row("the least", sorted.map((it) => it[0]));
 row("the median", sorted.map((it) => it[it.length >> 1]));
