@@ -2,7 +2,8 @@
 # Builds the library libdethrux.a and the examples in C and in C++, and runs them: the tables of
 # cases, the programs of docs/C.md and docs/CPP.md, and all in C under valgrind. A missing tool is a
 # failure. The last line is 'N passed, M failed'. With --over-ci the library is built over the
-# libraries that rt ci has just proved, and with --library FILE it is not built: FILE is tested.
+# libraries that rt ci has just proved, and with --library FILE it is not built: FILE is tested, but
+# not the headers by each compiler, in each standard of C++ and with sanitizers.
 # With --headers c it is not built either, and only what tests the headers runs, up to the first
 # failure, or with --headers c++ what tests the one for C++, and with --headers alloc what tests
 # dethrux_alloc.h: examples/slips runs this for a wrong line in a header that no shorter test finds.
@@ -446,7 +447,7 @@ standards=(c++17 c++20 c++2b)
 c23=(-std=c2x -Wno-builtin-macro-redefined -U__STDC_VERSION__ -D__STDC_VERSION__=202311L)
 case "${1-}" in
     --over-ci) built=library_over_ci ;;
-    --library) archive=$(realpath "$2"); built=true ;;
+    --library) archive=$(realpath "$2"); built=true compilers=(g++) standards=(c++17) ;;
     --headers) built=true headers=$2 level=-O0 compilers=(g++) standards=(c++2b) ;;
 esac
 ("$built") > "$room/said" 2>&1 || { tail -n 20 "$room/said"; echo "0 passed, 1 failed"; exit 1; }
@@ -461,6 +462,6 @@ case $headers in
 esac
 if [ -z "$headers" ]; then
     has valgrind 'memory in C and C++' && memory_in_c && memory_in_cxx
-    test_sanitizers
+    [ "${1-}" = --library ] || test_sanitizers
 fi
 result
