@@ -41,8 +41,8 @@ compile() {
 }
 
 mkdir -p "$(dirname "$to")" out
-if ! compile > out/compiled.log 2>&1; then
-    "$kit/bin/rattle" check "${words[@]}" --logic-built "$kit/logic_built" --jobs 4 \
+if [ ! -e "$checked" ] || ! compile > out/compiled.log 2>&1; then
+    "$kit/bin/rattle" check "${words[@]}" --logic-built "$kit/logic_built" --jobs 1 \
         -o "$checked" $source
     compile
 fi

@@ -11,15 +11,17 @@ const utf16Decoder = new TextDecoder("utf-16le");
 const strictDecoder = new TextDecoder("utf-16le", { fatal: true });
 const bigDecoder = new TextDecoder("utf-16be");
 
-/** Returns the nanoseconds of the fastest of some calls. */
-function fastest(call, times) {
-    let best = Infinity;
+/** Returns the nanoseconds that each of these takes in its fastest round, timed in turn. */
+function fastest(calls, times) {
+    const best = calls.map(() => Infinity);
     for (let round = 0; round < 300; round += 1) {
-        const start = process.hrtime.bigint();
-        for (let at = 0; at < times; at += 1) {
-            call();
+        for (const [number, call] of calls.entries()) {
+            const start = process.hrtime.bigint();
+            for (let at = 0; at < times; at += 1) {
+                call();
+            }
+            best[number] = Math.min(best[number], Number(process.hrtime.bigint() - start) / times);
         }
-        best = Math.min(best, Number(process.hrtime.bigint() - start) / times);
     }
     return best;
 }
@@ -48,7 +50,8 @@ function ratios(text, times) {
         if (typeof found === "string" ? found !== wanted : Buffer.compare(found, wanted)) {
             throw new Error(`${way} differs: ${text.slice(0, 40)}`);
         }
-        return fastest(its, times) / fastest(ours, times);
+        const [time, wantedTime] = fastest([ours, its], times);
+        return wantedTime / time;
     });
 }
 
