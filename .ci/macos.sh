@@ -37,8 +37,8 @@ hides_calls() {
         llvm-nm -g --defined-only "$room/all" > "$room/names" && [ ! -s "$room/names" ]
 }
 
-# What CMake builds and installs, and how another project finds it. CMake asks a Mac for its
-# version, and allows @rpath from 10.5 on.
+# What CMake builds and installs, and how another project finds it. CMake runs sw_vers for the
+# version of macOS, and takes @rpath only from 10.5 on.
 with_cmake() {
     local option options=(-DCMAKE_{C,ASM}_COMPILER=clang -DCMAKE_{C,ASM}_COMPILER_TARGET=$1)
     options+=(-DCMAKE_SYSTEM_NAME=Darwin -DCMAKE_SYSTEM_PROCESSOR=${1%%-*} -Wno-dev)

@@ -58,7 +58,7 @@ function ratios(text, times) {
 const row = (name, numbers) =>
     console.log(`| ${name} | ${numbers.map((it) => it.toFixed(2)).join(" | ")} |`);
 
-// Texts of one kind. In the last, on average one character in twenty is an emoji; none repeats.
+// Texts of one kind. In the last, about one character in twenty is an emoji, without a period.
 const MADE = {
     ASCII: "the quick brown fox jumps over the lazy dog ".repeat(745),
     Chinese: "漢字文字列変換速度測定計算機科学言語処理".repeat(1639),

@@ -166,36 +166,51 @@ static size_t run(int from, int call, size_t len, size_t capacity) {
     }
 }
 
-// Prints a line for each direction, call, text and capacity: the nanoseconds for each byte of
-// input, and the nanoseconds that a call costs above one into the largest buffer.
-int main(void) {
+// What was measured for a text: the seconds of the fastest round, and the calls that it took.
+struct measured {
+    size_t len, calls[CALLS][CAPACITIES];
+    double best[CALLS][CAPACITIES];
+};
+
+static int is_measured(int from, int call) { return !(from && call == STREAMED); }
+
+static void measure(int from, const struct text *text, struct measured *it) {
+    it->len = make(text);
+    for (int call = 0; call < CALLS; call++)
+        for (size_t c = 0; c < CAPACITIES && is_measured(from, call); c++) {
+            double start = seconds();
+            it->calls[call][c] = run(from, call, it->len, capacities[c]);
+            double took = seconds() - start;
+            if (it->best[call][c] == 0 || took < it->best[call][c]) it->best[call][c] = took;
+        }
+}
+
+// Prints a line for each call and capacity: the nanoseconds for each byte of input, and the
+// nanoseconds that a call costs above one into the largest buffer.
+static void print(int from, const struct text *text, const struct measured *it) {
     static const char *const names[] = {"strict", "lossy", "streamed", "ICU"};
+    for (int call = 0; call < CALLS; call++)
+        for (size_t c = 0; c < CAPACITIES && is_measured(from, call); c++) {
+            const double *best = it->best[call];
+            printf("%s\t%s\t%s\t%zu\t%zu\t%.3f\t%.1f\n", from ? "from_utf8" : "to_utf8",
+                names[call], text->name, text->every == INPUT ? 0 : text->every, capacities[c],
+                best[c] * 1e9 / it->len,
+                (best[c] - best[CAPACITIES - 1]) * 1e9 / it->calls[call][c]);
+        }
+}
+
+// Measures all texts in each round, since other work of the host can slow a machine down for
+// seconds.
+int main(void) {
+    enum { TO = sizeof utf16 / sizeof *utf16, FROM = sizeof utf8 / sizeof *utf8 };
+    static struct measured to[TO], from[FROM];
     UErrorCode error = U_ZERO_ERROR;
     icu = ucnv_open("UTF-8", &error);
     if (U_FAILURE(error)) return 1;
-    for (int from = 0; from < 2; from++) {
-        const struct text *texts = from ? utf8 : utf16;
-        size_t count = from ? sizeof utf8 / sizeof *utf8 : sizeof utf16 / sizeof *utf16;
-        for (size_t t = 0; t < count; t++) {
-            size_t len = make(&texts[t]);
-            double best[CALLS][CAPACITIES];
-            size_t calls[CALLS][CAPACITIES];
-            for (int round = 0; round < ROUNDS; round++)
-                for (int call = 0; call < CALLS; call++)
-                    for (size_t c = 0; c < CAPACITIES; c++) {
-                        if (from && call == STREAMED) continue;
-                        double start = seconds();
-                        calls[call][c] = run(from, call, len, capacities[c]);
-                        double took = seconds() - start;
-                        if (!round || took < best[call][c]) best[call][c] = took;
-                    }
-            for (int call = 0; call < CALLS; call++)
-                for (size_t c = 0; c < CAPACITIES; c++)
-                    if (!(from && call == STREAMED))
-                        printf("%s\t%s\t%s\t%zu\t%zu\t%.3f\t%.1f\n", from ? "from_utf8" : "to_utf8",
-                            names[call], texts[t].name, texts[t].every == INPUT ? 0 : texts[t].every,
-                            capacities[c], best[call][c] * 1e9 / len,
-                            (best[call][c] - best[call][CAPACITIES - 1]) * 1e9 / calls[call][c]);
-        }
+    for (int round = 0; round < ROUNDS; round++) {
+        for (size_t t = 0; t < TO; t++) measure(0, &utf16[t], &to[t]);
+        for (size_t t = 0; t < FROM; t++) measure(1, &utf8[t], &from[t]);
     }
+    for (size_t t = 0; t < TO; t++) print(0, &utf16[t], &to[t]);
+    for (size_t t = 0; t < FROM; t++) print(1, &utf8[t], &from[t]);
 }

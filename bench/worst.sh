@@ -11,15 +11,7 @@ cd "$top/bench"
 make -s -C ../dist > out/make.log 2>&1 || { cat out/make.log >&2; exit 1; }
 gcc -O2 -Wa,-mbranches-within-32B-boundaries -I ../include worst.c -o out/worst \
     "$(make -s -C ../dist folder)/libdethrux.a" -licuuc
-# The least of five times counts, since other work of the host can slow a machine down for seconds.
-for _ in 1 2 3 4 5; do out/worst; done | awk -F '\t' -v OFS='\t' '
-{
-    row = $1 FS $2 FS $3 FS $4 FS $5
-    if (!(row in time)) { rows[++n] = row; time[row] = $6; most[row] = $7 }
-    if ($6 < time[row]) time[row] = $6
-    if ($7 < most[row]) most[row] = $7
-}
-END { for (i = 1; i <= n; i++) print rows[i], time[rows[i]], most[rows[i]] }' > out/worst.tsv
+out/worst > out/worst.tsv
 awk -F '\t' '
 {
     text = $3 ($4 > 1 ? ", one in " $4 " bytes" : $4 ? ", no other" : "")

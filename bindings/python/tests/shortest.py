@@ -3,7 +3,8 @@
     python3 shortest.py TIMES MODULE..    (in this folder)
 
 TIMES is a file with how many seconds of the processor each test took. If there is none, this runs
-all tests and writes it. A test that takes four times as long, and two seconds more, ends the process.
+all tests and writes it. A test that takes four times as long, and two seconds more, ends this
+process.
 """
 
 import json
