@@ -106,7 +106,7 @@ export interface Decoder<Chunk> {
  * `fatal` is true, the encoder throws.
  */
 export interface Encoder<Output> {
-    /** What has come and is not encoded yet: at most 3 bytes. */
+    /** What has come and is not encoded yet: at most 3 bytes, unless another number is said. */
     readonly pending: Uint8Array;
     /** Returns the UTF-16 of the next chunk. */
     feed(chunk: Uint8Array): Output;
@@ -370,6 +370,16 @@ export interface Dethrux {
     /** Returns a stream of the Web that passes its chunks through such a decoder. */
     wtf8DecoderStream(order: ByteOrder): TransformStream<Uint8Array, Uint8Array>;
     wtf8DecoderStream(): TransformStream<Uint16Array, Uint8Array>;
+    /**
+     * Returns an encoder of WTF-8, whose surrogates become those of UTF-16. At what is no WTF-8 it
+     * throws an `IllFormedError`, and changes nothing. At most 6 bytes are pending: a leading
+     * surrogate, which `finish` returns, and the start of what follows it.
+     */
+    wtf8Encoder(order: ByteOrder): Encoder<Uint8Array>;
+    wtf8Encoder(): Encoder<Uint16Array>;
+    /** Returns a stream of the Web that passes its chunks through such an encoder. */
+    wtf8EncoderStream(order: ByteOrder): TransformStream<Uint8Array, Uint8Array>;
+    wtf8EncoderStream(): TransformStream<Uint8Array, Uint16Array>;
     /** Returns a stream of the Web that passes its chunks through such a decoder. */
     decoderStream(
         order: ByteOrder,
@@ -399,7 +409,7 @@ export interface Dethrux {
  * Loads the library: the module of the package, or another one at a URL, as bytes or compiled.
  * Throws an `Error` if the engine has no WebAssembly with vectors of 128 bits.
  */
-export function load(source?: URL | BufferSource | WebAssembly.Module): Promise<Dethrux>;
+export function load(source?: URL | string | BufferSource | WebAssembly.Module): Promise<Dethrux>;
 
 /** Returns whether the engine can run the module. */
 export function isSupported(): boolean;

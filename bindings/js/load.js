@@ -73,7 +73,11 @@ function strings(machine) {
         decode(...words) {
             const [utf16] = words;
             const form = takeUtf16(words);
-            return new Text(machine, form, takeOptions(words)).decode(utf16);
+            const options = takeOptions(words);
+            if (options.stream) {
+                throw new TypeError("dethrux: decode takes whole text: textDecoder takes a stream");
+            }
+            return new Text(machine, form, options).decode(utf16);
         },
         encode(...words) {
             const text = takeText(words);

@@ -10,6 +10,7 @@ const NOTHING = new Uint8Array();
 // The capacities of the header, for a slice of `len` bytes.
 const DECODER = { feed: (len) => Math.floor((len + 3) / 2) * 3, finish: 3 };
 const ENCODER = { feed: (len) => len * 2 + 2, finish: 2 };
+const WTF8_ENCODER = { feed: (len) => len * 2 + 4, finish: 2 };
 
 /** What a strict call throws: the offset of what is ill formed, in the whole stream. */
 export class IllFormedError extends TypeError {
@@ -32,43 +33,60 @@ function joined(arrays) {
     return all;
 }
 
+/** The error of the end of a stream of UTF-16. No other call for one fails. */
+const oddByte = () => new Error("dethrux: the stream ends with an odd byte, which WTF-8 cannot keep");
+
 /** A stream in chunks that are cut anywhere: what a decoder and an encoder have in common. */
 class Stream {
-    // The struct of the header: three pending bytes and their number.
-    #state = new Uint8Array(4);
+    // The struct of the header: pending bytes and their number.
+    #state;
     #call;
+    #errorOf;
+    // How many bytes of the stream have come.
+    #came = 0;
 
-    constructor(call) {
+    /** `errorOf` makes an error of a call's progress, and of the `came` and pending bytes. */
+    constructor(call, most = 3, errorOf = oddByte) {
         this.#call = call;
+        this.#state = new Uint8Array(most + 1);
+        this.#errorOf = errorOf;
     }
 
     /** The bytes that have come and are not converted yet. */
     get pendingBytes() {
-        return this.#state.slice(0, this.#state[3]);
+        return this.#state.slice(0, this.#state.at(-1));
     }
 
     /**
-     * Makes a call with this many bytes for its output, and returns the output. If there is no
-     * memory for it, nothing changes.
+     * Makes a call with this many bytes for its output, and returns the output. If the call fails
+     * or there is no memory for it, nothing changes.
      */
-    made(name, parts, capacity) {
+    #made(name, parts, capacity) {
         const all = [state(this.#state), ...parts, room(capacity)];
         const made = this.#call(name, "progress", all);
-        if (made.result.status === "incomplete") {
-            throw new Error("dethrux: the stream ends with an odd byte, which WTF-8 cannot keep");
+        const after = made.bytes(0, this.#state.length);
+        if (made.result.status !== "done") {
+            throw this.#errorOf(made.result, this.#came, this.#state.at(-1), after.at(-1));
         }
         const output = made.bytes(all.length - 1, made.result.written);
-        this.#state = made.bytes(0, 4);
+        this.#state = after;
+        return output;
+    }
+
+    /** Returns what the call at the end of the stream wrote. A new stream begins. */
+    ended(name, parts, capacity) {
+        const output = this.#made(name, parts, capacity);
+        this.#came = 0;
         return output;
     }
 
     /** Returns what the calls for a chunk wrote. If there is no memory for it, nothing changes. */
     fed(name, order, chunk, capacity) {
-        const before = this.#state;
+        const before = [this.#state, this.#came];
         try {
             return joined(this.#slices(name, order, chunk, capacity));
         } catch (error) {
-            this.#state = before;
+            [this.#state, this.#came] = before;
             throw error;
         }
     }
@@ -78,7 +96,8 @@ class Stream {
         const found = [];
         for (let at = 0; at < chunk.length; at += SLICE) {
             const slice = chunk.subarray(at, at + SLICE);
-            found.push(this.made(name, [order, input(slice)], capacity(slice.length)));
+            found.push(this.#made(name, [order, input(slice)], capacity(slice.length)));
+            this.#came += slice.length;
         }
         return found;
     }
@@ -119,8 +138,8 @@ class Decoder {
 
     finish() {
         return this.#isWtf8
-            ? this.#stream.made("decoder_finish_wtf8", [this.#form.order], DECODER.finish)
-            : this.#stream.made("decoder_finish", [], DECODER.finish);
+            ? this.#stream.ended("decoder_finish_wtf8", [this.#form.order], DECODER.finish)
+            : this.#stream.ended("decoder_finish", [], DECODER.finish);
     }
 }
 
@@ -146,7 +165,45 @@ class Encoder {
 
     finish() {
         const { order, width } = this.#form;
-        return inWidth(this.#stream.made("encoder_finish", [order], ENCODER.finish), width);
+        return inWidth(this.#stream.ended("encoder_finish", [order], ENCODER.finish), width);
+    }
+}
+
+/**
+ * The error of a call of an encoder of WTF-8: what is ill formed begins with the bytes that are
+ * pending after the call, and at the end of a stream with those of before that the call left.
+ */
+function illFormed({ status, read, errorLen }, came, before, after) {
+    return status === "ill-formed"
+        ? new IllFormedError(came + read - after, errorLen)
+        : new IllFormedError(came - before + read, before - read);
+}
+
+/** Encodes WTF-8 in UTF-16, and throws at the first error. */
+class Wtf8Encoder {
+    #stream;
+    #form;
+
+    constructor(call, form) {
+        this.#stream = new Stream(call, 6, illFormed);
+        this.#form = form;
+    }
+
+    get pending() {
+        return this.#stream.pendingBytes;
+    }
+
+    feed(chunk) {
+        const { order, width } = this.#form;
+        const bytes = checked(chunk, "Uint8Array");
+        const made = this.#stream.fed("wtf8_encoder_feed", order, bytes, WTF8_ENCODER.feed);
+        return inWidth(made, width);
+    }
+
+    finish() {
+        const { order, width } = this.#form;
+        const made = this.#stream.ended("wtf8_encoder_finish", [order], WTF8_ENCODER.finish);
+        return inWidth(made, width);
     }
 }
 
@@ -356,19 +413,23 @@ export function streams(machine, functions) {
         return new BomDecoder(functions, otherwise, begun);
     };
     const encoder = (...words) => made("encoder", words);
-    const wtf8Decoder = (...words) => {
+    const formAlone = (words) => {
         const form = takeForm(words);
         end(words);
-        return new Decoder(call, form, true);
+        return form;
     };
+    const wtf8Decoder = (...words) => new Decoder(call, formAlone(words), true);
+    const wtf8Encoder = (...words) => new Wtf8Encoder(call, formAlone(words));
     const textDecoder = (...words) => made("textDecoder", words);
     return {
         decoder,
         encoder,
         wtf8Decoder,
+        wtf8Encoder,
         textDecoder,
         decoderStream: (...words) => transform(decoder(...words)),
         encoderStream: (...words) => transform(encoder(...words)),
         wtf8DecoderStream: (...words) => transform(wtf8Decoder(...words)),
+        wtf8EncoderStream: (...words) => transform(wtf8Encoder(...words)),
     };
 }

@@ -319,6 +319,8 @@ test("wrong arguments are refused", () => {
         () => dethrux.textDecoder("le").decode(bytes, true),
         () => dethrux.textDecoder("le").decode(bytes, {}, {}),
         () => dethrux.wtf8Decoder("le", { fatal: true }),
+        () => dethrux.wtf8Encoder("le", { fatal: true }),
+        () => dethrux.decode(bytes, "le", { stream: true }),
         () => unitsOf(5),
         () => unitsOf(["a"]),
         () => stringOf(bytes),
@@ -435,10 +437,27 @@ test("a module from a server", async () => {
 test("a module as bytes, compiled, and at a URL", async () => {
     const url = new URL(import.meta.resolve("dethrux/dethrux.wasm"));
     const data = new URL(`data:application/wasm;base64,${BYTES_OF_MODULE.toString("base64")}`);
-    for (const source of [url, data, BYTES_OF_MODULE, MODULE]) {
+    for (const source of [url, data, url.href, data.href, BYTES_OF_MODULE, MODULE]) {
         assert.equal((await load(source)).version(), dethrux.version());
     }
     assert.ok(isSupported());
+    await assert.rejects(load("dethrux.wasm"), /Invalid URL/);
+    // What pages and workers have.
+    for (const [name, page] of [["document", { baseURI: url.href }], ["location", { href: url.href }]]) {
+        globalThis[name] = page;
+        try {
+            assert.equal((await load("./dethrux.wasm")).version(), dethrux.version());
+        } finally {
+            delete globalThis[name];
+        }
+    }
+    const { getBuiltinModule } = process;
+    process.getBuiltinModule = undefined;
+    try {
+        await assert.rejects(load(), /dethrux: this needs Node 20\.16/);
+    } finally {
+        process.getBuiltinModule = getBuiltinModule;
+    }
     await assert.rejects(load(Uint8Array.of(...HEAD)), /module has another version/);
     const ofVersion1 = [
         ...[...HEAD, 1, 5, 1, 0x60, 0, 1, 0x7f, 3, 2, 1, 0, 7, 19, 1, 15],

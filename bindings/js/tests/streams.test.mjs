@@ -57,6 +57,61 @@ test("streams to WTF-8", async () => {
     assert.deepEqual(decoder.feed(Uint8Array.of(0)), Uint8Array.of(0xed, 0xa0, 0xbd, 0x61));
 });
 
+// U+D83D in WTF-8. Before a trailing surrogate it is ill formed.
+const LEADING = Uint8Array.of(0xed, 0xa0, 0xbd);
+
+test("streams of WTF-8, cut anywhere", async () => {
+    const wanted = unitsOf(`${TEXT}\ud83d`);
+    const wtf8 = dethrux.toWtf8(wanted).output;
+    const ways = { undefined: (it) => [...it], le: wordsOf(true), be: wordsOf(false) };
+    for (const front of [0, 65530]) {
+        const bytes = together([new Uint8Array(front), wtf8]);
+        for (let cut = front; cut <= bytes.length; cut += 1) {
+            for (const [order, made] of Object.entries(ways)) {
+                const encoder = dethrux.wtf8Encoder(order in { le: 0, be: 0 } ? order : undefined);
+                const parts = [encoder.feed(bytes.subarray(0, cut)), encoder.feed(bytes.subarray(cut))];
+                assert.deepEqual(encoder.pending, LEADING);
+                const units = [...parts, encoder.finish()].flatMap(made);
+                assert.deepEqual(units.slice(0, front), Array(front).fill(0));
+                assert.deepEqual(units.slice(front), [...wanted]);
+                assert.deepEqual(encoder.pending, new Uint8Array());
+            }
+        }
+    }
+    assert.deepEqual(await passed(singly(LEADING), dethrux.wtf8EncoderStream("be")), [be("\ud83d")]);
+    assert.deepEqual(await passed(singly(LEADING), dethrux.wtf8EncoderStream()), [unitsOf("\ud83d")]);
+});
+
+/** The code units of bytes. */
+const wordsOf = (little) => (bytes) =>
+    Array.from({ length: bytes.length / 2 }, (_, at) => new DataView(bytes.buffer).getUint16(2 * at, little));
+
+test("what is no WTF-8 throws where fromWtf8 stops, and changes nothing", () => {
+    const fronts = [[], [0x61], LEADING, [0x61, ...LEADING, 0x61], new Uint8Array(65534)];
+    const faults = [[0xff], [0x80], [0xc0, 0x80], [0xf4, 0x90], [0xe2, 0x82, 0x61], [0xf0, 0x9f, 0x98]];
+    for (const front of fronts) {
+        for (const bad of [...faults, [0xed], [...LEADING, 0xed, 0xb8, 0x80]]) {
+            const bytes = Uint8Array.from([...front, ...bad]);
+            const { read, status, errorLen } = dethrux.fromWtf8(bytes, "le");
+            const len = status === "incomplete" ? bytes.length - read : errorLen;
+            for (let cut = Math.max(front.length - 4, 0); cut <= bytes.length; cut += 1) {
+                const encoder = dethrux.wtf8Encoder("le");
+                let before;
+                const calls = () => {
+                    for (const chunk of [bytes.subarray(0, cut), bytes.subarray(cut)]) {
+                        before = encoder.pending;
+                        encoder.feed(chunk);
+                    }
+                    before = encoder.pending;
+                    encoder.finish();
+                };
+                isIllFormed(calls, read, len);
+                assert.deepEqual(encoder.pending, before);
+            }
+        }
+    }
+});
+
 test("streams of UTF-8", async () => {
     const bytes = Uint8Array.of(...utf8("a\u4e00\u{1f600}"), 0xe2, 0x82);
     const text = new TextDecoder().decode(bytes);
@@ -170,6 +225,7 @@ test("an end without memory for its text changes nothing", () => {
         [() => dethrux.encoder(), character, [1, 2, 3].map(() => unitsOf("\ufffd")), unitsOf("\u{1f600}")],
         [() => dethrux.wtf8Decoder("le"), le("\u{1f600}"), [, Uint8Array.of(0xed, 0xa0, 0xbd)], character],
         [() => dethrux.decoder("bom"), le("\ufeffa"), [mark, none, mark], utf8("a")],
+        [() => dethrux.wtf8Encoder("le"), Uint8Array.of(...LEADING, 0x61), [, , le("\ud83d")], le("\ud83da")],
     ];
     for (const [coderOf, bytes, ends, text] of cases) {
         ends.forEach((end, at) => {
@@ -226,7 +282,7 @@ test("no stream keeps a chunk, not even a Buffer", () => {
         const bom = dethrux.decoder("bom");
         const found = fedChanging((it) => bom.feed(it), chunks([0xff], [0xfe, ...first], second));
         assert.deepEqual(together(found), utf8("a\u{1f600}"));
-        for (const encoder of [dethrux.encoder("le"), dethrux.encoder("le", { fatal })]) {
+        for (const encoder of [dethrux.encoder("le"), dethrux.encoder("le", { fatal }), dethrux.wtf8Encoder("le")]) {
             const found = fedChanging((it) => encoder.feed(it), chunks([0x61, 0xe2, 0x82], [0xac]));
             assert.deepEqual(found, [le("a"), le("\u20ac")]);
         }

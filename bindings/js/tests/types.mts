@@ -47,6 +47,9 @@ dethrux.decoderStream("bom", "le", { fatal: true });
 const strict = (error: unknown): number => (error instanceof IllFormedError ? error.offset : -1);
 const ofUnits: Uint8Array = dethrux.decoder(undefined, { fatal: true }).feed(units);
 
+const fromWtf8: Uint16Array = dethrux.wtf8Encoder().feed(bytes);
+load("dethrux.wasm");
+
 // @ts-expect-error: bytes have a byte order
 dethrux.validate(bytes);
 // @ts-expect-error: bytes have a byte order
@@ -78,5 +81,5 @@ dethrux.toUtf7(bytes);
 // @ts-expect-error: there is no such status
 validity.status = "valid";
 
-export { asUnits, bom, encoded, isBoundary, largePart, last, nul, ofUnits, part, pending, place };
+export { asUnits, bom, encoded, fromWtf8, isBoundary, largePart, last, nul, ofUnits, part, pending, place };
 export { points, raw, read, strict, text, utf8, word, words, written };
