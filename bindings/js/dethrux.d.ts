@@ -371,7 +371,7 @@ export interface Dethrux {
     wtf8DecoderStream(order: ByteOrder): TransformStream<Uint8Array, Uint8Array>;
     wtf8DecoderStream(): TransformStream<Uint16Array, Uint8Array>;
     /**
-     * Returns an encoder of WTF-8, whose surrogates become those of UTF-16. At what is no WTF-8 it
+     * Returns an encoder of WTF-8. A surrogate becomes the code unit. If bytes are not WTF-8, it
      * throws an `IllFormedError`, and changes nothing. At most 6 bytes are pending: a leading
      * surrogate, which `finish` returns, and the start of what follows it.
      */

@@ -170,8 +170,8 @@ class Encoder {
 }
 
 /**
- * The error of a call of an encoder of WTF-8: what is ill formed begins with the bytes that are
- * pending after the call, and at the end of a stream with those of before that the call left.
+ * The error of a call of an encoder of WTF-8. An ill-formed sequence begins with the bytes that are
+ * pending after the call, an incomplete one with the pending bytes that the call did not read.
  */
 function illFormed({ status, read, errorLen }, came, before, after) {
     return status === "ill-formed"

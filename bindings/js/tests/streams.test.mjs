@@ -86,7 +86,7 @@ test("streams of WTF-8, cut anywhere", async () => {
 const wordsOf = (little) => (bytes) =>
     Array.from({ length: bytes.length / 2 }, (_, at) => new DataView(bytes.buffer).getUint16(2 * at, little));
 
-test("what is no WTF-8 throws where fromWtf8 stops, and changes nothing", () => {
+test("bytes that are not WTF-8 throw where fromWtf8 stops, and change nothing", () => {
     const fronts = [[], [0x61], LEADING, [0x61, ...LEADING, 0x61], new Uint8Array(65534)];
     const faults = [[0xff], [0x80], [0xc0, 0x80], [0xf4, 0x90], [0xe2, 0x82, 0x61], [0xf0, 0x9f, 0x98]];
     for (const front of fronts) {
