@@ -9,18 +9,40 @@ const DUMP_LINES = [
     /^[0-9a-f]{6,}(?: {1,3}[0-9a-f]{2})* *(?:\||$)/i,
     /^\*$/,
 ];
+// The first line of a dump that is not of single bytes, such as od -x and plain hexdump print.
+const WORDS_LINE = /^0{6,7}(?: +[0-9a-f]{3,})+$/i;
+// An array in C or Rust, also with the length after it that `xxd -i` writes; a registry value.
+const LITERALS = [
+    /^(?:[^=]*=)?\s*&?[{[]\s*(0x[^{}[\]=]*)[}\]][;\s]*(?:\w[\w ]*= \d+;\s*)?$/i,
+    /^\s*(?:(?:@|".*")=)?hex(?:\([0-9a-f]+\))?:([0-9a-f][^=]*)$/i,
+];
 
 const linesOf = (text) => text.split("\n").map((it) => it.trim()).filter(Boolean);
-const hexWords = (text) => text.split(/[\s,;:]+|0x|\\x/i).filter(Boolean);
+const literalOf = (text) => LITERALS.map((it) => text.match(it)?.[1]).find(Boolean);
+// A line of a registry value that is continued ends with a backslash.
+const hexWords = (text) =>
+    (literalOf(text)?.replace(/\\\n/g, " ") ?? text).split(/[\s,;:]+|0x|\\x/i).filter(Boolean);
+const isBytes = (word) => /^(?:[0-9a-f]{2})+$/i.test(word);
 
 /** Guesses what a text is. */
 function guessedForm(text) {
-    const lines = linesOf(text);
-    const isDump = (line) => DUMP_LINES.some((it) => it.test(line));
-    if (lines.some((it) => /[ :]/.test(it)) && lines.every(isDump)) {
+    const [lines, words] = [linesOf(text), hexWords(text)];
+    const isMost = (found, all) => 2 * found.length > all.length;
+    const dumped = lines.filter((line) => DUMP_LINES.some((it) => it.test(line)));
+    const isDump = dumped.some((it) => /[ :]/.test(it));
+    if ((isDump && dumped.length === lines.length) || lines.some((it) => WORDS_LINE.test(it))) {
         return "dump";
     }
-    return hexWords(text).every((it) => /^(?:[0-9a-f]{2})+$/i.test(it)) ? "hex" : "text";
+    if (literalOf(text) || words.every(isBytes)) {
+        return "hex";
+    }
+    // With a slip, it is a dump if most lines are a dump's, and hex if most words are whole bytes
+    // and most have a digit from 0 to 9. All else is text, such as `add 12 dead beef`.
+    if (isDump && isMost(dumped, lines)) {
+        return "dump";
+    }
+    const digits = words.filter((it) => /\d/.test(it));
+    return isMost(words.filter(isBytes), words) && isMost(digits, words) ? "hex" : "text";
 }
 
 /** Returns the bytes of a text, in which \uD800 and \u{1F600} are written out. */
@@ -39,7 +61,7 @@ function bytesOfText(text, order) {
 
 function bytesOfHex(text) {
     const words = hexWords(text);
-    const wrong = words.find((it) => !/^(?:[0-9a-f]{2})+$/i.test(it));
+    const wrong = words.find((it) => !isBytes(it));
     if (wrong) {
         const isHalf = /^[0-9a-f]+$/i.test(wrong);
         throw new Error(`“${wrong}” ${isHalf ? "ends with half a byte" : "is not bytes in hex"}`);
@@ -63,6 +85,10 @@ function bytesOfDump(text) {
         const [, offset, colon, rest] = line.match(/^([0-9a-f]+)(:?) *(.*)$/i) ?? [];
         if (offset === undefined) {
             throw new Error(`“${line.slice(0, 40)}” is not a line of a dump`);
+        }
+        if (!colon && /^[0-9a-f]{3}/i.test(rest)) {
+            const why = "has words of more than two digits, in the order of the machine";
+            throw new Error(`“${line.slice(0, 40)}” ${why}: use xxd, hexdump -C or od -t x1`);
         }
         // The offsets of od have 7 digits if they are octal.
         const at = parseInt(offset, offset.length === 7 ? 8 : 16);
@@ -103,6 +129,8 @@ function readField() {
         byId("input-note").textContent = `Read as ${FORM_NAMES[form]}: ${size}.${guess}`;
         checkFile(new Blob([bytes]), "pasted", form === "text" ? order : undefined);
     } catch (error) {
-        showNothing(`This cannot be read as ${FORM_NAMES[form]}: ${error.message}.`);
+        const [name, why] = [FORM_NAMES[form], error.message];
+        const guess = `This looks like ${name}, but ${why}. If it is text, choose “text”.`;
+        showNothing(isGuess ? guess : `This cannot be read as ${name}: ${why}.`);
     }
 }

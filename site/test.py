@@ -103,6 +103,31 @@ DUMPS = {
 0000115
 """,
 }
+# What is plainly the bytes 61 00 00 DC; what looks like hex or a dump, with what is wrong; and what
+# does neither.
+LITERALS = (
+    "{0x61, 0x00, 0x00, 0xDC}",
+    "&[0x61, 0x00,\n  0x00, 0xdc,\n];",
+    "unsigned char a[] = {\n  0x61, 0x00, 0x00, 0xdc\n};\nunsigned int a_len = 4;\n",
+    '"v"=hex(1):61,00,00,dc', '"v"=hex(7):61,00,\\\n  00,dc',
+    "@=hex:61,00,00,dc", "hex(2):61,00,00,dc",
+)
+SLIPS = (
+    ("61 00 0", "bytes in hex, but \u201c0\u201d ends with half a byte"),
+    ("61 00 0O DC 62 00", "bytes in hex, but \u201c0O\u201d is not bytes in hex"),
+    ("fffe 6100 00d", "bytes in hex, but \u201c00d\u201d ends with half a byte"),
+    ("{0x61, 0x0, 0x0, 0xDC}", "bytes in hex, but \u201c0\u201d ends with half a byte"),
+    ('"v"=hex(1):61,00,00,d', "bytes in hex, but \u201cd\u201d ends with half a byte"),
+    ("$ xxd it\n" + DUMPS["xxd"], "a dump, but \u201c$ xxd it\u201d is not a line of a dump"),
+    (DUMPS["hexdump -C"].replace("dc", "dO"), "a dump, but \u201cdO\u201d is not bytes in hex"),
+    ("0000000 feff 0061 dc00", "a dump, but \u201c0000000 feff 0061 dc00\u201d has words of more than "
+     "two digits, in the order of the machine: use xxd, hexdump -C or od -t x1"),
+    ("0000000    feff    0061\n0000004", "a dump, but \u201c0000000    feff    0061\u201d has words"),
+    ("000000 feff 0061\n000004", "a dump, but \u201c000000 feff 0061\u201d has words of more than"),
+    ("$ od -x it\n0000000 feff 0061", "a dump, but \u201c$ od -x it\u201d is not a line of a dump"),
+)
+TEXTS = ("add 12 dead beef", "No", "7", "123", "10,000", "3:45", "1920x1080", "Chapter 12", "2 + 2 = 4")
+TEXTS += ("[12]", "{10, 20}", "cafe: noir", "hex: be brief", "12345678\n87654321\nJohn Smith")
 LONG = "Gr\u00fc\u00dfe, \u043c\u0438\u0440 \U0001f600! The quick brown fox jumps over the lazy dog.\n"
 CHINESE = "\u4e16\u754c\u4f60\u597d\uff0c\u6211\u4eec\u7684\u6587\u4ef6\u574f\u4e86\u3002" * 9
 
@@ -515,8 +540,17 @@ def forms_of_the_field(page):
     page.equal(page.value("octets(shown.bytes)"), source, "bytes as hex, as text and again as hex")
     page.enter(TEXT, form="auto")
     page.equal(page.text("preview"), TEXT, "a text that was entered")
-    page.enter("cafe: noir", form="auto")
-    page.equal(page.text("preview"), "cafe: noir", "a text that begins like a dump")
+    for text in TEXTS:
+        page.enter(text, form="auto")
+        page.equal(page.text("preview"), text, f"the text {text!r}")
+        page.says("verdict-line", f"No: there is no error in {2 * len(text)} bytes")
+    for source, count in (("face", 2), ("be", 1), ("12", 1)):
+        page.enter(source, form="auto")
+        page.says("input-note", f"Read as bytes in hex: {count} byte")
+    for source in LITERALS:
+        page.enter(source, form="auto")
+        page.says("input-note", "Read as bytes in hex: 4 bytes. That is a guess")
+        page.equal(page.value(OFFSETS), [2], f"the errors of {source!r}")
     page.enter("a\\uDC00\\u{1F600}\\", "be", "text")
     page.equal(page.value("octets(shown.bytes)"), "00 61 DC 00 D8 3D DE 00 00 5C", "code units in a text")
     page.says("verdict-line", "(from your text)")
@@ -554,6 +588,13 @@ def unreadable(page):
         page.says("verdict-line", f"This cannot be read as {words}")
         page.equal(page.value("byId('verdict').className"), "verdict", f"the colour of {source!r}")
         page.equal(page.value("byId('found').hidden"), True, f"what is shown of {source!r}")
+    for source, words in SLIPS:
+        page.enter(source, form="auto")
+        page.says("verdict-line", f"This looks like {words}")
+        page.says("verdict-line", ". If it is text, choose \u201ctext\u201d.")
+        page.equal(page.value("byId('verdict').className"), "verdict", f"the colour of {source!r}")
+        page.choose("form", "text")
+        page.says("verdict-line", "(from your text)")
     page.enter("61 00", form="hex")
     page.equal(page.value("byId('found').hidden"), False, "what is shown of bytes after that")
 
