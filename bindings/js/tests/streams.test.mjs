@@ -61,7 +61,7 @@ test("streams to WTF-8", async () => {
 const LEADING = Uint8Array.of(0xed, 0xa0, 0xbd);
 
 test("streams of WTF-8, cut anywhere", async () => {
-    const wanted = unitsOf(`${TEXT}\ud83d`);
+    const wanted = unitsOf(`${TEXT}\u{1f600}\ud83d`);
     const wtf8 = dethrux.toWtf8(wanted).output;
     const ways = { undefined: (it) => [...it], le: wordsOf(true), be: wordsOf(false) };
     for (const front of [0, 65530]) {
@@ -78,6 +78,7 @@ test("streams of WTF-8, cut anywhere", async () => {
             }
         }
     }
+    assert.deepEqual(together(await passed(singly(wtf8), dethrux.wtf8EncoderStream("le"))), le(stringOf(wanted)));
     assert.deepEqual(await passed(singly(LEADING), dethrux.wtf8EncoderStream("be")), [be("\ud83d")]);
     assert.deepEqual(await passed(singly(LEADING), dethrux.wtf8EncoderStream()), [unitsOf("\ud83d")]);
 });
@@ -96,6 +97,8 @@ test("bytes that are not WTF-8 throw where fromWtf8 stops, and change nothing", 
             const len = status === "incomplete" ? bytes.length - read : errorLen;
             for (let cut = Math.max(front.length - 4, 0); cut <= bytes.length; cut += 1) {
                 const encoder = dethrux.wtf8Encoder("le");
+                encoder.feed(utf8("another stream"));
+                encoder.finish();
                 let before;
                 const calls = () => {
                     for (const chunk of [bytes.subarray(0, cut), bytes.subarray(cut)]) {
