@@ -1,9 +1,10 @@
 #!/usr/bin/env bash
 # Packages the package, installs it in an empty folder without network, and there runs the first
-# program of docs/JS.md, the tests and the tables of cases in Node. Then it tests the page of site/
-# in headless Chromium. If this runs as root, apt-get installs missing tools; a tool that is still
-# missing is a failure. With --node it tests the package only. NODE and CHROMIUM name other
-# programs. The last line is 'N passed, M failed'.
+# program of docs/JS.md, the tests and the tables of cases in Node. Then it runs the tests and the
+# tables with the installed package in headless Chromium, and tests the page of site/ there. If this
+# runs as root, apt-get installs missing tools; a tool that is still missing is a failure. With
+# --node it leaves out what needs Chromium. NODE and CHROMIUM name other programs. The last line is
+# 'N passed, M failed'.
 set -uo pipefail
 here=$(cd "$(dirname "${BASH_SOURCE[0]}")" && pwd)
 top=$(cd "$here/../.." && pwd)
@@ -110,13 +111,19 @@ test_node() {
     check 'a bundle' runs_bundled
 }
 
-test_page() {
+test_chromium() {
+    local tests=("$here/tests/chromium.py" "$room")
     CHROMIUM=${CHROMIUM:-$(first_of chromium chromium-browser google-chrome || echo chromium)}
     export CHROMIUM
     check 'the page, twice' builds_page
-    need "$CHROMIUM:chromium" && counts 'the page in Chromium' "$top/site/test.py"
+    need "$CHROMIUM:chromium" || return
+    "$top/cases/to_json.py" > "$room/cases.json"
+    counts 'the tests of the calls in Chromium' "${tests[@]}" calls.test.mjs
+    counts 'the tests of streams in Chromium' "${tests[@]}" streams.test.mjs
+    counts 'the tables of cases in Chromium' "${tests[@]}" cases.mjs
+    counts 'the page in Chromium' "$top/site/test.py"
 }
 
 test_node
-[ "${1:-}" = --node ] || test_page
+[ "${1:-}" = --node ] || test_chromium
 finish

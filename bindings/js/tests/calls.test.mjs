@@ -1,11 +1,12 @@
 import assert from "node:assert/strict";
-import { readFileSync } from "node:fs";
-import { createServer } from "node:http";
 import { test } from "node:test";
-import vm from "node:vm";
 import { IllFormedError, isSupported, load, stringOf, unitsOf } from "dethrux";
 import { CALLS } from "../node_modules/dethrux/calls.js";
 import { be, isIllFormed, le, replaced, utf8 } from "./common.mjs";
+import { isNode, isSame, ofNode, read, together } from "./common.mjs";
+
+const { readFileSync } = ofNode("node:fs");
+const { createServer } = ofNode("node:http");
 
 /** What a call returns in a browser, which has no Buffer. */
 async function withoutBuffer(call) {
@@ -18,13 +19,13 @@ async function withoutBuffer(call) {
     }
 }
 
-const BYTES_OF_MODULE = readFileSync(new URL(import.meta.resolve("dethrux/dethrux.wasm")));
+const BYTES_OF_MODULE = await read(new URL(import.meta.resolve("dethrux/dethrux.wasm")));
 const MODULE = new WebAssembly.Module(BYTES_OF_MODULE);
 /** Loads the library, with the memory that it begins with. */
 const loadFresh = () => load(MODULE);
 const dethrux = await load();
 const LIBRARIES = [dethrux, await withoutBuffer(loadFresh)];
-const top = process.env.DETHRUX_TOP;
+const top = globalThis.process?.env.DETHRUX_TOP;
 
 // What a module of WebAssembly begins with.
 const HEAD = [0, 0x61, 0x73, 0x6d, 1, 0, 0, 0];
@@ -94,8 +95,9 @@ test("strings: isWellFormed, toWellFormed and Buffer", () => {
         const repaired = units.slice();
         dethrux.makeWellFormed(repaired);
         assert.equal(stringOf(repaired), text.toWellFormed());
-        assert.deepEqual(Buffer.from(dethrux.toUtf8Lossy(units).output), Buffer.from(text));
-        assert.equal(dethrux.toUtf8LossyLen(units), Buffer.byteLength(text));
+        const bytes = isNode ? new Uint8Array(Buffer.from(text)) : utf8(text);
+        assert.deepEqual(dethrux.toUtf8Lossy(units).output, bytes);
+        assert.equal(dethrux.toUtf8LossyLen(units), bytes.length);
         assert.deepEqual(dethrux.toUtf32Lossy(units).output, Uint32Array.from([...text.toWellFormed()], (it) => it.codePointAt(0)));
     }
 });
@@ -111,7 +113,7 @@ test("bytes: TextDecoder, whole and in streams", () => {
             const cut = numbers.next().value % (bytes.length + 1);
             const decoder = dethrux.decoder(order);
             const parts = [decoder.feed(bytes.subarray(0, cut)), decoder.feed(bytes.subarray(cut)), decoder.finish()];
-            assert.deepEqual(new Uint8Array(Buffer.concat(parts)), found.output);
+            assert.deepEqual(together(parts), found.output);
         }
     }
 });
@@ -225,8 +227,13 @@ test("arrays that begin within a buffer, and those of another window", () => {
     assert.deepEqual(dethrux.toUtf8(units).output, utf8("ab"));
     dethrux.swapByteOrder(units);
     assert.deepEqual(new Uint16Array(units.buffer), Uint16Array.of(9, 0x6100, 0x6200, 9));
-    assert.deepEqual(dethrux.toUtf8(vm.runInNewContext("Uint16Array.of(0x61)")).output, utf8("a"));
-    assert.deepEqual(dethrux.toUtf8(Buffer.from("a\0"), "le").output, utf8("a"));
+    const other = isNode
+        ? ofNode("node:vm").runInNewContext("Uint16Array")
+        : document.body.appendChild(document.createElement("iframe")).contentWindow.Uint16Array;
+    assert.ok(other !== Uint16Array);
+    assert.deepEqual(dethrux.toUtf8(other.of(0x61)).output, utf8("a"));
+    const inBuffer = isNode ? Buffer.from("a\0") : utf8("a\0");
+    assert.deepEqual(dethrux.toUtf8(inBuffer, "le").output, utf8("a"));
 });
 
 test("an output is not changed by later calls", () => {
@@ -398,7 +405,8 @@ test("a string that is too long throws a RangeError, and changes nothing", () =>
     const fails = () => () => {
         throw new Error("too long");
     };
-    const prototypes = [[Buffer.prototype, "toString"], [TextDecoder.prototype, "decode"]];
+    const ofPlatform = [TextDecoder.prototype, "decode"];
+    const prototypes = [isNode ? [Buffer.prototype, "toString"] : ofPlatform, ofPlatform];
     LIBRARIES.forEach((library, at) => {
         const decoder = library.textDecoder("le");
         decoder.decode(le("\ud83d"), { stream: true });
@@ -434,13 +442,8 @@ test("a module from a server", async () => {
     }
 });
 
-test("a module as bytes, compiled, and at a URL", async () => {
+test("a relative URL, and an engine without getBuiltinModule", async () => {
     const url = new URL(import.meta.resolve("dethrux/dethrux.wasm"));
-    const data = new URL(`data:application/wasm;base64,${BYTES_OF_MODULE.toString("base64")}`);
-    for (const source of [url, data, url.href, data.href, BYTES_OF_MODULE, MODULE]) {
-        assert.equal((await load(source)).version(), dethrux.version());
-    }
-    assert.ok(isSupported());
     await assert.rejects(load("dethrux.wasm"), /Invalid URL/);
     // What pages and workers have.
     for (const [name, page] of [["document", { baseURI: url.href }], ["location", { href: url.href }]]) {
@@ -458,13 +461,28 @@ test("a module as bytes, compiled, and at a URL", async () => {
     } finally {
         process.getBuiltinModule = getBuiltinModule;
     }
+});
+
+test("a module as bytes, compiled, and at a URL", async () => {
+    const url = new URL(import.meta.resolve("dethrux/dethrux.wasm"));
+    const letters = Array.from(BYTES_OF_MODULE, (it) => String.fromCharCode(it)).join("");
+    const data = new URL(`data:application/wasm;base64,${btoa(letters)}`);
+    for (const source of [url, data, url.href, data.href, BYTES_OF_MODULE, MODULE]) {
+        assert.equal((await load(source)).version(), dethrux.version());
+    }
+    assert.ok(isSupported());
+    if (!isNode) {
+        const relative = "../node_modules/dethrux/dethrux.wasm";
+        assert.equal((await load(relative)).version(), dethrux.version());
+    }
     await assert.rejects(load(Uint8Array.of(...HEAD)), /module has another version/);
     const ofVersion1 = [
         ...[...HEAD, 1, 5, 1, 0x60, 0, 1, 0x7f, 3, 2, 1, 0, 7, 19, 1, 15],
         ...[...utf8("dethrux_version"), 0, 0, 10, 6, 1, 4, 0, 0x41, 1, 0x0b],
     ];
     await assert.rejects(load(Uint8Array.from(ofVersion1)), /module has another version/);
-    await assert.rejects(load(new URL("file:///no/such/file")), /ENOENT/);
+    const missing = new URL("/no/such/file", import.meta.url);
+    await assert.rejects(load(missing), isNode ? /ENOENT/ : /cannot be read: 404/);
     await assert.rejects(load(Uint8Array.of(1, 2, 3)), WebAssembly.CompileError);
 });
 
@@ -604,9 +622,10 @@ test("encode gives what Buffer gives for a well-formed string", () => {
     for (const text of TEXTS) {
         const wanted = text.toWellFormed();
         for (const library of LIBRARIES) {
-            const raw = () => Buffer.from(wanted, "utf16le");
+            const raw = () => (isNode ? Buffer.from(wanted, "utf16le") : le(wanted));
+            const swapped = isNode ? raw().swap16() : be(wanted);
             assert.deepEqual(library.encode(text, "le"), new Uint8Array(raw()));
-            assert.deepEqual(library.encode(text, "be"), new Uint8Array(raw().swap16()));
+            assert.deepEqual(library.encode(text, "be"), new Uint8Array(swapped));
             assert.deepEqual(library.encode(text), unitsOf(wanted));
             const isWhole = outcome(() => library.encode(text, "be", { fatal: true })) !== "throws";
             assert.equal(isWhole, text.isWellFormed());
@@ -638,7 +657,7 @@ test("a long string, for which the memory grows", async () => {
     const text = "\u4e00\u{1f600}".repeat(400_000);
     for (const [order, run] of [["le", (it) => it()], ["be", (it) => it()], ["be", withoutBuffer]]) {
         const bytes = await run(async () => (await loadFresh()).encode(text, order));
-        assert.ok(Buffer.from(bytes).equals(BYTES[order](text)));
+        assert.ok(isSame(bytes, BYTES[order](text)));
         assert.ok((await run(async () => (await loadFresh()).decode(bytes, order))) === text);
     }
 });

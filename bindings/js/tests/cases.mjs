@@ -2,8 +2,9 @@
 // on code units. Prints each case whose result differs, with both results, and last 'N passed, M
 // failed'. Cases of other calls, and cases with a condition on memory or devices, are not run.
 // DETHRUX_TOP is the folder of the repository, whose cases/to_json.py reads the tables with Python.
-import { execFileSync } from "node:child_process";
+// In a browser ../cases.json has what the script prints.
 import { load } from "dethrux";
+import { isNode, isSame, ofNode, read, together } from "./common.mjs";
 
 const dethrux = await load();
 const STOPS = { done: "end", incomplete: "incomplete", "no-space": "no_space", "not-latin1": "not_latin1" };
@@ -13,23 +14,25 @@ function bytes(word) {
     if (!/^(-|([0-9A-F]{2})+)$/.test(word)) {
         throw new Error(`these are not bytes: ${word}`);
     }
-    return new Uint8Array(Buffer.from(word, "hex"));
+    return Uint8Array.from(word.match(/\w\w/g) ?? [], (it) => parseInt(it, 16));
 }
 
 const chunks = (words) => words.flatMap((word) => word.split(",").map(bytes));
-const hex = (array) => Buffer.from(array).toString("hex").toUpperCase() || "-";
+const DIGITS = Array.from("0123456789ABCDEF");
+const PAIRS = DIGITS.flatMap((high) => DIGITS.map((low) => high + low));
+const hex = (array) => Array.from(array, (it) => PAIRS[it]).join("") || "-";
 const text = (array) => `utf8:${hex(array)}`;
 
 /** UTF-32, which a case spells in big endian. */
 function points(word) {
-    const raw = Buffer.from(bytes(word));
-    return Uint32Array.from({ length: raw.length / 4 }, (_, at) => raw.readUInt32BE(at * 4));
+    const raw = new DataView(bytes(word).buffer);
+    return Uint32Array.from({ length: raw.byteLength / 4 }, (_, at) => raw.getUint32(at * 4));
 }
 
 function madePoints(array) {
-    const raw = Buffer.alloc(array.length * 4);
-    array.forEach((it, at) => raw.writeUInt32BE(it, at * 4));
-    return hex(raw);
+    const raw = new DataView(new ArrayBuffer(array.length * 4));
+    array.forEach((it, at) => raw.setUint32(at * 4, it));
+    return hex(new Uint8Array(raw.buffer));
 }
 
 /** Fails if a function on code units gives something else than on bytes in little endian. */
@@ -92,7 +95,7 @@ function validity(found, whole) {
 
 /** What a decoder or an encoder gives for chunks. */
 function fed(coder, parts) {
-    return Buffer.concat([...parts.map((it) => coder.feed(it)), coder.finish()]);
+    return together([...parts.map((it) => coder.feed(it)), coder.finish()]);
 }
 
 /** A stream cut into single bytes, and in two at each place. */
@@ -105,7 +108,7 @@ function cuttings(array) {
 function cutAnywhere(array, made, coder) {
     const whole = fed(made(coder), [array]);
     const all = cuttings(array).map((parts) => fed(made(coder), parts));
-    return [whole, ...all.filter((it) => !it.equals(whole))];
+    return [whole, ...all.filter((it) => !isSame(it, whole))];
 }
 
 function fromUtf8Lossy(order, words) {
@@ -254,8 +257,17 @@ function count(said, line) {
     }
 }
 
-const script = `${process.env.DETHRUX_TOP}/cases/to_json.py`;
-const lines = execFileSync("python3", [script], { encoding: "utf8", maxBuffer: Infinity });
+/** What the script prints. */
+async function tables() {
+    if (!isNode) {
+        return new TextDecoder().decode(await read(new URL("../cases.json", import.meta.url)));
+    }
+    const script = `${process.env.DETHRUX_TOP}/cases/to_json.py`;
+    const options = { encoding: "utf8", maxBuffer: Infinity };
+    return ofNode("node:child_process").execFileSync("python3", [script], options);
+}
+
+const lines = await tables();
 for (const line of lines.trim().split("\n")) {
     const it = JSON.parse(line);
     if (it.call in CALLS && it.conditions.length === 0) {
@@ -267,4 +279,6 @@ for (const call of Object.keys(CALLS).filter((it) => !made.has(it))) {
     count("there is no case of it", call);
 }
 console.log(`${counts.passed} passed, ${counts.failed} failed`);
-process.exitCode = counts.failed ? 1 : 0;
+if (isNode) {
+    process.exitCode = counts.failed ? 1 : 0;
+}
