@@ -59,14 +59,14 @@ fn write_whole<E: Utf16Order>(text: &[u8], out: &mut [u8]) -> usize
     write_many::<E>(text, out).written
 }
 
-/// Writes a text at the start of the bytes in UTF-16 to the start of `out`, and validates it at the
-/// same time. It writes all bytes if they are a text of at least `FEW_TEXT` bytes, and `out` has
-/// `2 * bytes.len() + SLACK` bytes. Returns the number of bytes read, which are well formed, and
-/// the number of bytes written. The bytes after those written may be overwritten.
+/// Writes a text at the start of the bytes in UTF-16 to the start of `out`, and validates it: more
+/// than sixteen bytes while it writes them. It writes all bytes if they are a text of at least
+/// `FEW_TEXT` bytes, and `out` has `2 * bytes.len() + SLACK` bytes. Returns the number of bytes
+/// read, which are well formed, and of bytes written. Those after them may be overwritten.
 ///
 /// # Complexity
 ///
-/// One pass over the bytes that it reads, and over at most 192 more.
+/// Linear time in the number of bytes read, and two passes over at most 192 more.
 #[inline(always)]
 pub fn write_prefix<E: Utf16Order>(bytes: &[u8], out: &mut [u8]) -> Moved
     ensures written { IsWritten E.BIG bytes.now out.new result.read result.written }

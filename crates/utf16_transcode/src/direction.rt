@@ -60,8 +60,8 @@ pub trait Direction {
         ensures ill_formed { IfErr result (IsIllFormedAt rest.now) };
 
     /// Begins to write an input to the start of a buffer, as far as few tests suffice: mostly all
-    /// of a short input, and nothing of a long one. At most seven characters of ASCII are written
-    /// if the buffer has four bytes for each.
+    /// of a short input, and often much of a long one. At most seven characters of ASCII are
+    /// written if the buffer has four bytes for each.
     fn begin(input: &[u8], to: &mut [u8]) -> Moved
         ensures wrote { Wrote (Gives IsValid other) input.now to.new result.read result.written }
         ensures few_ascii { (text : List ℕ) → All (λ c. c < 0x80) text

@@ -1,9 +1,9 @@
 //! UTF-8 to UTF-16, up to the first ill-formed sequence.
 //!
 //! `simdutf8` reads 64 bytes or more to the end before it looks for the error, but in fewer bytes
-//! it stops at the error. So at most 63 bytes are validated first, and an error costs about as much
-//! as the bytes before it. The frequent first bytes are tested by ranges, because a `match` of five
-//! cases compiles to a jump table.
+//! it stops at the error. So it gets at most 63 bytes. An error costs about as much as the bytes
+//! before it and the next 191, which `write_prefix` may read first. The frequent first bytes are
+//! tested by ranges, because a `match` of five cases compiles to a jump table.
 
 ghost use Rattle.std.specs.Prelude.{◌≡◌, ◌&&◌, ◌+◌, ◌-◌, ◌*◌, ◌<◌, ◌≤◌, ℕ, [], ◌∷◌, ◌++◌, IfErr, IfOk, IfSome, length, slice_index, take};
 ghost use Rattle.std.specs.Char.{encode_utf8};

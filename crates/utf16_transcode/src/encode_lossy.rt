@@ -139,7 +139,7 @@ impl<E: Utf16Order> LossyDirection for FromUtf8<E> {
 ///
 /// # Complexity
 ///
-/// Two passes, or three if the bytes are not UTF-8.
+/// Two passes, and at most two more if the bytes are not UTF-8.
 pub fn from_utf8_lossy_len(text: &[u8]) -> usize
     ensures size { result ≡ size (text_of_utf8 text.now) }
     ensures most { result ≤ 2 * length text.now }
