@@ -1,9 +1,10 @@
 #!/usr/bin/env python3
 # Publishes what the scripts left in bench/out: fills in the rows of results/results.csv, and draws
-# results/chart.svg from them. The table has the rows that documents name. The rows of a script that
-# was not run stay, with their commit. To publish another row, add a line with its script, call,
-# order, text, size, library and competitor. With --behind it writes nothing, and prints the rows of
-# all scripts in which a competitor is faster. A ratio above 1 means that Dethrux is faster.
+# results/chart.svg from them. The table has rows of run.sh, worst.sh and walks.sh; the ratios of
+# the other scripts stand in the documents. The rows of a script that was not run stay, with their
+# commit. To publish another row, add a line with its script, call, order, text, size, library and
+# competitor. With --behind it writes nothing, and prints the rows of all scripts in which a
+# competitor is faster. A ratio above 1 means that Dethrux is faster.
 import csv
 import os
 import re
@@ -32,6 +33,7 @@ TEXTS = {
 BARS = {
     "v2": ("Dethrux", "#c0392b"),
     "v3": ("Dethrux, AVX2", "#e67e22"),
+    "simdutf icelake": ("simdutf, AVX-512", "#4a235a"),
     "simdutf haswell": ("simdutf, 256 bits", "#6c3483"),
     "simdutf westmere": ("simdutf, 128 bits", "#bb8fce"),
     "encoding_rs": ("encoding_rs", "#2d5f9a"),
@@ -39,6 +41,9 @@ BARS = {
     "iconv": ("iconv", "#c9a227"),
 }
 SAME = {"encoding_rs mem": "encoding_rs"}
+WITHOUT_AVX512 = (
+    "This processor has no AVX-512 VBMI2. With it, simdutf takes another kernel (bench/README.md)."
+)
 
 
 def tables(name):
@@ -144,7 +149,10 @@ def chart(rows):
             if other not in SAME:
                 speeds[(*own[:2], other)] = float(it["theirs"])
     drawn, height, x = [], 0, 300
-    for name, colour in BARS.values():
+    shown = {bar for _, _, bar in speeds}
+    if "simdutf icelake" not in shown:
+        drawn.append(f"<text x='10' y='34' font-size='10'>{WITHOUT_AVX512}</text>")
+    for name, colour in [it for bar, it in BARS.items() if bar in shown]:
         drawn.append(f"<rect x='{x}' y='11' width='9' height='9' fill='{colour}'/>"
                      f"<text x='{x + 13}' y='19' font-size='10'>{name}</text>")
         x += 30 + 6 * len(name)

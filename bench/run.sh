@@ -3,7 +3,7 @@
 # bench/out/lines.tsv, and prints the rows in which a competitor is faster. The library is built
 # from dist/; `here v3` is its code for processors with AVX2. If SIMDUTF names a folder with
 # simdutf.cpp and simdutf.h, simdutf's kernels are also timed: westmere, haswell if the processor
-# has AVX2, and icelake if it has AVX-512.
+# has AVX2, and icelake if it has AVX-512 VBMI2.
 set -eu
 [ -z "${SIMDUTF:-}" ] || SIMDUTF=$(cd "$SIMDUTF" && pwd)
 cd "$(dirname "$0")"
