@@ -74,7 +74,7 @@ build() {
         command -v "${tool%% *}" > /dev/null ||
             fail "there is no $tool: install gcc, make and python3"
     done
-    env -u MAKEFLAGS make -C "$top/dist" "CC=${CC:-cc}" "LEVEL=${LEVEL:-x86-64-v2}" stage \
+    env -u MAKEFLAGS make -C "$top/dist" "CC=${CC:-cc}" "LEVEL=${LEVEL-}" stage \
         "STAGE=$1" "LIBDIR=$libdir" > "$room/log" 2>&1 || {
         cat "$room/log" >&2
         fail 'make -C dist failed'

@@ -105,9 +105,9 @@ count 'the tables with clang' tables 'clang --target=aarch64-linux-gnu'
 check 'the symbols of the shared library' \
     exports_header $triplet-nm -D --defined-only "$folder/libdethrux.so"
 check 'the symbols of the static library' \
-    exports_header $triplet-nm -g --defined-only "$folder/libdethrux.a"
+    exports_header public $triplet-nm -g --defined-only "$folder/libdethrux.a"
 check 'what the static library calls' \
-    calls_memory_alone $triplet-nm --undefined-only "$folder/libdethrux.a"
+    calls_memory_alone public $triplet-nm --undefined-only "$folder/libdethrux.a"
 check 'what the shared library needs' needs_libc "$folder/libdethrux.so"
 check 'the marks' has_marks $triplet-readelf 'AArch64 feature: BTI' "$folder"/{*.o,libdethrux.so}
 for library in static shared; do

@@ -124,6 +124,11 @@ exports_header() {
     [ -s "$room/declared" ] && diff "$room/declared" "$room/exported"
 }
 
+# Lists the symbols of a static library without its code for each level, by this command.
+public() {
+    "$@" | grep -vE ' _?dethrux_\w+_(v2|v3|aarch64)$'
+}
+
 # Tests, with this readelf, that files have a mark of CET or BTI, and for each function unwind data.
 has_marks() {
     local file functions

@@ -3,8 +3,7 @@
 # same files from the crates that rt ci has just proved, that their assembled code is the
 # compiler's, and that make and CMake build libraries and programs of this machine that pass the
 # tables of cases, with gcc and clang and without rt. With an argument, library or programs, it
-# compares only these with the crates. qemu emulates a processor with AVX2 for x86-64-v3, so this
-# needs none. The other platforms are tested by .ci/arm.sh, .ci/windows.sh and .ci/macos.sh. If this
+# compares only these with the crates. qemu emulates a processor with AVX2 for x86-64-v3. The other platforms are tested by .ci/arm.sh, .ci/windows.sh and .ci/macos.sh. If this
 # runs as root, apt-get installs missing tools; a tool that is still missing is a failure. The last
 # line is 'N passed, M failed'.
 set -uo pipefail
@@ -24,7 +23,7 @@ with_make() {
 # Tests that nearly no jump of make's object files crosses or ends a block of 32 bytes. Without the
 # option a tenth of them does; gcc's assembler leaves a few.
 keeps_blocks() {
-    objdump -d -w --no-show-raw-insn "$room/make-$1"/{linux-x86-64-v?,utf16_*}.o | python3 -c '
+    objdump -d -w --no-show-raw-insn "$room/make-$1"/{linux-*.o,programs/*/*.o} | python3 -c '
 import re, sys
 lines = [it.groups() for it in map(re.compile(r" +([0-9a-f]+):\t(\S+)").match, sys.stdin) if it]
 jumps = [(int(at, 16), int(end, 16)) for (at, name), (end, _) in zip(lines, lines[1:])
@@ -42,6 +41,22 @@ hides_calls() {
     cc "${words[@]}" -o "$room/all" && cc "${words[@]}" -Wl,--gc-sections -o "$room/less" &&
         [ "$(nm -D --defined-only "$room/less" | cut -c18-)" = 'T main' ] &&
         [ "$(stat -c %s "$room/less")" -lt $(($(stat -c %s "$room/all") * 2 / 3)) ]
+}
+
+# Tests that in a program that is linked statically, also with LTO, the library takes at most 100 KB:
+# the linker drops the code for both levels of what is not called.
+drops_rest() {
+    local option library sizes
+    for option in -O2 -flto; do
+        sizes=()
+        for library in "$room/make-$1/libdethrux.a" -Wl,--unresolved-symbols=ignore-all; do
+            cc $option "${user[0]}" "$top/examples/c/first.c" "$library" -static \
+                -Wl,--gc-sections -o "$room/static" || return
+            sizes+=("$(size "$room/static" | awk 'NR == 2 { print $1 }')")
+        done
+        echo "$option: ${sizes[*]}"
+        [ $((sizes[0] - sizes[1])) -lt 100000 ] || return
+    done
 }
 
 # Tests that a debugger finds the callers from within calls.
@@ -64,8 +79,14 @@ with_cmake() {
         "$room/user/user_shared" && "$room/user/user_static" &&
         make -s -C "$clone/dist" BUILD="$room/make-gcc" stage STAGE="$room/stage" &&
         diff <(cd "$room/prefix" && find lib | sort) <(cd "$room/stage" && find lib | sort) &&
-        has_marks readelf "$marks" "$room/prefix/lib"/{.,glibc-hwcaps/*}/*.so.?.? &&
-        [ "$(readelf -d "$room/prefix/lib"/{.,glibc-hwcaps/*}/*.so.?.? | grep -c BIND_NOW)" = 2 ]
+        has_marks readelf "$marks" "$room/prefix/lib"/*.so.?.? &&
+        readelf -d "$room/prefix/lib"/*.so.?.? | grep BIND_NOW
+}
+
+# Tests that the loader refuses a program on a processor without AVX2.
+is_refused() {
+    ! qemu-x86_64 -cpu Nehalem "$1" le < /dev/null > "$room/line" 2>&1 &&
+        grep -F 'CPU ISA level is lower than required' "$room/line"
 }
 
 # Tests that make refuses words with this line.
@@ -93,11 +114,15 @@ count 'make with clang' with_make clang CC=clang
 for compiler in gcc clang; do
     count "jumps by $compiler" keeps_blocks $compiler
     count "marks by $compiler" has_marks readelf "$marks" \
-        "$room/make-$compiler"/{*.o,libdethrux.so,glibc-hwcaps/*/*.so.*}
+        "$room/make-$compiler"/{*.o,programs/{,*/}*.o,libdethrux.so}
     count "a shared library by $compiler" hides_calls $compiler
+    count "a static program by $compiler" drops_rest $compiler
     count "a debugger by $compiler" shows_callers $compiler
 done
+count 'which code is taken' "$top/.ci/chosen.sh"
+count 'make for x86-64-v2' with_make v2 LEVEL=x86-64-v2
 count 'make for x86-64-v3' with_make v3 LEVEL=x86-64-v3 RUN='qemu-x86_64 -cpu max'
+count 'a program for x86-64-v3 below it' is_refused "$room/make-v3/utf16_cat"
 count 'CMake' with_cmake
 for target in i686-linux-gnu x86_64-linux-gnux32 riscv64-linux-gnu x86_64-unknown-freebsd; do
     count "a compiler for $target" refuses_target "$target"

@@ -9,7 +9,6 @@ top=$(cd "$(dirname "$0")/.." && pwd)
 sources=$top/packaging/test
 version=$(< "$top/VERSION")
 soname=libdethrux.so.${version%.*}
-with_avx2=glibc-hwcaps/x86-64-v3
 packages=(libdethrux0.2 libdethrux-dev dethrux-tools dethrux-iconv)
 sanitizers=(address undefined leak thread)
 room=$(mktemp -d)
@@ -96,48 +95,46 @@ cmake_refuses() {
         > "$room/log" 2>&1 && grep -F "version: $version" "$room/log"
 }
 
-# Processors that qemu emulates: the best one below each level, and one that has it.
-declare -A below=([x86-64-v2]=qemu64 [x86-64-v3]=Nehalem)
-declare -A enough=([x86-64-v2]=Nehalem [x86-64-v3]=Haswell)
-
 # Runs a program on a processor. qemu warns of features that no program here uses.
 on_processor() {
     qemu-x86_64 -cpu "$@" 2>&1 < /dev/null | grep -v 'warning: TCG doesn'
     return "${PIPESTATUS[0]}"
 }
 
-# Tests that a program does not start on a processor below this level, but on one that has it.
+# Tests that a program does not start on a processor below x86-64-v2, but on one that has it.
 is_refused_below() {
-    says 127 'CPU ISA level is lower than required' on_processor "${below[$1]}" "${@:2}" &&
-        on_processor "${enough[$1]}" "${@:2}"
-}
-
-# Tests that the loader takes this file of the shared library on a processor, by the path that a
-# program has, and runs the program.
-is_taken_on() {
-    local loader=("$1" /lib64/ld-linux-x86-64.so.2)
-    compile "$(config "$prefix" --cflags --libs)" "-Wl,-rpath,$prefix/lib" &&
-        on_processor "${loader[@]}" --list "$room/program" > "$room/listed" &&
-        grep -F "=> $prefix/lib/$2 (" "$room/listed" && on_processor "${loader[@]}" "$room/program"
+    says 127 'CPU ISA level is lower than required' on_processor qemu64 "$@" &&
+        on_processor Nehalem "$@"
 }
 
 takes_17_mib() {
-    cc -O2 -Wall -Wextra -Werror "-I$prefix/include" "$sources/big.c" "$2" -o "$room/big" &&
-        on_processor "${enough[$1]}" "$room/big"
+    cc -O2 -Wall -Wextra -Werror "-I$prefix/include" "$sources/big.c" "$prefix/lib/libdethrux.a" \
+        -o "$room/big" && on_processor "$1" "$room/big"
 }
 
-# Tests both libraries of a folder, which need a level.
+# Tests both libraries.
 check_libraries() {
-    check "the symbols of the shared library for $1" exports_header nm -D --defined-only "$2/$soname"
-    check "the symbols of the static library for $1" \
-        exports_header nm -g --defined-only "$2/libdethrux.a"
-    check "what the static library for $1 calls" \
-        calls_memory_alone nm --undefined-only "$2/libdethrux.a"
-    check "the shared library for $1" compile "$(config "$prefix" --cflags --libs)"
-    LD_LIBRARY_PATH=$2 check "the shared library below $1" is_refused_below "$1" "$room/program"
-    check "the static library for $1" compile "$(config "$prefix" --cflags)" "$2/libdethrux.a"
-    check "the static library below $1" is_refused_below "$1" "$room/program"
-    check "17 MiB on $1" takes_17_mib "$1" "$2/libdethrux.a"
+    local lib=$prefix/lib
+    check "the symbols of the shared library" exports_header nm -D --defined-only "$lib/$soname"
+    check "the symbols of the static library" \
+        exports_header public nm -g --defined-only "$lib/libdethrux.a"
+    check "what the static library calls" \
+        calls_memory_alone public nm --undefined-only "$lib/libdethrux.a"
+    check "the shared library" compile "$(config "$prefix" --cflags --libs)"
+    LD_LIBRARY_PATH=$lib check "the shared library below its level" is_refused_below "$room/program"
+    check "the static library" compile "$(config "$prefix" --cflags)" "$lib/libdethrux.a"
+    check "the static library below its level" is_refused_below "$room/program"
+    check '17 MiB on x86-64-v2' takes_17_mib Nehalem
+    check '17 MiB on x86-64-v3' takes_17_mib Haswell
+    check 'musl' by_musl
+}
+
+# Tests that a program with musl takes the code that one with glibc takes.
+by_musl() {
+    local words=("$room/kernel.c" "-I$prefix/include" "$prefix/lib/libdethrux.a")
+    printf '#include <dethrux.h>\n#include <stdio.h>\nint main(void) { puts(dethrux_kernel()); }\n' \
+        > "$room/kernel.c" && gcc "${words[@]}" -o "$room/program" &&
+        musl-gcc -static "${words[@]}" -o "$room/by_musl" && diff <("$room/program") <("$room/by_musl")
 }
 
 # Installs next to other files, and again over a file of an earlier version, which goes.
@@ -224,8 +221,7 @@ takes_module() {
 # Compiles and runs programs with the packages below a folder.
 packages_run() {
     local lib=$1/usr/lib/x86_64-linux-gnu
-    [ -e "$lib/$with_avx2/$soname" ] &&
-        compile "$(PKG_CONFIG_PATH=$lib/pkgconfig pkg-config --cflags --libs dethrux)" &&
+    compile "$(PKG_CONFIG_PATH=$lib/pkgconfig pkg-config --cflags --libs dethrux)" &&
         LD_LIBRARY_PATH=$lib "$room/program" && by_cmake "$1/usr" && programs_run "$1/usr/bin" &&
         takes_module "${1:+$lib}"
 }
@@ -263,7 +259,7 @@ packages_run_installed() {
 
 need "${for_arm64[@]}" x86_64-w64-mingw32-gcc:gcc-mingw-w64-x86-64 gcc:gcc g++:g++ clang:clang \
     nm:binutils make:make cmake:cmake pkg-config:pkg-config dh:debhelper \
-    dpkg-buildpackage:dpkg-dev lintian:lintian qemu-x86_64:qemu-user npm:npm cargo:cargo || finish
+    dpkg-buildpackage:dpkg-dev lintian:lintian qemu-x86_64:qemu-user npm:npm cargo:cargo musl-gcc:musl-tools || finish
 # Another program with this name, such as Request Tracker's.
 mkdir "$room/path"
 printf '#!/bin/sh\ntouch "%s/rt was called"\nexit 9\n' "$room" > "$room/path/rt"
@@ -280,10 +276,7 @@ check 'the paths that are printed' diff <(LC_ALL=C sort "$room/printed") \
     <(find "$room/in stalled" ! -type d | LC_ALL=C sort)
 prefix="$room/moved here"
 mv "$room/in stalled" "$prefix"
-check_libraries x86-64-v2 "$prefix/lib"
-check_libraries x86-64-v3 "$prefix/lib/$with_avx2"
-check 'the shared library on x86-64-v2' is_taken_on Nehalem "$soname"
-check 'the shared library on x86-64-v3' is_taken_on Haswell "$with_avx2/$soname"
+check_libraries
 check 'the headers' diff -r "$top/include" "$prefix/include"
 check 'the manual pages' has_pages
 check 'the version of the header, which pkg-config has' \
@@ -302,7 +295,7 @@ check 'a later version by CMake' cmake_refuses "${version%.*}.999"
 check 'another major version by CMake' cmake_refuses $((${version%%.*} + 1)).0
 check 'the programs' programs_run "$prefix/bin"
 for file in "$prefix"/bin/*; do
-    check "${file##*/} below its level" is_refused_below x86-64-v2 "$file" le
+    check "${file##*/} below its level" is_refused_below "$file" le
 done
 
 check 'an unknown option' says 2 'usage: install.sh' "$top/install.sh" --help

@@ -10,7 +10,7 @@ set -uo pipefail
 top=$(cd "$(dirname "$0")/.." && pwd)
 dist=$top/dist
 examples=$top/examples
-assembly=$dist/src/windows-x86-64-v2.s
+assembly=("$dist"/src/{choose.S,windows-x86-64-v{2,3}.s})
 version=$(< "$top/VERSION")
 archive=dethrux-$version-x86_64-windows
 gcc=x86_64-w64-mingw32-gcc
@@ -92,6 +92,23 @@ build_and_check() {
     [ "$status" = 0 ] && [ "$(grep -cxE '[0-9]{3,} passed, 0 failed' "$room/tables")" = 6 ]
 }
 
+# Tests that a library takes the code that the one for Linux takes on this machine, and with a level
+# only the code for that.
+takes_code() {
+    local folder wanted main='#include <dethrux.h>
+        #include <stdio.h>
+        int main(void) { return puts(dethrux_kernel()) < 0; }'
+    gcc "-I$dist/include" "-I$dist/src" -x c - -x assembler-with-cpp "$dist/src/choose.S" \
+        -x none "$dist"/src/linux-x86-64-v{2,3}.s -o "$room/linux" <<< "$main" || return
+    for folder in gcc clang v2; do
+        wanted=x86-64-v2
+        [ $folder = v2 ] || wanted=$("$room/linux")
+        $gcc "-I$dist/include" -x c - -x none "$room/$folder/libdethrux.a" \
+            -o "$room/program.exe" <<< "$main" &&
+            diff <(printf '%s\r\n' "$wanted") <(run "$room/program.exe") || return
+    done
+}
+
 # Compiles a program and compares all that it prints with the block of text of a page. Windows ends
 # lines with CR LF.
 prints_page() {
@@ -120,14 +137,14 @@ imports_memory() {
         diff <(printf '%s\n' msvcrt.dll memcmp memcpy memmove memset) -
 }
 
-# Tests that a static library has the functions of the header, each also with the prefix sysv_, and
-# the entry point of the DLL, and that it calls only functions that copy, move, fill and compare
-# memory.
+# Tests that a static library has the functions of the header, each also with the prefix sysv_ and
+# for each level, except dethrux_kernel, and the entry point of the DLL, and that it calls only
+# functions that copy, move, fill and compare memory.
 has_header() {
     x86_64-w64-mingw32-nm -g "$1" > "$room/names" &&
         sed -n 's/.* [TDBR] //p' "$room/names" | sort > "$room/defined" &&
         { cat "$room/declared"
-            sed 's/^/sysv_/' "$room/declared"
+            sed '/_kernel$/d; s/.*/sysv_&\n&_v2\n&_v3/' "$room/declared"
             printf 'sysv_%s\n' memcmp memcpy memmove memset
             echo dethrux_dll_entry; } | sort | diff - "$room/defined" &&
         sed -n 's/.* U //p' "$room/names" | sort -u | comm -23 - "$room/defined" |
@@ -139,7 +156,7 @@ has_header() {
 # Writes the calls of the caller that watches registers, one for each function of the header, with
 # arguments by the types of its parameters.
 write_watched() {
-    local calls='s/.*dethrux\.h:.* extern (.*) (dethrux_[a-z0-9_]+) \((.*)\);/WATCH(\2|\1|\3);/p'
+    local calls='s/.*dethrux\.h:.* extern (.*[a-z*]) ?(dethrux_[a-z0-9_]+) \((.*)\);/WATCH(\2|\1|\3);/p'
     gcc -fsyntax-only -aux-info "$room/prototypes" -x c "$dist/include/dethrux.h" &&
         sed -nE "$calls" "$room/prototypes" | sed -E '
             s/\|dethrux_[a-z]+\|/, RESULT, /; s/\|.*\|/, /; s/, void\)/, 0)/
@@ -158,7 +175,7 @@ write_watched() {
 # Compiles a caller that watches registers, with a file instead of windows.c, and runs it.
 keeps_registers() {
     compiler "$1" -std=c99 -O2 -Wall -Wextra -Werror "-I$dist/include" "-I$room" \
-        "$top/packaging/test/registers.c" "$2" "$assembly" -o "$room/program.exe" &&
+        "$top/packaging/test/registers.c" "$2" "${assembly[@]}" -o "$room/program.exe" &&
         run "$room/program.exe"
 }
 
@@ -173,14 +190,14 @@ sees_register() {
     $gcc -O2 "-I$dist/include" -S "$dist/src/windows.c" -o "$room/wrapper.s" &&
         sed -E "/movups\s.*\(%rsp\), %$1\$/d; s/popq\s+%$1\$/popq %rax/" "$room/wrapper.s" \
             > "$room/planted.s" && ! cmp -s "$room/wrapper.s" "$room/planted.s" &&
-        refuses "dethrux_to_utf8 changes $1" keeps_registers gcc "$room/planted.s"
+        refuses " changes $1" keeps_registers gcc "$room/planted.s"
 }
 
-# Tests that the tables see it if windows.c, after this edit, passes other arguments.
+# Tests that the tables see it if windows.c, after this edit of its list, passes other arguments.
 sees_arguments() {
-    sed "$1" "$dist/src/windows.c" > "$room/planted.c" &&
-        ! cmp -s "$dist/src/windows.c" "$room/planted.c" &&
-        $gcc -O0 "-I$dist/include" "$examples/c/check.c" "$room/planted.c" "$assembly" \
+    sed "$1" "$dist/src/calls.inc" > "$room/calls.inc" && cp "$dist/src/windows.c" "$room/" &&
+        ! cmp -s "$dist/src/calls.inc" "$room/calls.inc" &&
+        $gcc -O0 "-I$dist/include" "$examples/c/check.c" "$room/windows.c" "${assembly[@]}" \
             -o "$room/program.exe" &&
         refuses ' passed, ' run "$room/program.exe" "$top"/cases/*.txt &&
         ! grep -F ' passed, 0 failed' "$room/refused"
@@ -212,8 +229,8 @@ int main(int count, char **words) {
 # Tests that a program for which there is no memory ends with its message.
 tells_memory() {
     sed -E 's/block\((malloc|realloc)\(.*\)\);/block(NULL);/' "$dist/src/programs/system.c" \
-        > "$room/planted.c" && $gcc -O2 -municode "$room/planted.c" "$room/gcc/utf16_cat.o" \
-        -o "$room/program.exe" || return
+        > "$room/planted.c" && $gcc -O2 -municode "$room/planted.c" "$room/gcc/programs/choose.o" \
+        "$room"/gcc/programs/*/utf16_cat.o -o "$room/program.exe" || return
     printf 'h\0i\0' | "$wine" "$room/program.exe" le 2> "$room/line"
     [ $? = 1 ] && diff "$room/line" <(echo 'utf16_cat: out of memory')
 }
@@ -229,21 +246,23 @@ wrapper_takes() {
     done | sort -n | tail -n 1 | awk '{ print $1 + 8 }'
 }
 
+# Tests the stack of the assembly for a level.
 is_below_page() {
     local taken
     taken=$(wrapper_takes)
-    [ "${taken:-0}" -gt 8 ] && "$top/.ci/stack" "$assembly" "$taken"
+    [ "${taken:-0}" -gt 8 ] && "$top/.ci/stack" "${assembly[$1 - 1]}" "$taken"
 }
 
 # Tests that .ci/stack refuses a copy of the assembly after this edit.
 sees_stack() {
-    sed -E "$2" "$assembly" > "$room/planted.s" && ! cmp -s "$assembly" "$room/planted.s" &&
+    sed -E "$2" "${assembly[1]}" > "$room/planted.s" && ! cmp -s "${assembly[1]}" "$room/planted.s" &&
         refuses "$1" "$top/.ci/stack" "$room/planted.s"
 }
 
 check_stack() {
     local first='/^L_0:/a\'
-    check 'the stack of a call' is_below_page
+    check 'the stack of a call, x86-64-v2' is_below_page 2
+    check 'the stack of a call, x86-64-v3' is_below_page 3
     check 'a frame of 5000 bytes' sees_stack 'bytes of stack' \
         '0,/subq\t\$16, %rsp/s//subq\t$5000, %rsp/; 0,/addq\t\$16, %rsp/s//addq\t$5000, %rsp/'
     check 'a frame by a negative number' sees_stack 'bytes of stack' \
@@ -431,8 +450,9 @@ links_for_msvc() {
     printf 'EXPORTS\nmemcmp\nmemcpy\nmemmove\nmemset\n' > msvcrt.def &&
         x86_64-w64-mingw32-dlltool -d msvcrt.def -D msvcrt.dll -l msvcrt.lib &&
         for_msvc -O2 -c "$dist/src/windows.c" -o windows.obj &&
-        for_msvc -c "$assembly" -o assembly.obj &&
-        lld-link /dll /entry:dethrux_dll_entry windows.obj assembly.obj msvcrt.lib \
+        for_msvc -c "${assembly[0]}" -o choose.obj && for_msvc -c "${assembly[1]}" -o v2.obj &&
+        for_msvc -c "${assembly[2]}" -o v3.obj &&
+        lld-link /dll /entry:dethrux_dll_entry windows.obj choose.obj v2.obj v3.obj msvcrt.lib \
             "/def:$dist/src/dethrux.def" /out:dethrux.dll /implib:dethrux.lib &&
         dll_exports_header dethrux.dll && imports_memory dethrux.dll
 }
@@ -457,6 +477,8 @@ check 'Wine' run wineboot -i || finish
 check 'the tables by gcc' build_and_check gcc CC=$gcc || finish
 check 'the tables by clang' build_and_check clang "CC=clang --target=x86_64-w64-mingw32" \
     "LDFLAGS=-L$mingw" || finish
+check 'the tables for x86-64-v2' build_and_check v2 CC=$gcc LEVEL=x86-64-v2
+check 'the code that is taken' takes_code
 check 'a program that fails' passes_status
 check 'swapped texts' sees_arguments \
     's/(\(first_order, .*\), \(second_order, .*\)))$/(\2, \1))/'

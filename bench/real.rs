@@ -23,6 +23,7 @@ type Call = fn(bool, &[u8], &mut [u8]) -> usize;
 
 library!(v2, "v2_");
 library!(v3, "v3_");
+library!(chosen, "chosen_");
 #[cfg(before)]
 library!(before, "before_");
 
@@ -32,7 +33,7 @@ fn units(raw: &[u8]) -> &[u16] {
     units
 }
 
-// v3 is last and clears the upper halves of the vectors. simdutf's kernels for 256 and 512 bits do
+// v3 is late and clears the upper halves of the vectors. simdutf's kernels for 256 and 512 bits do
 // not, and after them code for 128 bits takes up to twice as long.
 const VALIDATE: &[(&str, Call)] = &[
     ("v2", |big, raw, _| v2::valid_up_to(big, raw)),
@@ -42,6 +43,7 @@ const VALIDATE: &[(&str, Call)] = &[
     ("simdutf haswell", |big, raw, _| 2 * simdutf::haswell::valid_up_to(big, units(raw))),
     ("simdutf icelake", |big, raw, _| 2 * simdutf::icelake::valid_up_to(big, units(raw))),
     ("v3", |big, raw, _| v3::valid_up_to(big, raw)),
+    ("chosen", |big, raw, _| chosen::valid_up_to(big, raw)),
 ];
 
 const TO_UTF8: &[(&str, Call)] = &[
@@ -52,6 +54,7 @@ const TO_UTF8: &[(&str, Call)] = &[
     ("simdutf haswell", |big, raw, to| simdutf::haswell::to_utf8(big, units(raw), to)),
     ("simdutf icelake", |big, raw, to| simdutf::icelake::to_utf8(big, units(raw), to)),
     ("v3", v3::to_utf8),
+    ("chosen", chosen::to_utf8),
 ];
 
 const FROM_UTF8: &[(&str, Call)] = &[
@@ -62,6 +65,7 @@ const FROM_UTF8: &[(&str, Call)] = &[
     ("simdutf haswell", |big, text, to| 2 * simdutf::haswell::from_utf8(big, text, to)),
     ("simdutf icelake", |big, text, to| 2 * simdutf::icelake::from_utf8(big, text, to)),
     ("v3", v3::from_utf8),
+    ("chosen", chosen::from_utf8),
 ];
 
 // Returns the text of a file in UTF-8, cut to at most `MOST` bytes of UTF-16.

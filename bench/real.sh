@@ -3,11 +3,11 @@
 # 128, 256 and 512 bits: `SIMDUTF=FOLDER real.sh TEXTS`. A kernel that this processor cannot run is
 # left out. SIMDUTF has simdutf.cpp and simdutf.h. TEXTS has a file NAME.txt in UTF-8 for each text,
 # of which at most 1 MiB of UTF-16 is read. A text is converted line by line, and in pieces of 4 KiB
-# and of 64 KiB. The library is built from dist/, for x86-64-v2 and for x86-64-v3. BEFORE may name
-# another checkout of this repository with its programs built: they and its library for x86-64-v2
-# are timed in the same run. Everything is linked at two places, 16 bytes apart, and the better time
-# counts, since a branch may cross a 32-byte boundary at only one of them. The table is written to
-# bench/out/real.md.
+# and of 64 KiB. The library is built from dist/: its code for x86-64-v2, its code for x86-64-v3, and
+# the library as it is installed, which chooses one of them. BEFORE may name another checkout of this
+# repository: its programs and its code for x86-64-v2 are timed in the same run. Everything is linked
+# at two places, 16 bytes apart, and the better time counts, since a branch may cross a 32-byte
+# boundary at only one of them. The table is written to bench/out/real.md.
 set -eu
 usage() { echo "usage: SIMDUTF=FOLDER [BEFORE=CHECKOUT] real.sh TEXTS" >&2; exit 2; }
 [ $# = 1 ] && [ -n "${SIMDUTF:-}" ] || usage
@@ -16,29 +16,29 @@ texts=$(cd "$1" && pwd)
 simdutf=$(cd "$SIMDUTF" && pwd)
 before=${BEFORE:+$(cd "$BEFORE" && pwd)}
 cd "$(dirname "$0")"
-kit=$(dirname "$(rt doc)")
 room=$(mktemp -d)
 trap 'rm -rf "$room"' EXIT
 mkdir -p out
 
-for program in utf16_cat utf16_enc; do
-    (cd ../crates/$program && rt run -- le < /dev/null > "$room/said" 2>&1) || { cat "$room/said" >&2; exit 1; }
-done
-# Builds the library of a checkout for a level. Its three calls get other names, which begin with a
-# word, and its other symbols become local: build WORD CHECKOUT LEVEL.
+# Builds the library of a checkout, or its code for a level. Its three calls get other names, which
+# begin with a word, and its other symbols become local: build WORD CHECKOUT END OBJECT.. . END is
+# what the names end with.
 build() {
-    local call words=()
+    local call words=() folder
     make -s -C "$2/dist" > "$room/said" 2>&1 || { cat "$room/said" >&2; exit 1; }
+    folder=$(make -s -C "$2/dist" folder)
     for call in validate to_utf8 from_utf8; do
-        words+=(--redefine-sym "dethrux_$call=$1_$call" --keep-global-symbol "$1_$call")
+        words+=(--redefine-sym "dethrux_$call$3=$1_$call" --keep-global-symbol "$1_$call")
     done
-    objcopy "${words[@]}" "$(make -s -C "$2/dist" folder)/linux-$3.o" "$room/$1.o"
+    (cd "$folder" && ld -r "${@:4}" -o "$room/whole.o")
+    objcopy "${words[@]}" "$room/whole.o" "$room/$1.o"
 }
-build v2 .. x86-64-v2
-build v3 .. x86-64-v3
-libraries=("$room/v2.o" "$room/v3.o")
+build v2 .. _v2 linux-x86-64-v2.o
+build v3 .. _v3 linux-x86-64-v3.o
+build chosen .. '' choose.o linux-x86-64-v2.o linux-x86-64-v3.o
+libraries=("$room/v2.o" "$room/v3.o" "$room/chosen.o")
 if [ -n "$before" ]; then
-    build before "$before" x86-64-v2
+    build before "$before" _v2 linux-x86-64-v2.o
     libraries+=("$room/before.o")
 fi
 
@@ -65,7 +65,9 @@ for space in 16 32 16 32 16 32; do
     for checkout in .. ${before:+"$before"}; do
         for program in utf16_cat utf16_enc; do
             programs+=("$room/${#programs[@]}")
-            gcc "$room/pad.o" "$checkout/crates/$program/out/$program.o" "$kit/c/libos_c.a" "$kit/c/liblibc_c.a" -o "${programs[-1]}"
+            folder=$(make -s -C "$checkout/dist" folder)
+            gcc "$room/pad.o" "$folder"/programs/{choose,linux-*/$program}.o "$folder/system.o" \
+                -o "${programs[-1]}"
         done
     done
     "$room/real_programs" "$texts" "$room" "$room" "${programs[@]}" >> "$room/lines"
@@ -88,14 +90,16 @@ function cells(row, order) {
     return cell(row, order, "v2") " | " cell(row, order, "v2", "simdutf westmere") \
         " | " cell(row, order, "v2", "simdutf haswell") " | " cell(row, order, "v3") \
         " | " cell(row, order, "v3", "simdutf haswell") " | " cell(row, order, "v3", "simdutf icelake") \
+        " | " cell(row, order, "chosen", "v3") \
         " | " cell(row, order, "v2", "copy") \
         " | " cell(row, order, "v2", "before")
 }
 END {
-    columns = "v2, GB/s | to 128 bits | to 256 bits | v3, GB/s | to 256 bits | to 512 bits | to a copy | to before |"
-    print "Little endian first, then big endian. v2 and v3 are the library for x86-64-v2 and for x86-64-v3."
+    columns = "v2, GB/s | to 128 bits | to 256 bits | v3, GB/s | to 256 bits | to 512 bits"
+    columns = columns " | the library to v3 | v2 to a copy | v2 to before |"
+    print "Little endian first, then big endian. v2 and v3 are the code for x86-64-v2 and for x86-64-v3."
     print "\n| Call | Text | Form | " columns " " columns
-    print "|---|---|---|---:|---:|---:|---:|---:|---:|---:|---:|---:|---:|---:|---:|---:|---:|---:|---:|"
+    print "|---|---|---|---:|---:|---:|---:|---:|---:|---:|---:|---:|---:|---:|---:|---:|---:|---:|---:|---:|---:|"
     for (i = 1; i <= n; i++) {
         split(rows[i], name, FS)
         printf "| `%s` | %s | %s | %s | %s |\n", name[1], name[2], name[3], cells(rows[i], "le"), cells(rows[i], "be")

@@ -5,7 +5,7 @@
 #
 #     packaging/release.sh [FOLDER [PART..]]
 #
-#     linux      dethrux-VERSION-x86_64-linux-gnu.tar.gz: Linux on x86-64-v2 and x86-64-v3
+#     linux      dethrux-VERSION-x86_64-linux-gnu.tar.gz: Linux on x86-64
 #     arm64      dethrux-VERSION-aarch64-linux-gnu.tar.gz: Linux on ARM64
 #     windows    dethrux-VERSION-x86_64-windows.zip: Windows, with MinGW's gcc
 #     dist       dethrux-VERSION-dist.tar.gz: the assembly, for anyone with a C compiler
@@ -89,7 +89,7 @@ pack() {
 built() {
     need "$2"
     name=dethrux-$version-$1
-    run make -C "$top/dist" "CC=$2" LEVEL=x86-64-v2 LIBDIR=lib stage "STAGE=$room/$name"
+    run make -C "$top/dist" "CC=$2" LEVEL= LIBDIR=lib stage "STAGE=$room/$name"
     [[ $1 != *-windows ]] || rm -r "$room/$name/share"
     copy "${@:3}"
     cp "$here/README.md" "$room/$name/"
@@ -99,7 +99,7 @@ built() {
 make_linux() {
     built x86_64-linux-gnu "${CC:-cc}" install.sh docs/PYTHON.md \
         bindings/python/{MANIFEST.in,README.md,pyproject.toml,setup.py,src} \
-        dist/src/linux-x86-64-v{2,3}.s
+        dist/src/{choose.S,calls.inc,linux-x86-64-v{2,3}.s}
 }
 
 make_arm64() {

@@ -40,11 +40,9 @@ make_wheel() {
 
 # Prints the newest version of glibc that the wheel needs.
 needed() {
-    local extension
     python3 -m zipfile -e "$room"/made/*.whl "$room/unpacked"
-    find "$room/unpacked" -name '*.so' | while read -r extension; do
-        readelf --version-info "$extension"
-    done | grep -oE 'GLIBC_[0-9A-Z_.]+' | sort -V | tail -n 1
+    readelf --version-info "$room"/unpacked/dethrux/*.so | grep -oE 'GLIBC_[0-9A-Z_.]+' |
+        sort -V | tail -n 1
 }
 
 if [ $# -gt 1 ] || [[ ${1-.} == -* ]]; then

@@ -1,8 +1,4 @@
-"""Builds the package: an extension in C, into which the library's assembly is linked.
-
-For Linux on x86-64 there are two, for x86-64-v2 and x86-64-v3: `_load.py` chooses one. CC names
-another compiler.
-"""
+"""Builds the package: an extension in C with the library's assembly. CC names another compiler."""
 
 import os
 import shlex
@@ -21,19 +17,17 @@ HERE = Path(__file__).resolve().parent
 # around it belongs to something else.
 TOP = HERE if (HERE / "PKG-INFO").is_file() else HERE.parent.parent
 DIST = TOP / "dist" / "src"
-NAMES = ["dethrux._native", "dethrux._x86_64_v3._native"]
-# The assembly of each machine, in the order of the names.
+# The assembly of each machine. On macOS it is that of each architecture that Python is built for.
 ASSEMBLY = {
-    "x86_64": ["linux-x86-64-v2.s", "linux-x86-64-v3.s"],
-    "aarch64": ["linux-aarch64.s"],
+    "x86_64": ["choose.S", "linux-x86-64-v2.s", "linux-x86-64-v3.s"],
+    "aarch64": ["choose.S", "linux-aarch64.s"],
+    "macos": ["choose.S", "macos.S", "macos-v3.S"],
 }
-# This includes the assembly of each architecture that Python's own build was for.
-MACOS = "macos.S"
+INCLUDED = ["calls.inc", "macos-aarch64.s", "macos-x86-64-v2.s", "macos-x86-64-v3.s"]
 LICENCES = ["LICENSE-MIT", "LICENSE-APACHE", "THIRD-PARTY.md"]
 # What a source distribution has from around this folder.
 AROUND = [*LICENCES, "include/dethrux.h"]
-AROUND += [f"dist/src/{name}" for found in ASSEMBLY.values() for name in found]
-AROUND += [f"dist/src/{name}" for name in (MACOS, "macos-aarch64.s", "macos-x86-64-v2.s")]
+AROUND += [f"dist/src/{name}" for name in sorted({*sum(ASSEMBLY.values(), INCLUDED)})]
 SOURCES = "src/dethrux"
 # These come after the options of Python's own build. Other packages may have the library too, so
 # the map hides all but the function that Python calls.
@@ -73,7 +67,7 @@ def assembly():
     if target is None:
         fail(f"{shlex.join(compiler())} failed: set CC to a gcc or clang of this machine")
     if sys.platform == "darwin" and "-apple-" in target:
-        return [MACOS]
+        return ASSEMBLY["macos"]
     machine = target.split("-")[0]
     if machine not in ASSEMBLY or "-linux" not in target or "x32" in target:
         fail(f"there is no assembly for {target}: only for Linux and macOS on x86-64 and ARM64")
@@ -85,39 +79,25 @@ def padding():
 
     On processors from Skylake to Cascade Lake these slow their loops down.
     """
-    empty = ["-c", "-x", "assembler", os.devnull, "-o", os.devnull]
+    # For ARM64 clang only warns of it.
+    empty = ["-Werror", "-c", "-x", "assembler", os.devnull, "-o", os.devnull]
     options = ["-Wa,-mbranches-within-32B-boundaries", "-mbranches-within-32B-boundaries"]
     return [option for option in options if call(option, *empty) is not None][:1]
 
 
 class Build(build_ext):
-    """Assembles the library, and links it into each extension."""
-
-    def run(self):
-        self.assembly = assembly()
-        # In the folder of the sources there is only the first extension.
-        self.extensions = self.extensions[: 1 if self.inplace else len(self.assembly)]
-        self.force = True
-        super().run()
+    """Assembles the library, and links it into the extension."""
 
     def build_extension(self, extension):
-        if self.assembly == [MACOS]:
-            # Python's own options say for which architectures.
-            self.compiler.src_extensions = [*self.compiler.src_extensions, ".S"]
-            extension.sources.append(str(DIST / MACOS))
-            extension.include_dirs.append(str(DIST))
-            super().build_extension(extension)
-            return
-        at = self.extensions.index(extension)
-        made = Path(self.build_temp, f"{self.assembly[at]}.o")
-        made.parent.mkdir(parents=True, exist_ok=True)
-        self.spawn([*compiler(), *padding(), "-c", str(DIST / self.assembly[at]), "-o", str(made)])
-        extension.extra_objects = [str(made)]
-        if at > 0:
-            # The code in C was compiled for the first one.
-            names = extension.sources
-            extension.extra_objects += self.compiler.object_filenames(names, 0, self.build_temp)
-            extension.sources = []
+        sources = [str(DIST / name) for name in assembly()]
+        self.compiler.src_extensions = [*self.compiler.src_extensions, ".S", ".s"]
+        # Python's own options come first: -g, and some that are only for C, of which clang warns.
+        options = ["-g0", "-w", *padding()]
+        extension.extra_objects = self.compiler.compile(
+            sources, self.build_temp, include_dirs=[str(DIST)], extra_postargs=options
+        )
+        # A header may be newer than what was built before.
+        self.force = True
         super().build_extension(extension)
 
 
@@ -162,13 +142,12 @@ setup(
     zip_safe=False,
     ext_modules=[
         Extension(
-            name,
+            "dethrux._native",
             [f"{SOURCES}/_native.c"],
             include_dirs=[str(TOP / "include")],
             extra_compile_args=COMPILE,
             extra_link_args=LINK,
         )
-        for name in NAMES
     ],
     cmdclass={"build_ext": Build, "sdist": Sources},
 )

@@ -1,12 +1,12 @@
 #!/usr/bin/env bash
 # Installs the package with pip in an empty virtual environment, without network and without rt.
 # There it runs the first program of docs/PYTHON.md, the unit tests, CPython's tests of UTF-16 with
-# these codecs, and the tables of cases, these with the extension for each processor level. It
-# installs the wheel that packaging/wheels.sh makes of the source distribution. mypy checks the
-# types. A tool that is missing is a failure, which names its Debian package. The last line is 'N
-# passed, M failed'. PYTHON names another Python, which has its headers and setuptools; WHEELS names
-# a folder with the wheels of setuptools and of wheel for it, which Python 3.12 and later do not
-# have. DETHRUX_CALLS is how many calls may not take memory (200000).
+# these codecs, and the tables of cases. It installs the wheel that packaging/wheels.sh makes of the
+# source distribution, and calls it on processors of each level. mypy checks the types. A tool that
+# is missing is a failure, which names its Debian package. The last line is 'N passed, M failed'.
+# PYTHON names another Python, which has its headers and setuptools; WHEELS names a folder with the
+# wheels of setuptools and of wheel for it, which Python 3.12 and later do not have. DETHRUX_CALLS
+# is how many calls may not take memory (200000).
 set -uo pipefail
 here=$(cd "$(dirname "${BASH_SOURCE[0]}")" && pwd)
 top=$(cd "$here/../.." && pwd)
@@ -92,14 +92,6 @@ runs_all() {
     diff <(printf '%s.py\n' "${modules[@]}") <(cd "$here/tests" && ls test_*.py)
 }
 
-# The tables of cases with the extension that every processor runs. test_calls has the other one.
-cases_of_the_base() {
-    local package
-    package=$("$room/venv/bin/python" -c 'import dethrux; print(*dethrux.__path__)') &&
-        cp -R "$package" "$room/base/" && rm -r "$room/base/dethrux/_x86_64_v3" &&
-        PYTHONPATH=$room/base "$room/venv/bin/python" "$top/examples/c/check.py"
-}
-
 # Makes the source distribution, and the wheel, which pip makes of it.
 make_wheels() {
     WHEELS=$WHEELS PATH=$tools:$PATH "$top/packaging/wheels.sh" "$room/wheels"
@@ -119,15 +111,13 @@ END
         diff <(ls "$room"/left/*) "$room/paths" && cmp "$room"/{left,wheels}/*.tar.gz
 }
 
-# Whether Python takes this extension from an installed folder, and calls it. Words after it are
-# those that run Python.
-takes_extension() {
-    local folder=$1 place=$2
-    shift 2
-    PYTHONPATH=$room/$folder "$@" "$room/venv/bin/python" -c '
+# Whether Python takes this code from the wheel, and calls it. Words after it are those that run
+# Python.
+takes() {
+    PYTHONPATH=$room/wheel "${@:2}" "$room/venv/bin/python" -c '
 import dethrux
 assert dethrux.to_utf8(b"\0\xe9", "big").output == "é".encode()
-print(dethrux._native.__file__)' | diff - <(echo "$room/$folder/dethrux/$place$extension")
+print(*dethrux.__path__, dethrux.kernel())' | diff - <(echo "$room/wheel/dethrux $1")
 }
 
 # Whether the extension compiles without a warning, with both compilers.
@@ -144,19 +134,18 @@ compile_strictly() {
 
 # What packaging/wheels.sh makes.
 test_wheels() {
-    local best='' tools=$room/bin extension
-    extension=_native$("$python" -c 'import sysconfig
-print(sysconfig.get_config_var("EXT_SUFFIX"))')
+    local tools=$room/bin kernel
+    kernel=$("$room/venv/bin/python" -c 'import dethrux; print(dethrux.kernel())')
     mkdir "$tools" && ln -s "$(command -v "$python")" "$tools/python3"
-    ! grep -q -w avx2 /proc/cpuinfo || best=_x86_64_v3/
     check 'the wheel and the sources' make_wheels || return
     check 'a wheel for a newer glibc' leaves_out_wheels
     check 'pip install of the wheel' \
         install_with_pip --target "$room/wheel" "$room"/wheels/*.whl
-    check 'the extension of the wheel' takes_extension wheel "$best"
+    check 'the code of the wheel' takes "$kernel"
     [ "$(uname -m)" != x86_64 ] || {
         check 'an emulator' has qemu-x86_64 qemu-user
-        check 'the wheel without AVX2' takes_extension wheel '' qemu-x86_64 -cpu Nehalem
+        check 'the wheel without AVX2' takes x86-64-v2 qemu-x86_64 -cpu Nehalem
+        check 'the wheel with AVX2' takes x86-64-v3 qemu-x86_64 -cpu Haswell
     }
 }
 
@@ -180,8 +169,7 @@ check 'each module of tests' runs_all
 for module in "${modules[@]}"; do
     unit_tests $module
 done
-mkdir "$room/base"
-[ "$(uname -m)" != x86_64 ] || check 'the tables of cases, x86-64-v2' cases_of_the_base
+check 'the tables of cases' "$room/venv/bin/python" "$top/examples/c/check.py"
 check 'the warnings of the C compiler' compile_strictly
 test_wheels
 check 'mypy --strict' check_types

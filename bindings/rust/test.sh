@@ -3,8 +3,8 @@
 # documentation with each set of features, the page docs/RUST.md in an empty project, how the build
 # script finds or compiles the library and what it refuses, the package of dethrux, documentation
 # without the library, formatting and lints. With --tests it skips the last two. The last line is
-# 'N passed, M failed'. It needs cargo, cc, pkg-config, python3, the library
-# (crates/dethrux/out/libdethrux.a, or the folder that DETHRUX_LIB_DIR names), and the crates cc,
+# 'N passed, M failed'. The library is what dist/Makefile builds, or is in the folder that
+# DETHRUX_LIB_DIR names. It needs cargo, cc, make, pkg-config, python3, and the crates cc,
 # pkg-config and byteorder as Debian packages them. What is missing is a failure, which names its
 # Debian package.
 set -uo pipefail
@@ -77,9 +77,7 @@ test_dethrux() {
 
 # The tests over the shared library.
 test_dynamic() {
-    mkdir "$room/shared"
-    cc -shared -o "$room/shared/libdethrux.so" \
-        -Wl,--whole-archive "$library" -Wl,--no-whole-archive || return
+    mkdir "$room/shared" && cp "${library%.a}".so* "$room/shared" || return
     DETHRUX_LIB_DIR=$room/shared on_crate dethrux build --features dynamic || return
     DETHRUX_LIB_DIR=$room/shared LD_LIBRARY_PATH=$room/shared \
         on_crate dethrux test --features dynamic --test std --test adapters --test edges \
@@ -201,12 +199,12 @@ compiles() {
 # Which library the build script takes, and that it looks again after a change. When it must take a
 # library, the ones that come after it in the search have another version.
 test_build_script() {
-    local named=$room/named clone=$room/clone/crates/dethrux/out empty=$room/empty
+    local named=$room/named empty=$room/empty dist=$room/clone/dist
     local known="PKG_CONFIG_PATH=$room/pkgconfig" said features=''
-    mkdir -p "$named" "$clone" "$empty" "$room/pkgconfig" "$room/installed"
+    mkdir -p "$named" "$empty" "$room/pkgconfig" "$room/installed"
     printf 'libdir=%s\nprefix=/\nName: dethrux\nDescription: UTF-16\nVersion: 0.2.0\n' \
         "$room/installed" > "$room/pkgconfig/dethrux.pc"
-    cp "$library" "$named" && put_other "$room/installed" && put_other "$clone"
+    cp "$library" "$named" && put_other "$room/installed"
     count 'the library that is named' build_copy "$known" "DETHRUX_LIB_DIR=$named"
     count 'a folder without the library' refuses \
         "DETHRUX_LIB_DIR is $empty, which has no libdethrux.a: point it to one, or unset it" \
@@ -222,18 +220,14 @@ test_build_script() {
     count 'a file that is not a library' refuses "$said" "$known" "DETHRUX_LIB_DIR=$named"
     cp "$library" "$room/installed"
     count 'the installed library' build_copy "$known"
-    rm "$clone/libdethrux.a"
     said='there is no libdethrux.a: install libdethrux, or set DETHRUX_LIB_DIR to its folder'
     count 'no library' refuses "$said" PKG_CONFIG_PATH=
     count 'the documentation on docs.rs, without a library' document_copy DOCS_RS=1
     count 'no library after the documentation' refuses "$said" PKG_CONFIG_PATH=
     count 'the documentation with its cfg, without a library' \
         document_copy 'RUSTFLAGS=--cfg docsrs'
-    cp "$library" "$clone"
-    count 'the library of the clone' build_copy PKG_CONFIG_PATH=
-    ln -s "$top/dist" "$room/clone/dist"
-    count 'the library of the clone before the assembly' fails compiles PKG_CONFIG_PATH=
-    rm "$clone/libdethrux.a"
+    mkdir "$dist" && cp -r "$top"/dist/{src,include} "$dist"
+    count 'the installed library before the assembly' fails compiles "$known"
     count 'the assembly' compiles PKG_CONFIG_PATH=
     features=bundled
     put_other "$room/installed"
@@ -248,6 +242,8 @@ test_build_script() {
     count 'a compiler that fails' refuses "$said" PKG_CONFIG_PATH= 'CC=false -v'
     features=bundled,dynamic
     count 'the assembly instead of a shared library' compiles PKG_CONFIG_PATH=
+    rm "$dist/src/calls.inc"
+    count 'the assembly after a change' refuses "$said" PKG_CONFIG_PATH=
     features=dynamic
     said='there is no libdethrux.so: install libdethrux, or set DETHRUX_LIB_DIR to its folder'
     count 'no shared library' refuses "$said" PKG_CONFIG_PATH=
@@ -307,10 +303,11 @@ makes() {
         [ "$(grep -c "file format ${format#*:}\$" "$room/formats")" = "$(wc -w <<< "$files")" ]
 }
 
-# Whether an object file that the build script made is the one that dist/Makefile makes.
+# Whether the object files that the build script made are the ones that dist/Makefile makes.
 is_of_dist() {
-    make -s -C "$top/dist" CC=x86_64-linux-gnu-gcc BUILD="$room/dist" &&
-        cmp "$room/dist/$1" "$(find "$room/made" -name "*$1")"
+    local of_dist=$room/x86-64/libdethrux.a
+    make -s -C "$top/dist" CC=x86_64-linux-gnu-gcc BUILD="${of_dist%/*}" "$of_dist" &&
+        cmp <(ar p "$of_dist") <(ar p "$room/made/libdethrux.a")
 }
 
 # A program with the library that the build script made for ARM64, and one for Windows, which is
@@ -352,28 +349,25 @@ test_targets() {
     local folder=$here/dethrux feature=BUNDLED
     build_script=$(find "$CARGO_TARGET_DIR" -path '*/dethrux-*/build-script-build' | head -n 1)
     test_other_targets
-    for target in x86_64-unknown-linux-{gnu,musl}; do
-        count "$target" makes $target x86_64-linux-gnu:elf64-x86-64 linux-x86-64-v2.o
+    for target in x86_64-unknown-linux-{musl,gnu}; do
+        count "$target" makes $target x86_64-linux-gnu:elf64-x86-64 \
+            'choose.o linux-x86-64-v2.o linux-x86-64-v3.o'
     done
-    count 'x86-64-v3' makes x86_64-unknown-linux-gnu x86_64-linux-gnu:elf64-x86-64 \
-        linux-x86-64-v3.o CARGO_CFG_TARGET_FEATURE="$(rustc --print cfg --target \
-            x86_64-unknown-linux-gnu -C target-cpu=x86-64-v3 |
-            sed -n 's/^target_feature="\(.*\)"$/\1/p' | paste -sd ,)"
-    count 'the object file of dist/' is_of_dist linux-x86-64-v3.o
+    count 'the object files of dist/' is_of_dist
     for target in aarch64-unknown-linux-{musl,gnu}; do
-        count "$target" makes $target $arm:elf64-littleaarch64 linux-aarch64.o
+        count "$target" makes $target $arm:elf64-littleaarch64 'choose.o linux-aarch64.o'
     done
     count 'a program for ARM64' runs_on_arm
     count 'x86_64-pc-windows-gnu' makes x86_64-pc-windows-gnu $windows:pe-x86-64 \
-        'windows-x86-64-v2.o windows.o'
+        'choose.o windows-x86-64-v2.o windows-x86-64-v3.o windows.o'
     count 'a program for Windows' links_for_windows
     count 'x86_64-apple-darwin' makes x86_64-apple-darwin 'llvm:mach-o 64-bit x86-64' \
-        macos-x86-64-v2.o CC=clang CARGO_FEATURE_DYNAMIC=
+        'choose.o macos-x86-64-v2.o macos-x86-64-v3.o' CC=clang CARGO_FEATURE_DYNAMIC=
     count 'aarch64-apple-darwin' makes aarch64-apple-darwin 'llvm:mach-o arm64' \
-        macos-aarch64.o CC=clang
+        'choose.o macos-aarch64.o' CC=clang
 }
 
-library=${DETHRUX_LIB_DIR:-$top/crates/dethrux/out}/libdethrux.a
+library=$(realpath -m "${DETHRUX_LIB_DIR:-$room/dist}")/libdethrux.a
 for pair in cargo:cargo rustc:rustc cc:gcc ar:binutils make:make pkg-config:pkg-config \
     cmp:diffutils python3:python3 \
     x86_64-linux-gnu-gcc:gcc aarch64-linux-gnu-gcc:gcc-aarch64-linux-gnu \
@@ -386,7 +380,9 @@ for crate in cc pkg-config byteorder; do
     compgen -G "$registry/$crate-[0-9]*" > /dev/null ||
         fail "there is no crate $crate: apt-get install librust-$crate-dev"
 done
-[ -f "$library" ] || fail "there is no $library: (cd crates/dethrux && rt lib)"
+[ -n "${DETHRUX_LIB_DIR:-}" ] ||
+    count 'the library' make -s -C "$top/dist" BUILD="$room/dist" "$room"/dist/libdethrux.{a,so}
+[ -f "$library" ] || fail "there is no $library"
 if [ $failed = 0 ]; then
     export CARGO_TARGET_DIR=$room/target DETHRUX_LIB_DIR=${library%/*}
     export CARGO_PROFILE_DEV_DEBUG=0 CARGO_INCREMENTAL=0

@@ -10,9 +10,10 @@
  *
  * @par Libraries
  * Link with libdethrux.so (-ldethrux), or with just libdethrux.a. Both are for x86-64-v2 and above
- * (SSE4.2, POPCNT): the loader refuses to start them on an older processor. A program that is
- * linked with -static is not checked: an illegal instruction ends it. On Windows the shared library
- * is dethrux.dll, and no program is checked.
+ * (SSE4.2, POPCNT), and run faster code if the processor has AVX2 (dethrux_kernel). The loader
+ * refuses to start them on an older processor. A program that is linked with -static is not
+ * checked: an illegal instruction ends it. On Windows the shared library is dethrux.dll, and no
+ * program is checked.
  *
  * @par Proofs
  * Proved for all inputs of up to PTRDIFF_MAX bytes: each result is as described, and no call reads
@@ -28,8 +29,9 @@
  * is 0. Null pointers, the macros and the dethrux_u16 calls are tested, not proved.
  *
  * @par Threads
- * The calls share no state, so any call may run in any thread at any time. Only one thread at a
- * time may use a decoder, an encoder, or a buffer that a call writes to.
+ * Any call may run in any thread at any time, also in a signal handler, in a constructor of another
+ * library and in a child after fork. Only one thread at a time may use a decoder, an encoder, or a
+ * buffer that a call writes to.
  *
  * @par Lengths
  * Lengths, offsets and capacities count bytes, with two exceptions. Those of UTF-32 count its code
@@ -332,6 +334,17 @@ typedef struct dethrux_wtf8_encoder {
  * @ingroup dethrux_versions
  */
 DETHRUX_NODISCARD uint32_t dethrux_version(void);
+
+/**
+ * Returns the name of the code that the calls run: "x86-64-v2", "x86-64-v3" or "aarch64".
+ *
+ * On x86-64 it is x86-64-v3 if the processor and the system have all of that level, such as AVX2,
+ * unless the library was built for one level. All calls of a process run the same code. The result
+ * stays valid. It is for reports of bugs and for benchmarks. The library that `rt` builds from the
+ * crate does not have this call.
+ * @ingroup dethrux_versions
+ */
+const char *dethrux_kernel(void);
 
 /**
  * Returns the length of the longest well-formed prefix, and what follows it.

@@ -31803,9 +31803,9 @@ L_83:
 	.zero	4
 	.zero	4
 	.section	.text$096,"xr"
-	.globl	sysv_dethrux_from_utf32_lossy_len
+	.globl	dethrux_from_utf32_lossy_len_v2
 	.p2align	4
-sysv_dethrux_from_utf32_lossy_len:
+dethrux_from_utf32_lossy_len_v2:
 	xorl	%edx, %edx
 	testq	%rdi, %rdi
 	sete	%dl
@@ -32002,9 +32002,9 @@ sysv_dethrux_from_utf32_lossy_len:
 .Lfunc_end84:
 
 	.section	.text$097,"xr"
-	.globl	sysv_dethrux_from_utf8_len
+	.globl	dethrux_from_utf8_len_v2
 	.p2align	4
-sysv_dethrux_from_utf8_len:
+dethrux_from_utf8_len_v2:
 	pushq	%r14
 	pushq	%rbx
 	subq	$40, %rsp
@@ -32128,9 +32128,9 @@ sysv_dethrux_from_utf8_len:
 	.byte	223
 	.byte	191
 	.section	.text$098,"xr"
-	.globl	sysv_dethrux_from_utf8_lossy_len
+	.globl	dethrux_from_utf8_lossy_len_v2
 	.p2align	4
-sysv_dethrux_from_utf8_lossy_len:
+dethrux_from_utf8_lossy_len_v2:
 	pushq	%rbp
 	pushq	%r15
 	pushq	%r14
@@ -32605,9 +32605,9 @@ sysv_dethrux_from_utf8_lossy_len:
 .Lfunc_end86:
 
 	.section	.text$099,"xr"
-	.globl	sysv_dethrux_from_utf8_replacements
+	.globl	dethrux_from_utf8_replacements_v2
 	.p2align	4
-sysv_dethrux_from_utf8_replacements:
+dethrux_from_utf8_replacements_v2:
 	pushq	%r15
 	pushq	%r14
 	pushq	%rbx
@@ -32672,9 +32672,9 @@ sysv_dethrux_from_utf8_replacements:
 .Lfunc_end87:
 
 	.section	.text$100,"xr"
-	.globl	sysv_dethrux_from_wtf8_len
+	.globl	dethrux_from_wtf8_len_v2
 	.p2align	4
-sysv_dethrux_from_wtf8_len:
+dethrux_from_wtf8_len_v2:
 	pushq	%rbp
 	pushq	%r15
 	pushq	%r14
@@ -32758,9 +32758,9 @@ sysv_dethrux_from_wtf8_len:
 .Lfunc_end88:
 
 	.section	.text$101,"xr"
-	.globl	sysv_dethrux_nul_offset
+	.globl	dethrux_nul_offset_v2
 	.p2align	4
-sysv_dethrux_nul_offset:
+dethrux_nul_offset_v2:
 	movq	%rsi, %rax
 	xorl	%r8d, %r8d
 	testq	%rdi, %rdi
@@ -32877,9 +32877,9 @@ sysv_dethrux_nul_offset:
 .Lfunc_end89:
 
 	.section	.text$102,"xr"
-	.globl	sysv_dethrux_shard_offset
+	.globl	dethrux_shard_offset_v2
 	.p2align	4
-sysv_dethrux_shard_offset:
+dethrux_shard_offset_v2:
 	movq	%rdi, %rax
 	cmpq	%rdx, %rsi
 	jbe	.LBB90_5
@@ -32926,9 +32926,9 @@ sysv_dethrux_shard_offset:
 	.byte	15
 	.byte	14
 	.section	.text$103,"xr"
-	.globl	sysv_dethrux_swap_byte_order
+	.globl	dethrux_swap_byte_order_v2
 	.p2align	4
-sysv_dethrux_swap_byte_order:
+dethrux_swap_byte_order_v2:
 	xorl	%eax, %eax
 	testq	%rdi, %rdi
 	sete	%al
@@ -33085,9 +33085,9 @@ sysv_dethrux_swap_byte_order:
 	.long	55296
 	.long	55296
 	.section	.text$104,"xr"
-	.globl	sysv_dethrux_validate_utf32
+	.globl	dethrux_validate_utf32_v2
 	.p2align	4
-sysv_dethrux_validate_utf32:
+dethrux_validate_utf32_v2:
 	movq	%rsi, %rax
 	xorl	%ecx, %ecx
 	testq	%rdi, %rdi
@@ -33173,17 +33173,17 @@ sysv_dethrux_validate_utf32:
 .Lfunc_end92:
 
 	.section	.text$105,"xr"
-	.globl	sysv_dethrux_version
+	.globl	dethrux_version_v2
 	.p2align	4
-sysv_dethrux_version:
+dethrux_version_v2:
 	movl	$2000, %eax
 	retq
 .Lfunc_end93:
 
 	.section	.text$106,"xr"
-	.globl	sysv_dethrux_compare
+	.globl	dethrux_compare_v2
 	.p2align	4
-sysv_dethrux_compare:
+dethrux_compare_v2:
 	pushq	%rbp
 	pushq	%r15
 	pushq	%r14
@@ -33800,9 +33800,9 @@ sysv_dethrux_compare:
 	.byte	255
 	.byte	0
 	.section	.text$107,"xr"
-	.globl	sysv_dethrux_count_chars
+	.globl	dethrux_count_chars_v2
 	.p2align	4
-sysv_dethrux_count_chars:
+dethrux_count_chars_v2:
 	movq	%rdx, %rax
 	xorl	%ecx, %ecx
 	testq	%rsi, %rsi
@@ -34048,9 +34048,9 @@ sysv_dethrux_count_chars:
 .Lfunc_end95:
 
 	.section	.text$108,"xr"
-	.globl	sysv_dethrux_floor_char_boundary
+	.globl	dethrux_floor_char_boundary_v2
 	.p2align	4
-sysv_dethrux_floor_char_boundary:
+dethrux_floor_char_boundary_v2:
 	xorl	%r8d, %r8d
 	testq	%rsi, %rsi
 	sete	%r8b
@@ -34102,9 +34102,9 @@ sysv_dethrux_floor_char_boundary:
 .Lfunc_end96:
 
 	.section	.text$109,"xr"
-	.globl	sysv_dethrux_floor_char_boundary_around
+	.globl	dethrux_floor_char_boundary_around_v2
 	.p2align	4
-sysv_dethrux_floor_char_boundary_around:
+dethrux_floor_char_boundary_around_v2:
 	xorl	%r8d, %r8d
 	testq	%rsi, %rsi
 	sete	%r8b
@@ -34200,9 +34200,9 @@ sysv_dethrux_floor_char_boundary_around:
 	.byte	1
 	.byte	128
 	.section	.text$110,"xr"
-	.globl	sysv_dethrux_is_ascii
+	.globl	dethrux_is_ascii_v2
 	.p2align	4
-sysv_dethrux_is_ascii:
+dethrux_is_ascii_v2:
 	pushq	%rax
 	movl	%edi, %ecx
 	xorl	%edi, %edi
@@ -34285,9 +34285,9 @@ sysv_dethrux_is_ascii:
 .Lfunc_end98:
 
 	.section	.text$111,"xr"
-	.globl	sysv_dethrux_is_char_boundary
+	.globl	dethrux_is_char_boundary_v2
 	.p2align	4
-sysv_dethrux_is_char_boundary:
+dethrux_is_char_boundary_v2:
 	xorl	%r8d, %r8d
 	testq	%rsi, %rsi
 	sete	%r8b
@@ -34343,9 +34343,9 @@ sysv_dethrux_is_char_boundary:
 .Lfunc_end99:
 
 	.section	.text$112,"xr"
-	.globl	sysv_dethrux_make_well_formed
+	.globl	dethrux_make_well_formed_v2
 	.p2align	4
-sysv_dethrux_make_well_formed:
+dethrux_make_well_formed_v2:
 	pushq	%r15
 	pushq	%r14
 	pushq	%r13
@@ -34632,9 +34632,9 @@ sysv_dethrux_make_well_formed:
 	.zero	1
 	.zero	1
 	.section	.text$113,"xr"
-	.globl	sysv_dethrux_to_utf32_lossy_len
+	.globl	dethrux_to_utf32_lossy_len_v2
 	.p2align	4
-sysv_dethrux_to_utf32_lossy_len:
+dethrux_to_utf32_lossy_len_v2:
 	pushq	%rbp
 	pushq	%r15
 	pushq	%r14
@@ -35421,9 +35421,9 @@ sysv_dethrux_to_utf32_lossy_len:
 .Lfunc_end101:
 
 	.section	.text$114,"xr"
-	.globl	sysv_dethrux_to_utf8_lossy_len
+	.globl	dethrux_to_utf8_lossy_len_v2
 	.p2align	4
-sysv_dethrux_to_utf8_lossy_len:
+dethrux_to_utf8_lossy_len_v2:
 	movl	%edi, %eax
 	xorl	%edi, %edi
 	testq	%rsi, %rsi
@@ -35562,9 +35562,9 @@ sysv_dethrux_to_utf8_lossy_len:
 	.zero	1
 	.zero	1
 	.section	.text$115,"xr"
-	.globl	sysv_dethrux_to_utf8_replacements
+	.globl	dethrux_to_utf8_replacements_v2
 	.p2align	4
-sysv_dethrux_to_utf8_replacements:
+dethrux_to_utf8_replacements_v2:
 	pushq	%r15
 	pushq	%r14
 	pushq	%r12
@@ -35845,9 +35845,9 @@ sysv_dethrux_to_utf8_replacements:
 .Lfunc_end103:
 
 	.section	.text$116,"xr"
-	.globl	sysv_dethrux_to_wtf8_len
+	.globl	dethrux_to_wtf8_len_v2
 	.p2align	4
-sysv_dethrux_to_wtf8_len:
+dethrux_to_wtf8_len_v2:
 	movl	%edi, %eax
 	xorl	%edi, %edi
 	testq	%rsi, %rsi
@@ -35924,9 +35924,9 @@ sysv_dethrux_to_wtf8_len:
 	.byte	15
 	.byte	14
 	.section	.text$117,"xr"
-	.globl	sysv_dethrux_to_latin1
+	.globl	dethrux_to_latin1_v2
 	.p2align	4
-sysv_dethrux_to_latin1:
+dethrux_to_latin1_v2:
 	pushq	%rbx
 	movq	%rdi, %rax
 	xorl	%ebx, %ebx
@@ -36181,9 +36181,9 @@ sysv_dethrux_to_latin1:
 .Lfunc_end105:
 
 	.section	.text$118,"xr"
-	.globl	sysv_dethrux_find
+	.globl	dethrux_find_v2
 	.p2align	4
-sysv_dethrux_find:
+dethrux_find_v2:
 	pushq	%rbp
 	pushq	%r15
 	pushq	%r14
@@ -36716,9 +36716,9 @@ sysv_dethrux_find:
 .Lfunc_end106:
 
 	.section	.text$119,"xr"
-	.globl	sysv_dethrux_rfind
+	.globl	dethrux_rfind_v2
 	.p2align	4
-sysv_dethrux_rfind:
+dethrux_rfind_v2:
 	pushq	%rbp
 	pushq	%r15
 	pushq	%r14
@@ -37424,9 +37424,9 @@ sysv_dethrux_rfind:
 	.zero	1
 	.zero	1
 	.section	.text$120,"xr"
-	.globl	sysv_dethrux_inspect
+	.globl	dethrux_inspect_v2
 	.p2align	4
-sysv_dethrux_inspect:
+dethrux_inspect_v2:
 	pushq	%rbp
 	movq	%rsp, %rbp
 	pushq	%r15
@@ -38528,9 +38528,9 @@ sysv_dethrux_inspect:
 	.byte	15
 	.byte	14
 	.section	.text$121,"xr"
-	.globl	sysv_dethrux_decoder_feed
+	.globl	dethrux_decoder_feed_v2
 	.p2align	4
-sysv_dethrux_decoder_feed:
+dethrux_decoder_feed_v2:
 	pushq	%rbp
 	pushq	%r15
 	pushq	%r14
@@ -39952,9 +39952,9 @@ sysv_dethrux_decoder_feed:
 	.byte	15
 	.byte	14
 	.section	.text$122,"xr"
-	.globl	sysv_dethrux_decoder_feed_wtf8
+	.globl	dethrux_decoder_feed_wtf8_v2
 	.p2align	4
-sysv_dethrux_decoder_feed_wtf8:
+dethrux_decoder_feed_wtf8_v2:
 	pushq	%rbp
 	pushq	%r15
 	pushq	%r14
@@ -41362,9 +41362,9 @@ sysv_dethrux_decoder_feed_wtf8:
 .Lfunc_end110:
 
 	.section	.text$123,"xr"
-	.globl	sysv_dethrux_decoder_finish
+	.globl	dethrux_decoder_finish_v2
 	.p2align	4
-sysv_dethrux_decoder_finish:
+dethrux_decoder_finish_v2:
 	movq	%rdi, %rax
 	xorl	%r8d, %r8d
 	testq	%rdx, %rdx
@@ -41408,9 +41408,9 @@ sysv_dethrux_decoder_finish:
 .Lfunc_end111:
 
 	.section	.text$124,"xr"
-	.globl	sysv_dethrux_decoder_finish_wtf8
+	.globl	dethrux_decoder_finish_wtf8_v2
 	.p2align	4
-sysv_dethrux_decoder_finish_wtf8:
+dethrux_decoder_finish_wtf8_v2:
 	movq	%rdi, %rax
 	xorl	%r9d, %r9d
 	testq	%rcx, %rcx
@@ -41530,9 +41530,9 @@ sysv_dethrux_decoder_finish_wtf8:
 .Lfunc_end112:
 
 	.section	.text$125,"xr"
-	.globl	sysv_dethrux_encoder_feed
+	.globl	dethrux_encoder_feed_v2
 	.p2align	4
-sysv_dethrux_encoder_feed:
+dethrux_encoder_feed_v2:
 	pushq	%rbp
 	pushq	%r15
 	pushq	%r14
@@ -42461,9 +42461,9 @@ sysv_dethrux_encoder_feed:
 .Lfunc_end113:
 
 	.section	.text$126,"xr"
-	.globl	sysv_dethrux_encoder_finish
+	.globl	dethrux_encoder_finish_v2
 	.p2align	4
-sysv_dethrux_encoder_finish:
+dethrux_encoder_finish_v2:
 	movq	%rdi, %rax
 	xorl	%edi, %edi
 	testq	%rcx, %rcx
@@ -42507,9 +42507,9 @@ sysv_dethrux_encoder_finish:
 .Lfunc_end114:
 
 	.section	.text$127,"xr"
-	.globl	sysv_dethrux_from_latin1
+	.globl	dethrux_from_latin1_v2
 	.p2align	4
-sysv_dethrux_from_latin1:
+dethrux_from_latin1_v2:
 	pushq	%rbp
 	pushq	%r15
 	pushq	%r14
@@ -42741,9 +42741,9 @@ sysv_dethrux_from_latin1:
 .Lfunc_end115:
 
 	.section	.text$128,"xr"
-	.globl	sysv_dethrux_from_utf32
+	.globl	dethrux_from_utf32_v2
 	.p2align	4
-sysv_dethrux_from_utf32:
+dethrux_from_utf32_v2:
 	pushq	%rbx
 	subq	$32, %rsp
 	movl	%esi, %r10d
@@ -42818,9 +42818,9 @@ sysv_dethrux_from_utf32:
 	.quad	1
 	.quad	2
 	.section	.text$130,"xr"
-	.globl	sysv_dethrux_from_utf32_lossy
+	.globl	dethrux_from_utf32_lossy_v2
 	.p2align	4
-sysv_dethrux_from_utf32_lossy:
+dethrux_from_utf32_lossy_v2:
 	pushq	%r15
 	pushq	%r14
 	pushq	%r13
@@ -42940,9 +42940,9 @@ sysv_dethrux_from_utf32_lossy:
 .Lfunc_end117:
 
 	.section	.text$131,"xr"
-	.globl	sysv_dethrux_from_utf8
+	.globl	dethrux_from_utf8_v2
 	.p2align	4
-sysv_dethrux_from_utf8:
+dethrux_from_utf8_v2:
 	pushq	%r15
 	pushq	%r14
 	pushq	%r13
@@ -43060,9 +43060,9 @@ sysv_dethrux_from_utf8:
 	.long	.LBB118_8-.LJTI118_1
 
 	.section	.text$133,"xr"
-	.globl	sysv_dethrux_from_utf8_lossy
+	.globl	dethrux_from_utf8_lossy_v2
 	.p2align	4
-sysv_dethrux_from_utf8_lossy:
+dethrux_from_utf8_lossy_v2:
 	pushq	%rbp
 	pushq	%r15
 	pushq	%r14
@@ -43300,9 +43300,9 @@ sysv_dethrux_from_utf8_lossy:
 .Lfunc_end119:
 
 	.section	.text$134,"xr"
-	.globl	sysv_dethrux_from_wtf8
+	.globl	dethrux_from_wtf8_v2
 	.p2align	4
-sysv_dethrux_from_wtf8:
+dethrux_from_wtf8_v2:
 	pushq	%rbx
 	subq	$32, %rsp
 	movl	%esi, %r10d
@@ -43385,9 +43385,9 @@ sysv_dethrux_from_wtf8:
 	.quad	-3
 	.quad	-2
 	.section	.text$136,"xr"
-	.globl	sysv_dethrux_from_wtf8_partial
+	.globl	dethrux_from_wtf8_partial_v2
 	.p2align	4
-sysv_dethrux_from_wtf8_partial:
+dethrux_from_wtf8_partial_v2:
 	pushq	%rbx
 	subq	$32, %rsp
 	movl	%esi, %r10d
@@ -43511,9 +43511,9 @@ sysv_dethrux_from_wtf8_partial:
 	.long	.LBB121_11-.LJTI121_2
 
 	.section	.text$138,"xr"
-	.globl	sysv_dethrux_to_utf32
+	.globl	dethrux_to_utf32_v2
 	.p2align	4
-sysv_dethrux_to_utf32:
+dethrux_to_utf32_v2:
 	pushq	%rbx
 	subq	$32, %rsp
 	movl	%esi, %r10d
@@ -43583,9 +43583,9 @@ sysv_dethrux_to_utf32:
 	.long	.LBB122_5-.LJTI122_0
 
 	.section	.text$140,"xr"
-	.globl	sysv_dethrux_to_utf32_lossy
+	.globl	dethrux_to_utf32_lossy_v2
 	.p2align	4
-sysv_dethrux_to_utf32_lossy:
+dethrux_to_utf32_lossy_v2:
 	pushq	%rbp
 	pushq	%r15
 	pushq	%r14
@@ -43749,9 +43749,9 @@ sysv_dethrux_to_utf32_lossy:
 	.byte	15
 	.byte	14
 	.section	.text$141,"xr"
-	.globl	sysv_dethrux_to_utf8
+	.globl	dethrux_to_utf8_v2
 	.p2align	4
-sysv_dethrux_to_utf8:
+dethrux_to_utf8_v2:
 	pushq	%rbp
 	pushq	%r15
 	pushq	%r14
@@ -44182,9 +44182,9 @@ sysv_dethrux_to_utf8:
 	.byte	15
 	.byte	14
 	.section	.text$143,"xr"
-	.globl	sysv_dethrux_to_utf8_lossy
+	.globl	dethrux_to_utf8_lossy_v2
 	.p2align	4
-sysv_dethrux_to_utf8_lossy:
+dethrux_to_utf8_lossy_v2:
 	pushq	%rbp
 	pushq	%r15
 	pushq	%r14
@@ -44786,9 +44786,9 @@ sysv_dethrux_to_utf8_lossy:
 	.byte	15
 	.byte	14
 	.section	.text$144,"xr"
-	.globl	sysv_dethrux_to_utf8_partial
+	.globl	dethrux_to_utf8_partial_v2
 	.p2align	4
-sysv_dethrux_to_utf8_partial:
+dethrux_to_utf8_partial_v2:
 	pushq	%rbp
 	pushq	%r15
 	pushq	%r14
@@ -45326,9 +45326,9 @@ sysv_dethrux_to_utf8_partial:
 .Lfunc_end126:
 
 	.section	.text$145,"xr"
-	.globl	sysv_dethrux_to_wtf8
+	.globl	dethrux_to_wtf8_v2
 	.p2align	4
-sysv_dethrux_to_wtf8:
+dethrux_to_wtf8_v2:
 	pushq	%r15
 	pushq	%r14
 	pushq	%r13
@@ -45569,9 +45569,9 @@ sysv_dethrux_to_wtf8:
 	.long	.LBB127_35-.LJTI127_0
 
 	.section	.text$147,"xr"
-	.globl	sysv_dethrux_to_wtf8_partial
+	.globl	dethrux_to_wtf8_partial_v2
 	.p2align	4
-sysv_dethrux_to_wtf8_partial:
+dethrux_to_wtf8_partial_v2:
 	pushq	%rbx
 	subq	$32, %rsp
 	movl	%esi, %r10d
@@ -45646,9 +45646,9 @@ sysv_dethrux_to_wtf8_partial:
 	.quad	-3
 	.quad	-2
 	.section	.text$149,"xr"
-	.globl	sysv_dethrux_wtf8_encoder_feed
+	.globl	dethrux_wtf8_encoder_feed_v2
 	.p2align	4
-sysv_dethrux_wtf8_encoder_feed:
+dethrux_wtf8_encoder_feed_v2:
 	pushq	%rbp
 	pushq	%r15
 	pushq	%r14
@@ -46187,9 +46187,9 @@ sysv_dethrux_wtf8_encoder_feed:
 	.long	.LBB129_27-.LJTI129_8
 
 	.section	.text$151,"xr"
-	.globl	sysv_dethrux_wtf8_encoder_finish
+	.globl	dethrux_wtf8_encoder_finish_v2
 	.p2align	4
-sysv_dethrux_wtf8_encoder_finish:
+dethrux_wtf8_encoder_finish_v2:
 	pushq	%rbp
 	pushq	%r15
 	pushq	%r14
@@ -46481,9 +46481,9 @@ sysv_dethrux_wtf8_encoder_finish:
 	.zero	1
 	.zero	1
 	.section	.text$153,"xr"
-	.globl	sysv_dethrux_validate
+	.globl	dethrux_validate_v2
 	.p2align	4
-sysv_dethrux_validate:
+dethrux_validate_v2:
 	subq	$24, %rsp
 	movq	%rsi, %rax
 	xorl	%esi, %esi
@@ -46716,9 +46716,9 @@ sysv_dethrux_validate:
 .Lfunc_end131:
 
 	.section	.text$154,"xr"
-	.globl	sysv_dethrux_detect_bom
+	.globl	dethrux_detect_bom_v2
 	.p2align	4
-sysv_dethrux_detect_bom:
+dethrux_detect_bom_v2:
 	cmpq	$1, %rdx
 	ja	.LBB132_2
 	cmpl	$1, %edi

@@ -143,8 +143,9 @@ warns() {
         sort -nu | diff "$room/ignored" -
 }
 
-# The functions whose result may be ignored, and the ones that only the header uses.
-no_result='(swap_byte_order|make_well_formed|u16_bytes|checked_[a-z]+|inner_[a-z0-9_]+)\('
+# The functions whose result may be ignored, and the ones that only the header uses. The library of
+# the crate has no dethrux_kernel.
+no_result='(kernel|swap_byte_order|make_well_formed|u16_bytes|checked_[a-z]+|inner_[a-z0-9_]+)\('
 
 # The names of the other functions that a file calls or declares.
 names() {
@@ -201,7 +202,7 @@ reports() {
 
 # Whether the checks in C name each function of the header.
 checks_all() {
-    grep -oE 'dethrux_[a-z0-9_]+\(' "$top/include/dethrux.h" | tr -d '(' | grep -vE 'u16_bytes|checked_' |
+    grep -oE 'dethrux_[a-z0-9_]+\(' "$top/include/dethrux.h" | tr -d '(' | grep -vE 'kernel|u16_bytes|checked_' |
         sort -u > "$room/declared"
     cat "$here"/{check,units,fixed}.c | grep -oE 'dethrux_[a-z0-9_]+' | sort -u |
         comm -23 "$room/declared" - > "$room/missing"

@@ -16,11 +16,10 @@ from expected import TOP
 PYTHON = TOP / "bindings" / "python"
 VERSION = (TOP / "VERSION").read_text().strip()
 EXTENSION = f"_native{sysconfig.get_config_var('EXT_SUFFIX')}"
-FAST = f"_x86_64_v3/{EXTENSION}"
-# What a source distribution takes from around the folder of the package.
+# What a source distribution takes from around the folder of the package: all but what is for
+# Windows, and the programs.
 AROUND = ["LICENSE-MIT", "LICENSE-APACHE", "THIRD-PARTY.md", "include/dethrux.h"]
-AROUND += [f"dist/src/linux-{it}.s" for it in ("x86-64-v2", "x86-64-v3", "aarch64")]
-AROUND += [f"dist/src/macos{it}" for it in (".S", "-aarch64.s", "-x86-64-v2.s")]
+AROUND += [f"dist/src/{it.name}" for it in (TOP / "dist" / "src").glob("[clm]*.*")]
 # The number of each machine in the header of an ELF file.
 MACHINES = {"x86_64": 62, "aarch64": 183}
 
@@ -64,50 +63,41 @@ class Build(unittest.TestCase):
         return {str(it.relative_to(package)): it for it in package.rglob("*") if it.is_file()}
 
     def assert_extension(self, path, machine):
-        """Test the machine of an extension, and that it has the library in it and hides it."""
+        """Test the marks of an extension, and that it has the library in it and hides it."""
         data = path.read_bytes()
         self.assertEqual(data[:4], b"\x7fELF")
         self.assertEqual(int.from_bytes(data[18:20], "little"), MACHINES[machine])
-        words = ["readelf", "-W", "--dyn-syms", str(path)]
+        words = ["readelf", "-W", "-l", "-n", "--dyn-syms", str(path)]
         run = subprocess.run(words, stdout=subprocess.PIPE, check=True, universal_newlines=True)
         rows = [line.split() for line in run.stdout.splitlines() if re.match(r" +\d+: ", line)]
         defined = [row[7] for row in rows if len(row) > 7 and "UND" != row[6] and row[3] == "FUNC"]
         self.assertEqual(defined, ["PyInit__native"])
         self.assertNotIn("dethrux_", run.stdout)
         self.assertNotIn("dlsym", run.stdout)
+        self.assertRegex(run.stdout, r" GNU_STACK .* RW +0x")
+        # The loader wants this level of the processor. The code finds out if it has more.
+        level = "x86 ISA needed: x86-64-baseline, x86-64-v2\n"
+        self.assertEqual(level in run.stdout, machine == "x86_64")
         for way in (bytes(TOP), bytes(self.room)):
             self.assertNotIn(way, data)
 
     def check_package(self, found):
-        """Test the modules, and an extension for each level of this machine."""
+        """Test the modules, and the extension for this machine."""
         sources = (PYTHON / "src" / "dethrux").iterdir()
         names = {it.name for it in sources if it.suffix in (".py", ".pyi", ".typed")}
-        machine = os.uname().machine
-        extensions = [EXTENSION, FAST] if machine == "x86_64" else [EXTENSION]
-        self.assertEqual(set(found), {*names, *extensions})
-        for name in extensions:
-            self.assert_extension(found[name], machine)
-        if machine == "x86_64":
-            for name, levels in ((EXTENSION, "v2"), (FAST, "v2, x86-64-v3")):
-                words = ["readelf", "-n", str(found[name])]
-                notes = subprocess.run(words, stdout=subprocess.PIPE, check=True).stdout.decode()
-                self.assertRegex(notes, f"x86 ISA needed: x86-64-baseline, x86-64-{levels}\n")
+        self.assertEqual(set(found), {*names, EXTENSION})
+        self.assert_extension(found[EXTENSION], os.uname().machine)
 
     def test_another_machine(self):
         """The compiler decides it. It has the headers of this Python, which are the same."""
-        for machine, names in (("aarch64", [EXTENSION]), ("x86_64", [EXTENSION, FAST])):
-            if machine == os.uname().machine:
-                continue
+        for machine in {*MACHINES} - {os.uname().machine}:
             compiler = f"{machine}-linux-gnu-gcc"
             if not shutil.which(compiler):
                 self.fail(f"there is no {compiler}: apt-get install gcc-{machine}-linux-gnu")
-            found = self.built(CC=compiler)
-            self.assertEqual({name for name in found if name.endswith(".so")}, set(names))
-            for name in names:
-                self.assert_extension(found[name], machine)
+            self.assert_extension(self.built(CC=compiler)[EXTENSION], machine)
 
     def test_in_place(self):
-        """An editable installation has the first extension only."""
+        """An editable installation has the extension next to the sources."""
         done = self.setup("build_ext", "--inplace", "--build-temp", str(self.room / "base"))
         self.assertEqual(done.returncode, 0, done.stdout)
         sources = self.here / "src" / "dethrux"
@@ -148,21 +138,23 @@ class Build(unittest.TestCase):
             self.assert_refused(message + "ARM64", CC=str(compiler))
 
     def test_macos(self):
-        """The assembly is compiled like the code in C, and one function is visible."""
+        """The assembly has the options of the code in C, and one function is visible."""
         compiler, said = self.room / "compiler", self.room / "said"
         compiler.write_text(
-            f'#!/bin/sh\n[ $1 = -dumpmachine ] && echo arm64-apple-darwin23 && exit\n'
-            f'echo "$*" >> {said}\n'
+            "#!/bin/sh\n[ $1 = -dumpmachine ] && echo arm64-apple-darwin23 && exit\n"
+            f'[ $2 = -Werror ] && exit 1\necho "$*" >> {said}\n'
             'while [ $# != 0 ]; do [ "$1" != -o ] || : > "$2"; shift; done\n'
         )
         compiler.chmod(0o755)
         before = "import sysconfig\nsysconfig.get_config_vars()\nsys.platform = 'darwin'"
-        built = self.built(before=before, CC=str(compiler))
+        built = self.built(before=before, CC=str(compiler), CFLAGS="-mcpu=apple-m1")
         self.assertEqual([it for it in built if it.endswith(".so")], [EXTENSION])
-        assembled, compiled, linked = said.read_text().splitlines()
-        words = [[it for it in line.split() if it[0] == "-"] for line in (assembled, compiled)]
-        self.assertEqual(*words)
-        self.assertIn(f"-c {self.room}/top/dist/src/macos.S ", assembled)
+        *compiled, linked = said.read_text().splitlines()
+        found = [re.search(r" -mcpu=apple-m1 .* -c (\S+) ", it)[1] for it in compiled]
+        folder = f"{self.room}/top/dist/src"
+        names = [f"{folder}/{name}.S" for name in ("choose", "macos", "macos-v3")]
+        self.assertEqual(found, [*names, "src/dethrux/_native.c"])
+        self.assertEqual([f" -I{folder} " in it for it in compiled], [True, True, True, False])
         self.assertTrue(linked.endswith(" -Wl,-exported_symbol,_PyInit__native"))
         self.assertNotIn("-z,relro", linked)
 

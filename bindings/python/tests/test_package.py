@@ -1,4 +1,4 @@
-"""Which extension is loaded; the version; the program of the README; the public names."""
+"""The extension; the version; the program of the README; the public names."""
 
 import os
 import re
@@ -9,89 +9,44 @@ import sysconfig
 import tempfile
 import unittest
 from pathlib import Path
-from unittest import mock
 
 import dethrux
-from dethrux import _load
 from expected import TOP
 
 FOLDER = Path(dethrux.__file__).parent
 EXTENSION = f"_native{sysconfig.get_config_var('EXT_SUFFIX')}"
-FAST = f"{_load._FAST.name}/{EXTENSION}"
+# What /proc/cpuinfo has of x86-64-v3 beyond x86-64-v2.
+FEATURES = {"avx2", "bmi1", "bmi2", "f16c", "fma", "abm", "movbe"}
 
 
 class Extension(unittest.TestCase):
-    """The faster extension is taken if the loader does not refuse it."""
-
-    def setUp(self):
-        """Copy the package, with one extension in both places."""
-        folder = tempfile.TemporaryDirectory()
-        self.addCleanup(folder.cleanup)
-        self.package = Path(folder.name) / "dethrux"
-        ignored = shutil.ignore_patterns("*.so", "__pycache__")
-        shutil.copytree(FOLDER, self.package, ignore=ignored)
-        self.package.joinpath(FAST).parent.mkdir(exist_ok=True)
-        for name in (EXTENSION, FAST):
-            shutil.copy(FOLDER / EXTENSION, self.package / name)
-
-    def loaded(self, before=""):
-        """Import the copy, and return the extension that it has, or the last line of the error."""
-        script = (
-            f"{before}\n"
-            "try:\n    import dethrux\nexcept ImportError as error:\n"
-            "    assert error.name == 'dethrux', error.name\n    raise\n"
-            "assert dethrux._native is sys.modules['dethrux._native']\n"
-            "assert dethrux.decode is dethrux._native.decode\n"
-            "assert dethrux.decode.__module__ == 'dethrux._native'\n"
-            "assert dethrux.to_utf8(b'\\0\\xe9', 'big').output == b'\\xc3\\xa9'\n"
-            "print(dethrux._native.__file__)"
-        )
-        run = subprocess.run(
-            [sys.executable, "-B", "-c", f"import os, sys\n{script}"],
-            env={"PYTHONPATH": str(self.package.parent)},
-            stdout=subprocess.PIPE,
-            stderr=subprocess.PIPE,
-            universal_newlines=True,
-        )
-        found = (run.stdout or run.stderr).strip().splitlines()[-1]
-        return found.replace(f"{self.package}/", "")
-
-    def test_for_the_processor(self):
-        self.assertEqual(self.loaded(), FAST)
-        # The loader refuses it, as it does if the processor has no AVX2.
-        (self.package / FAST).write_bytes(b"no extension")
-        self.assertEqual(self.loaded(), EXTENSION)
-        (self.package / FAST).unlink()
-        self.assertEqual(self.loaded(), EXTENSION)
-        (self.package / FAST).parent.rmdir()
-        self.assertEqual(self.loaded(), EXTENSION)
-
-    def test_a_loader_that_does_not_test_the_processor(self):
-        before = "os.confstr = lambda name: 'glibc 2.32'"
-        self.assertEqual(self.loaded(before), EXTENSION)
-        for version, expected in (
-            ("glibc 2.33", True),
-            ("glibc 3.0", True),
-            ("glibc 2.9", False),
-            ("glibc 2.32", False),
-            ("other 2.34", False),
-            (None, False),
-        ):
-            with mock.patch("os.confstr", return_value=version):
-                self.assertIs(_load._loader_tests_processor(), expected, version)
-        with mock.patch("os.confstr", side_effect=ValueError):
-            self.assertIs(_load._loader_tests_processor(), False)
+    def test_kernel(self):
+        """The functions run the code for the processor."""
+        level = "v3" if FEATURES <= {*Path("/proc/cpuinfo").read_text().split()} else "v2"
+        machine = os.uname().machine
+        self.assertEqual(dethrux.kernel(), f"x86-64-{level}" if machine == "x86_64" else machine)
+        with self.assertRaisesRegex(TypeError, r"^kernel\(\) takes at most 0 arguments"):
+            dethrux.kernel(5)
+        with self.assertRaisesRegex(TypeError, "got an unexpected keyword argument 'other'$"):
+            dethrux.kernel(other=5)
 
     def test_none(self):
         message = (
-            r"^ImportError: the package has no extension for this Python \(.+\): install it with "
-            r"pip, which needs a C compiler and Python\.h$"
+            r"^dethrux: the package has no extension for this Python \(.+\): install it with pip, "
+            r"which needs a C compiler and Python\.h$"
         )
-        shutil.rmtree((self.package / FAST).parent)
-        (self.package / EXTENSION).write_bytes(b"no extension")
-        self.assertRegex(self.loaded(), message)
-        (self.package / EXTENSION).unlink()
-        self.assertRegex(self.loaded(), message)
+        script = (
+            "try:\n    import dethrux\n"
+            "except ImportError as error:\n    print(error.name, error, sep=': ')"
+        )
+        ignored = shutil.ignore_patterns("*.so", "__pycache__")
+        with tempfile.TemporaryDirectory() as folder:
+            package = shutil.copytree(FOLDER, Path(folder, "dethrux"), ignore=ignored)
+            for _ in range(2):
+                words = [sys.executable, "-B", "-c", script]
+                found = subprocess.check_output(words, env={"PYTHONPATH": folder}, text=True)
+                self.assertRegex(found, message)
+                (package / EXTENSION).write_bytes(b"no extension")
 
     def test_nothing_else_is_loaded(self):
         """No ctypes, and no shared library but the extension."""

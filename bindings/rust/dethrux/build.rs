@@ -1,8 +1,7 @@
-//! Links the library in the folder `DETHRUX_LIB_DIR`, else the one that pkg-config knows, else the
-//! one that `rt` built in the clone. If there is none, and always with the feature `bundled`, it
-//! compiles the assembly in `dist`. If that is not possible, or the library has another version,
-//! the build ends with one line that says what to do. On docs.rs nothing is linked, so it does
-//! nothing.
+//! Links the library in the folder `DETHRUX_LIB_DIR`, else the one that pkg-config knows. If there
+//! is none, and always with the feature `bundled`, it compiles the assembly in `dist`. If that is
+//! not possible, or the library has another version, the build ends with one line that says what to
+//! do. On docs.rs nothing is linked, so it does nothing.
 
 use std::path::{Path, PathBuf};
 use std::process::{exit, Command};
@@ -15,21 +14,24 @@ int main(void) {
     return printf(\"%u.%u.%u\", found / 1000000, found / 1000 % 1000, found % 1000) < 0;
 }";
 
-/// The targets for which `dist/src` has assembly, and its files. Assembly needs no libc, so the
-/// files for glibc are also for musl.
+/// The targets for which `dist/src` has assembly, and its files besides `choose.S`. Assembly needs
+/// no libc, so the files for glibc are also for musl.
 const TARGETS: [(&str, &[&str]); 5] = [
-    ("x86_64-unknown-linux-gnu", &["linux-x86-64-v2.s"]),
+    (
+        "x86_64-unknown-linux-gnu",
+        &["linux-x86-64-v2.s", "linux-x86-64-v3.s"],
+    ),
     ("aarch64-unknown-linux-gnu", &["linux-aarch64.s"]),
     (
         "x86_64-pc-windows-gnu",
-        &["windows-x86-64-v2.s", "windows.c"],
+        &["windows-x86-64-v2.s", "windows-x86-64-v3.s", "windows.c"],
     ),
-    ("x86_64-apple-darwin", &["macos-x86-64-v2.s"]),
+    (
+        "x86_64-apple-darwin",
+        &["macos-x86-64-v2.s", "macos-x86-64-v3.s"],
+    ),
     ("aarch64-apple-darwin", &["macos-aarch64.s"]),
 ];
-
-/// The target features of the level x86-64-v3 that its assembly uses.
-const V3: [&str; 7] = ["avx2", "bmi1", "bmi2", "f16c", "fma", "lzcnt", "movbe"];
 
 /// The options of gcc's assembler and of clang that move branches which cross or end a block of 32
 /// bytes. On processors from Skylake to Cascade Lake these slow their loops down.
@@ -81,9 +83,7 @@ fn provide() -> Result<(), String> {
         }
         None if is_native && !is_bundled => {
             let installed = pkg_config::get_variable("dethrux", "libdir").ok();
-            let built = here.join("../../../crates/dethrux/out");
-            let mut folders = installed.map(PathBuf::from).into_iter().chain([built]);
-            folders.find(has_file)
+            installed.map(PathBuf::from).filter(has_file)
         }
         named => named,
     };
@@ -137,12 +137,10 @@ fn version_of(library: &Path) -> Option<String> {
 
 /// Compiles the assembly for the target, and links it.
 fn compile(dist: &Path, target: &str) -> Result<(), String> {
-    let features = env::var("CARGO_CFG_TARGET_FEATURE").unwrap_or_default();
-    let has = |name: &&str| features.split(',').any(|it| it == *name);
     // The compiler for glibc serves for musl.
     let glibc = target.replace("-musl", "-gnu");
     let found = TARGETS.into_iter().find(|(name, _)| *name == glibc);
-    let (_, mut sources) = found.ok_or_else(|| {
+    let (_, sources) = found.ok_or_else(|| {
         let names = TARGETS.map(|(name, _)| name).join(", ");
         let names = names.replace("linux-gnu", "linux-{gnu,musl}");
         format!(
@@ -150,19 +148,16 @@ fn compile(dist: &Path, target: &str) -> Result<(), String> {
              to the folder of a libdethrux.a for this target"
         )
     })?;
-    if glibc == "x86_64-unknown-linux-gnu" && V3.iter().all(has) {
-        sources = &["linux-x86-64-v3.s"];
-    }
+    let folder = dist.join("src");
+    // The whole folder, since choose.S and windows.c include calls.inc.
+    println!("cargo:rerun-if-changed={}", folder.display());
     let mut build = cc::Build::new();
     build
         .opt_level(2)
         .debug(false)
-        .include(dist.join("include"));
-    for source in sources {
-        let source = dist.join("src").join(source);
-        println!("cargo:rerun-if-changed={}", source.display());
-        build.file(source);
-    }
+        .include(dist.join("include"))
+        .file(folder.join("choose.S"))
+        .files(sources.iter().map(|name| folder.join(name)));
     for option in PADDED {
         build.flag_if_supported(option);
     }

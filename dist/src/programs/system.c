@@ -1,6 +1,6 @@
 /* SPDX-License-Identifier: MIT OR Apache-2.0
  * What the proved code of the programs calls, apart from libc: memory, arguments and errno, and on
- * Windows reading and writing. packaging/assembly renames the main of that code to proved_main. */
+ * Windows reading and writing. choose.S has proved_main, the main of that code. */
 #include <errno.h>
 #include <stdbool.h>
 #include <stddef.h>
@@ -68,15 +68,16 @@ SYSV ptrdiff_t rattle_arg(size_t number, unsigned char *to, size_t len) {
 }
 
 #ifdef _WIN32
-/* Returns what glibc's call does for the leaves 1 and 0x80000001 of cpuid, which have the numbers 0
- * and 2: eax, ebx, ecx and edx, and again without features that the system does not provide. Those
- * of x86-64-v2 need no system. */
+/* Returns what glibc's call does for the leaves of cpuid with the numbers 0 to 2: eax, ebx, ecx and
+ * edx, and again without features that the system does not provide. Those of x86-64-v2 need no
+ * system, and choose.S takes code for x86-64-v3 only if the system provides it. */
 SYSV unsigned *__x86_get_cpuid_feature_leaf(unsigned number) {
+    static const unsigned leaves[3] = {1, 7, 0x80000001};
     static unsigned found[3][8];
     unsigned *it = found[number];
     __asm__("cpuid"
             : "=a"(it[4]), "=b"(it[5]), "=c"(it[6]), "=d"(it[7])
-            : "a"(number ? 0x80000001 : 1), "c"(0));
+            : "a"(leaves[number]), "c"(0));
     return it;
 }
 

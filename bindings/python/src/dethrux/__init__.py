@@ -9,8 +9,14 @@ Lengths, offsets and capacities count bytes.
 
 import codecs
 
-# This comes first, since it chooses the extension.
-from . import _load
+try:
+    from . import _native
+except ImportError as error:
+    raise ImportError(
+        f"the package has no extension for this Python ({error}): install it with pip, which "
+        "needs a C compiler and Python.h",
+        name="dethrux",
+    ) from None
 from ._codecs import search
 from ._native import (
     compare,
@@ -45,6 +51,7 @@ from ._native import (
     inspect,
     is_ascii,
     is_char_boundary,
+    kernel,
     make_well_formed,
     nul_offset,
     rfind,
@@ -142,6 +149,7 @@ __all__ = [
     "is_ascii",
     "is_char_boundary",
     "iter_errors",
+    "kernel",
     "make_well_formed",
     "nul_offset",
     "rfind",

@@ -16,6 +16,10 @@
 /* Each function of the module, how many arguments it requires, its parameters, and its
  * documentation. `_native.pyi` has their types. */
 #define EACH_FUNCTION(X) \
+    X(kernel, 0, NONE, "/", \
+      "Return which code the functions run, for reports of bugs and for benchmarks.\n\n" \
+      "It is ``x86-64-v2``, or ``x86-64-v3`` if the processor and the system have all\n" \
+      "of that level, such as AVX2. On ARM64 it is ``aarch64``.") \
     X(validate, 2, UTF16, "utf16, byteorder", \
       "Return the length of the longest well-formed prefix, and what follows it.") \
     X(next_error, 3, UTF16_AT, "utf16, byteorder, at", \
@@ -201,6 +205,7 @@
 #define MOST_ARGUMENTS 5
 /* The names of the parameters, and NULL after them. */
 typedef const char *parameters[MOST_ARGUMENTS + 1];
+static const parameters NONE = {NULL};
 static const parameters UTF16 = {"utf16", "byteorder"};
 static const parameters UTF16_AT = {"utf16", "byteorder", "at"};
 static const parameters UTF16_CAPACITY = {"utf16", "byteorder", "capacity"};

@@ -275,6 +275,14 @@ static PyObject *member(PyObject *members, uint32_t number) {
     return found;
 }
 
+/* The library. */
+
+static PyObject *kernel(const native *it, arguments given) {
+    (void) it;
+    (void) given;
+    return PyUnicode_FromString(dethrux_kernel());
+}
+
 /* The properties of a text. */
 
 /* Returns a `Validity`. */

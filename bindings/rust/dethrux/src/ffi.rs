@@ -70,6 +70,7 @@ pub(crate) type Finish<const N: usize> =
 
 extern "C" {
     pub(crate) fn dethrux_version() -> u32;
+    pub(crate) fn dethrux_kernel() -> *const u8;
     pub(crate) fn dethrux_validate(order: ByteOrder, utf16: *const u8, len: usize) -> Validity;
     pub(crate) fn dethrux_inspect(order: ByteOrder, utf16: *const u8, len: usize) -> Inspection;
     pub(crate) fn dethrux_validate_utf32(utf32: *const u32, len: usize) -> Validity;

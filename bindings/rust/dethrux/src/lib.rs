@@ -48,7 +48,7 @@
 //!
 //! # Threads
 //!
-//! The calls share no state, so any call may run in any thread at any time.
+//! Any call may run in any thread at any time.
 
 #![no_std]
 #![forbid(unsafe_op_in_unsafe_fn)]
@@ -135,6 +135,26 @@ pub fn version() -> (u32, u32, u32) {
         version / 1_000 % 1_000,
         version % 1_000,
     )
+}
+
+/// Returns which code the library runs, for bug reports and benchmarks: `x86-64-v2` or `x86-64-v3`,
+/// which are levels of x86-64, or `aarch64`.
+///
+/// It is `x86-64-v3` if the processor and the system have all of that level, such as AVX2. The
+/// result is the same for all calls of a process. The library that `rt` builds does not have this
+/// call.
+///
+/// ```
+/// assert!(["x86-64-v2", "x86-64-v3", "aarch64"].contains(&dethrux::kernel()));
+/// ```
+#[must_use]
+pub fn kernel() -> &'static str {
+    // SAFETY: the call has no precondition, and returns a constant in ASCII that ends with a zero.
+    unsafe {
+        let name = ffi::dethrux_kernel();
+        let len = (0..).take_while(|&at| *name.add(at) != 0).count();
+        core::str::from_utf8_unchecked(core::slice::from_raw_parts(name, len))
+    }
 }
 
 /// The program of the README runs with the tests.

@@ -798,3 +798,21 @@ fn the_version_is_that_of_the_crate() {
         env!("CARGO_PKG_VERSION")
     );
 }
+
+#[test]
+fn the_kernel_is_that_of_the_processor() {
+    // Rust 1.63 cannot ask for movbe, so it is not among these.
+    #[cfg(target_arch = "x86_64")]
+    let name = {
+        let has_v3 = is_x86_feature_detected!("avx2")
+            && is_x86_feature_detected!("bmi1")
+            && is_x86_feature_detected!("bmi2")
+            && is_x86_feature_detected!("f16c")
+            && is_x86_feature_detected!("fma")
+            && is_x86_feature_detected!("lzcnt");
+        ["x86-64-v2", "x86-64-v3"][usize::from(has_v3)]
+    };
+    #[cfg(not(target_arch = "x86_64"))]
+    let name = std::env::consts::ARCH;
+    assert_eq!(kernel(), name);
+}

@@ -9423,10 +9423,11 @@
 	.cfi_endproc
 
 	.section	.text.main,"ax",@progbits
-	.globl	proved_main
+	.globl	proved_main_aarch64
+	.hidden	proved_main_aarch64
 	.p2align	2
-	.type	proved_main,@function
-proved_main:
+	.type	proved_main_aarch64,@function
+proved_main_aarch64:
 	.cfi_startproc
 	hint	#34
 	stp	x29, x30, [sp, #-96]!
@@ -10545,7 +10546,7 @@ proved_main:
 	cbnz	x24, .LBB33_243
 	b	.LBB33_244
 .Lfunc_end33:
-	.size	proved_main, .Lfunc_end33-proved_main
+	.size	proved_main_aarch64, .Lfunc_end33-proved_main_aarch64
 	.cfi_endproc
 
 	.type	.Lstatic.6,@object

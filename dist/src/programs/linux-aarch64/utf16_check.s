@@ -3193,10 +3193,11 @@
 	.byte	114
 	.byte	10
 	.section	.text.main,"ax",@progbits
-	.globl	proved_main
+	.globl	proved_main_aarch64
+	.hidden	proved_main_aarch64
 	.p2align	2
-	.type	proved_main,@function
-proved_main:
+	.type	proved_main_aarch64,@function
+proved_main_aarch64:
 	.cfi_startproc
 	hint	#34
 	stp	d15, d14, [sp, #-160]!
@@ -5769,7 +5770,7 @@ proved_main:
 	ldur	x24, [x29, #-224]
 	b	.LBB13_322
 .Lfunc_end13:
-	.size	proved_main, .Lfunc_end13-proved_main
+	.size	proved_main_aarch64, .Lfunc_end13-proved_main_aarch64
 	.cfi_endproc
 
 	.type	.Lstatic.15,@object

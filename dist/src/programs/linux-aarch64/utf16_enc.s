@@ -15005,10 +15005,11 @@
 	.cfi_endproc
 
 	.section	.text.main,"ax",@progbits
-	.globl	proved_main
+	.globl	proved_main_aarch64
+	.hidden	proved_main_aarch64
 	.p2align	2
-	.type	proved_main,@function
-proved_main:
+	.type	proved_main_aarch64,@function
+proved_main_aarch64:
 	.cfi_startproc
 	hint	#34
 	sub	sp, sp, #224
@@ -15504,7 +15505,7 @@ proved_main:
 	cbnz	x21, .LBB35_61
 	b	.LBB35_62
 .Lfunc_end35:
-	.size	proved_main, .Lfunc_end35-proved_main
+	.size	proved_main_aarch64, .Lfunc_end35-proved_main_aarch64
 	.cfi_endproc
 
 	.type	.Lstatic.11,@object

@@ -12703,12 +12703,12 @@
 	.byte	32
 	.byte	120
 	.section	.text.main,"ax",@progbits
-	.globl	proved_main
+	.globl	proved_main_v2
+	.hidden	proved_main_v2
 	.p2align	4
-	.type	proved_main,@function
-proved_main:
+	.type	proved_main_v2,@function
+proved_main_v2:
 	.cfi_startproc
-	endbr64
 	pushq	%rbp
 	.cfi_def_cfa_offset 16
 	.cfi_offset %rbp, -16
@@ -12777,7 +12777,7 @@ proved_main:
 	.cfi_def_cfa %rsp, 8
 	retq
 .Lfunc_end34:
-	.size	proved_main, .Lfunc_end34-proved_main
+	.size	proved_main_v2, .Lfunc_end34-proved_main_v2
 	.cfi_endproc
 
 	.type	.Lstatic.6,@object
@@ -12849,12 +12849,9 @@ proved_main:
 	.ident	"rattle logic=dac8208d650f15bf3e2dc313a14fa4c783a3acf887bdfab66e1714b038d9e11b"
 	.section	".note.GNU-stack","",@progbits
 
-/* GNU properties: CET, and the levels of x86-64 that the processor must have. */
+/* A GNU property that names CET. */
 	.section	.note.gnu.property,"a",@note
 	.p2align	3
 	.long	4, 16, 5
 	.asciz	"GNU"
 	.long	0xc0000002, 4, 3, 0
-	.long	4, 16, 5
-	.asciz	"GNU"
-	.long	0xc0008002, 4, 3, 0

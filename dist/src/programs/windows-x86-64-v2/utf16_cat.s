@@ -12162,9 +12162,9 @@ L_24:
 	.byte	32
 	.byte	120
 	.section	.text$037,"xr"
-	.globl	proved_main
+	.globl	proved_main_v2
 	.p2align	4
-proved_main:
+proved_main_v2:
 	pushq	%rbp
 	movq	%rsp, %rbp
 	pushq	%rbx

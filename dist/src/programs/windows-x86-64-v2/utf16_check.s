@@ -5667,9 +5667,9 @@ L_7:
 	.byte	32
 	.byte	120
 	.section	.text$017,"xr"
-	.globl	proved_main
+	.globl	proved_main_v2
 	.p2align	4
-proved_main:
+proved_main_v2:
 	pushq	%rbp
 	movq	%rsp, %rbp
 	pushq	%rbx
