@@ -1,6 +1,6 @@
 #!/usr/bin/env bash
-# CI: compiles the benchmarks that need no other library, and starts the Rattle programs. rt
-# compiles these without proof (`rt try`), over a copy of the sources, and ends them after seconds.
+# CI: compiles the benchmarks that need no other library, and starts the Rattle program. rt
+# compiles it without proof (`rt try`), over a copy of the sources, and ends it after seconds.
 # The last line is 'N passed, M failed'.
 set -uo pipefail
 cd "$(dirname "$0")/.." || exit 1
@@ -8,18 +8,17 @@ room=$(mktemp -d)
 trap 'rm -rf "$room"' EXIT
 . .ci/checks.sh
 
-# Tests that a program prints its first time.
+# Tests that the program prints its first time.
 starts() {
-    local folder=$room/crates/$1_bench
-    mkdir -p "$folder/src" && cp "bench/$1.rt.txt" "$folder/src/main.rt" || return
-    echo "$1_bench: utf16string" >> "$room/crates.txt"
+    local folder=$room/crates/walks_bench
+    mkdir -p "$folder/src" && cp bench/walks.rt.txt "$folder/src/main.rt" || return
+    echo 'walks_bench: utf16string' >> "$room/crates.txt"
     (cd "$folder" && rt try --seconds 5) 2>&1 | tee "$room/times"
     grep -qE '^(\| )?[a-z0-9_:]+ ascii [0-9]+ LE [0-9]+ [0-9]+ [0-9]+$' "$room/times"
 }
 
 tar --exclude=out -cf - crates crates.txt | tar -C "$room" -xf -
-check 'bench/walks.rt.txt' starts walks
-check 'bench/short.rt.txt' starts short
+check 'bench/walks.rt.txt' starts
 for source in walks texts library plain real_programs; do
     check "bench/$source.rs" rustc --edition 2024 --crate-type lib --emit metadata \
         --out-dir "$room" "bench/$source.rs"

@@ -7,12 +7,21 @@
 # script stops if a call and std's return different results. The tables are written to
 # bench/out/walks.md.
 set -eu
-. "$(dirname "$0")/program.sh"
-build walks
+top=$(cd "$(dirname "$0")/.." && pwd)
+room=$(mktemp -d)
+trap 'rm -rf "$room"' EXIT
+# The program is built next to a copy of the crates and of what `rt` keeps for them. `rt` proves the
+# crates first if it has kept no proof of them.
+cp -a "$top/crates" "$top/crates.txt" "$room/"
+folder=$room/crates/walks_bench
+mkdir -p "$folder/src"
+cp "$top/bench/walks.rt.txt" "$folder/src/main.rt"
+echo "walks_bench: utf16string" >> "$room/crates.txt"
+(cd "$folder" && rt run) > "$room/times" 2> "$room/said" || { cat "$room/said" >&2; exit 1; }
 rustc --edition 2024 -O -C target-cpu=x86-64-v2 -o "$room/walks" "$top/bench/walks.rs"
 for _ in 1 2 3; do
     "$room/walks" >> "$room/times"
-    "$program" >> "$room/times"
+    "$folder/out/walks_bench" >> "$room/times"
 done
 "$room/walks" >> "$room/times"
 awk '
