@@ -21,8 +21,8 @@ const CLASSES: [&str; 4] = ["ascii", "latin_cyrillic", "cjk", "emoji"];
 // The last argument is a buffer that is long enough for the text that the call makes.
 type Call = fn(bool, &[u8], &mut [u8]) -> usize;
 
-library!(here, "dethrux_");
-library!(v3, "v3_");
+library!(here, "", "_v2");
+library!(v3, "", "_v3");
 
 unsafe extern "C" {
     fn icu_valid_up_to(units: *const u16, len: usize) -> usize;

@@ -1,4 +1,4 @@
-//! The calls of `dethrux.h`, in builds of the library whose names begin with a prefix.
+//! The calls of `dethrux.h`, in a build of the library, or its code for a level, whose names have more.
 
 #[repr(C)]
 pub struct Progress {
@@ -34,22 +34,22 @@ impl Validity {
 }
 
 macro_rules! library {
-    ($name:ident, $prefix:literal) => {
+    ($name:ident, $before:literal, $after:literal) => {
         #[allow(dead_code)]
         mod $name {
             mod calls {
                 use crate::library::{Progress, Validity};
 
                 unsafe extern "C" {
-                    #[link_name = concat!($prefix, "validate")]
+                    #[link_name = concat!($before, "dethrux_validate", $after)]
                     pub fn validate(order: u32, utf16: *const u8, len: usize) -> Validity;
-                    #[link_name = concat!($prefix, "count_chars")]
+                    #[link_name = concat!($before, "dethrux_count_chars", $after)]
                     pub fn count_chars(order: u32, utf16: *const u8, len: usize) -> usize;
-                    #[link_name = concat!($prefix, "is_ascii")]
+                    #[link_name = concat!($before, "dethrux_is_ascii", $after)]
                     pub fn is_ascii(order: u32, utf16: *const u8, len: usize) -> bool;
-                    #[link_name = concat!($prefix, "to_utf8")]
+                    #[link_name = concat!($before, "dethrux_to_utf8", $after)]
                     pub fn to_utf8(order: u32, utf16: *const u8, len: usize, to: *mut u8, capacity: usize) -> Progress;
-                    #[link_name = concat!($prefix, "from_utf8")]
+                    #[link_name = concat!($before, "dethrux_from_utf8", $after)]
                     pub fn from_utf8(order: u32, utf8: *const u8, len: usize, to: *mut u8, capacity: usize) -> Progress;
                 }
             }

@@ -21,11 +21,11 @@ const FORMS: [(&str, usize); 3] = [("lines", 0), ("4 KiB", 4096), ("64 KiB", 655
 // Converts or tests an input, and returns a number that must be the same for all decoders.
 type Call = fn(bool, &[u8], &mut [u8]) -> usize;
 
-library!(v2, "v2_");
-library!(v3, "v3_");
-library!(chosen, "chosen_");
+library!(v2, "", "_v2");
+library!(v3, "", "_v3");
+library!(chosen, "", "");
 #[cfg(before)]
-library!(before, "before_");
+library!(before, "before_", "_v2");
 
 fn units(raw: &[u8]) -> &[u16] {
     let (start, units, end) = unsafe { raw.align_to() };

@@ -20,27 +20,22 @@ room=$(mktemp -d)
 trap 'rm -rf "$room"' EXIT
 mkdir -p out
 
-# Builds the library of a checkout, or its code for a level. Its three calls get other names, which
-# begin with a word, and its other symbols become local: build WORD CHECKOUT END OBJECT.. . END is
-# what the names end with.
+# Builds the library of a checkout, and sets `dist` to its folder.
 build() {
-    local call words=() folder
-    make -s -C "$2/dist" > "$room/said" 2>&1 || { cat "$room/said" >&2; exit 1; }
-    folder=$(make -s -C "$2/dist" folder)
-    for call in validate to_utf8 from_utf8; do
-        words+=(--redefine-sym "dethrux_$call$3=$1_$call" --keep-global-symbol "$1_$call")
-    done
-    (cd "$folder" && ld -r "${@:4}" -o "$room/whole.o")
-    objcopy "${words[@]}" "$room/whole.o" "$room/$1.o"
+    make -s -C "$1/dist" > "$room/said" 2>&1 || { cat "$room/said" >&2; exit 1; }
+    dist=$(make -s -C "$1/dist" folder)
 }
-build v2 .. _v2 linux-x86-64-v2.o
-build v3 .. _v3 linux-x86-64-v3.o
-build chosen .. '' choose.o linux-x86-64-v2.o linux-x86-64-v3.o
-libraries=("$room/v2.o" "$room/v3.o" "$room/chosen.o")
+libraries=()
 if [ -n "$before" ]; then
-    build before "$before" _v2 linux-x86-64-v2.o
-    libraries+=("$room/before.o")
+    build "$before"
+    for name in dethrux_{validate,to_utf8,from_utf8}_v2; do
+        libraries+=(--redefine-sym "$name=before_$name" --keep-global-symbol "before_$name")
+    done
+    objcopy "${libraries[@]}" "$dist/linux-x86-64-v2.o" "$room/before.o"
+    libraries=("$room/before.o")
 fi
+build ..
+libraries+=("$dist/libdethrux.a")
 
 level=x86-64-v2
 cxx() { g++ -O3 -march=$level -Wa,-mbranches-within-32B-boundaries -I "$simdutf" "$@"; }

@@ -45,19 +45,8 @@ if [ -n "${SIMDUTF:-}" ]; then
     cxx -c simdutf_calls.cc -o out/simdutf_calls.o
     simdutf="out/simdutf_calls.o out/simdutf.o -lstdc++"
 fi
-# The code for each level gets names without the level, and that for AVX2 others than that without.
-# Their other symbols become local.
-for code in v2 v3; do
-    set --
-    for call in validate count_chars is_ascii to_utf8 from_utf8; do
-        name=dethrux_$call
-        [ $code = v2 ] || name=v3_$call
-        set -- "$@" --redefine-sym "dethrux_${call}_$code=$name" --keep-global-symbol "$name"
-    done
-    objcopy "$@" "$dist/linux-x86-64-$code.o" out/$code.o
-done
 rust --edition 2024 calls.rs ${simdutf:+--cfg simdutf} --extern encoding_rs=out/libencoding_rs.rlib -l icuuc \
-    -C link-args="out/icu.o $simdutf out/v2.o out/v3.o"
+    -C link-args="out/icu.o $simdutf $dist/libdethrux.a"
 
 out/calls > out/lines.tsv
 ./publish.py --behind
