@@ -119,7 +119,7 @@ declared() {
 
 # Tests that the symbols that this command lists are the functions of the header.
 exports_header() {
-    declared "$top/include" extern > "$room/declared" || return
+    declared "$top/dist/include" extern > "$room/declared" || return
     "$@" | sed -n 's/.* [A-Z] //p' | sort > "$room/exported"
     [ -s "$room/declared" ] && diff "$room/declared" "$room/exported"
 }

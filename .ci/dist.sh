@@ -104,6 +104,8 @@ refuses_target() {
 }
 
 need "${tools[@]}" || finish
+count 'packaging/calls' "$top/packaging/calls" --test
+count 'what packaging/calls writes' "$top/packaging/calls" --check
 count 'dist/ is what packaging/assembly writes' "$top/packaging/assembly" --check "$@"
 clone="$room/a clone"
 user=("-I$clone/dist/include" "$top/packaging/test/user.c")

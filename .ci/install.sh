@@ -277,7 +277,7 @@ check 'the paths that are printed' diff <(LC_ALL=C sort "$room/printed") \
 prefix="$room/moved here"
 mv "$room/in stalled" "$prefix"
 check_libraries
-check 'the headers' diff -r "$top/include" "$prefix/include"
+check 'the headers' diff -r "$top/dist/include" "$prefix/include"
 check 'the manual pages' has_pages
 check 'the version of the header, which pkg-config has' \
     diff <(config "$prefix" --modversion) "$top/VERSION"

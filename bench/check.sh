@@ -24,6 +24,6 @@ for source in walks texts library plain real_programs; do
         --out-dir "$room" "bench/$source.rs"
 done
 check 'bench/js.mjs' node --check bench/js.mjs
-check 'bench/worst.c' gcc -fsyntax-only -Wall -Wextra -Werror -Iinclude bench/worst.c
+check 'bench/worst.c' gcc -fsyntax-only -Wall -Wextra -Werror -Idist/include bench/worst.c
 check 'bench/icu.c' gcc -fsyntax-only -Wall -Werror bench/icu.c
 finish

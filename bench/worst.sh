@@ -9,7 +9,7 @@ top=$(cd "$(dirname "$0")/.." && pwd)
 mkdir -p "$top/bench/out"
 cd "$top/bench"
 make -s -C ../dist > out/make.log 2>&1 || { cat out/make.log >&2; exit 1; }
-gcc -O2 -Wa,-mbranches-within-32B-boundaries -I ../include worst.c -o out/worst \
+gcc -O2 -Wa,-mbranches-within-32B-boundaries -I ../dist/include worst.c -o out/worst \
     "$(make -s -C ../dist folder)/libdethrux.a" -licuuc
 out/worst > out/worst.tsv
 awk -F '\t' '

@@ -31,8 +31,9 @@ if [ "${COUNTS:-yes}" = no ]; then
     counts=(-DWITHOUT_COUNTS)
 else
     counts=("-I$made" counts.c)
-    "$compiler" -fsyntax-only -aux-info "$made/prototypes" -x c ../include/dethrux.h
-    calls=$(sed -nE 's/.*dethrux\.h:.* extern .*[ *](dethrux_[a-z0-9_]+) \(.*/\1/p' \
+    "$compiler" -fsyntax-only -aux-info "$made/prototypes" -x c ../dist/include/dethrux.h
+    # Nothing goes into dethrux_kernel, and the crate does not have it.
+    calls=$(sed -nE '/_kernel /d; s/.*dethrux\.h:.* extern .*[ *](dethrux_[a-z0-9_]+) \(.*/\1/p' \
         "$made/prototypes" | sort)
     [ -n "$calls" ] || refuse 'the header has no functions'
     sed 's/.*/COUNTED(&)/' <<< "$calls" > "$made/calls.inc"
@@ -40,6 +41,6 @@ else
         counts+=("-Wl,--wrap=$call")
     done
 fi
-"$compiler" -std=gnu11 -O2 -g -Wall -Wextra -Werror -I../include -o "$program" \
+"$compiler" -std=gnu11 -O2 -g -Wall -Wextra -Werror -I../dist/include -o "$program" \
     checks.c coverage.c guarded.c harness.c input.c reference.c "$@" "${counts[@]}" "$archive" \
     "${peers[@]}"

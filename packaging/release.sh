@@ -99,7 +99,7 @@ built() {
 make_linux() {
     built x86_64-linux-gnu "${CC:-cc}" install.sh docs/PYTHON.md \
         bindings/python/{MANIFEST.in,README.md,pyproject.toml,setup.py,src} \
-        dist/src/{choose.S,calls.inc,linux-x86-64-v{2,3}.s}
+        dist/include/dethrux.h dist/src/{choose.S,calls.inc,linux-x86-64-v{2,3}.s}
 }
 
 make_arm64() {
@@ -113,7 +113,7 @@ make_windows() {
 make_dist() {
     name=dethrux-$version-dist
     copy install.sh .ci/{faults.c,program.{sh,txt}} cases crates/utf16_{cat,enc,check}/*.1 \
-        dist docs/{C,CPP}.md examples/c/{alloc,check,decode,first,fixed,units}.c include packaging/man3
+        dist docs/{C,CPP}.md examples/c/{alloc,check,decode,first,fixed,units}.c packaging/man3
     cp "$top/dist/README.md" "$room/$name/"
     pack
 }

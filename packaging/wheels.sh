@@ -20,7 +20,7 @@ export SOURCE_DATE_EPOCH=315532800 PYTHONDONTWRITEBYTECODE=1
 make_sources() {
     mkdir "$room/tree"
     (cd "$top" && cp -R --parents \
-        bindings/python/{MANIFEST.in,README.md,pyproject.toml,setup.py,src} include/dethrux.h \
+        bindings/python/{MANIFEST.in,README.md,pyproject.toml,setup.py,src} dist/include/dethrux.h \
         dist/src LICENSE-{APACHE,MIT} THIRD-PARTY.md "$room/tree/")
     find "$room/tree" \( -name '*.so' -o -name '*.egg-info' -o -name __pycache__ \) -prune \
         -exec rm -r {} +

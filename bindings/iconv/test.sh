@@ -14,7 +14,7 @@ unset GCONV_PATH
 
 # Compiles a program or a library of tests/.
 compile() {
-    "${CC:-cc}" -std=gnu11 -D_GNU_SOURCE -O2 -Wall -Wextra -Werror -I"$top/include" \
+    "${CC:-cc}" -std=gnu11 -D_GNU_SOURCE -O2 -Wall -Wextra -Werror -I"$top/dist/include" \
         "$here/tests/$1.c" "${@:2}"
 }
 

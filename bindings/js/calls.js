@@ -1,8 +1,9 @@
 // SPDX-License-Identifier: MIT OR Apache-2.0
 
-// The calls of include/dethrux.h without the prefix dethrux_, in the header's order: the shape of
-// the parameters (shapes.js) and the kind of the result (machine.js). The function of a call has
-// its name in camel case. A call that the module does not have gets no function.
+// The calls of dethrux.h without the prefix dethrux_: the shape of the parameters
+// (shapes.js) and the kind of the result (machine.js). The function of a call has its
+// name in camel case. A call that the module does not have gets no function.
+// packaging/calls wrote this from the header: do not edit it.
 export const CALLS = {
     version: ["nothing", "number"],
     validate: ["utf16", "validity"],

@@ -26,7 +26,7 @@ ASSEMBLY = {
 INCLUDED = ["calls.inc", "macos-aarch64.s", "macos-x86-64-v2.s", "macos-x86-64-v3.s"]
 LICENCES = ["LICENSE-MIT", "LICENSE-APACHE", "THIRD-PARTY.md"]
 # What a source distribution has from around this folder.
-AROUND = [*LICENCES, "include/dethrux.h"]
+AROUND = [*LICENCES, "dist/include/dethrux.h"]
 AROUND += [f"dist/src/{name}" for name in sorted({*sum(ASSEMBLY.values(), INCLUDED)})]
 SOURCES = "src/dethrux"
 # These come after the options of Python's own build. Other packages may have the library too, so
@@ -144,7 +144,7 @@ setup(
         Extension(
             "dethrux._native",
             [f"{SOURCES}/_native.c"],
-            include_dirs=[str(TOP / "include")],
+            include_dirs=[str(TOP / "dist" / "include")],
             extra_compile_args=COMPILE,
             extra_link_args=LINK,
         )

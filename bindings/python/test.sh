@@ -127,7 +127,7 @@ compile_strictly() {
     for compiler in gcc clang; do
         has $compiler $compiler || return
         $compiler -std=c11 -O2 -Wall -Wextra -Wshadow -Wconversion \
-            -Werror -fPIC -c -I"$top/include" -isystem "$include" -o "$room/native.o" \
+            -Werror -fPIC -c -I"$top/dist/include" -isystem "$include" -o "$room/native.o" \
             "$here/src/dethrux/_native.c" || return
     done
 }

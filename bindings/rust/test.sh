@@ -313,11 +313,11 @@ is_of_dist() {
 # A program with the library that the build script made for ARM64, and one for Windows, which is
 # only linked.
 runs_on_arm() {
-    aarch64-linux-gnu-gcc -static -I"$top/include" "$top/examples/c/units.c" \
+    aarch64-linux-gnu-gcc -static -I"$top/dist/include" "$top/examples/c/units.c" \
         "$room/made/libdethrux.a" -o "$room/units" && qemu-aarch64 "$room/units"
 }
 links_for_windows() {
-    x86_64-w64-mingw32-gcc -I"$top/include" "$top/examples/c/units.c" \
+    x86_64-w64-mingw32-gcc -I"$top/dist/include" "$top/examples/c/units.c" \
         "$room/made/libdethrux.a" -o "$room/units.exe"
 }
 

@@ -1070,88 +1070,193 @@ static inline void dethrux_checked_bytes(const void *from, size_t len) {
     DETHRUX_DEFINE(type, name, parameters, before; \
         type result = dethrux_unchecked_##name arguments; \
         DETHRUX_WROTE(&result, sizeof result); after; return result)
-#define DETHRUX_FROM dethrux_byte_order order, const void *from, size_t len
-#define DETHRUX_READ(type, name, parameters, arguments, len) \
-    DETHRUX_CALL(type, name, parameters, arguments, DETHRUX_READS(from, len), (void)0)
-#define DETHRUX_UTF16(type, name) DETHRUX_READ(type, name, (DETHRUX_FROM), (order, from, len), len)
-#define DETHRUX_UTF8(name) \
-    DETHRUX_READ(size_t, name, (const void *from, size_t len), (from, len), len)
-#define DETHRUX_UTF32(type, name) \
-    DETHRUX_READ(type, name, (const uint32_t *from, size_t len), (from, len), len * 4)
-#define DETHRUX_PLACE(type, name, offset) \
-    DETHRUX_READ(type, name, (DETHRUX_FROM, offset at), (order, from, len, at), len)
-#define DETHRUX_TWO(type, name, parameters, arguments) \
-    DETHRUX_CALL(type, name, parameters, arguments, \
-        DETHRUX_READS(from, len); DETHRUX_READS(other, most), (void)0)
-#define DETHRUX_CONVERT(name, from_type, from_size, to_type, to_size) \
-    DETHRUX_CALL(dethrux_progress, name, \
-        (dethrux_byte_order order, const from_type *from, size_t len, to_type *to, size_t most), \
-        (order, from, len, to, most), \
-        DETHRUX_READS(from, len * from_size); DETHRUX_WRITES(to, most * to_size), \
-        DETHRUX_WROTE(to, result.written * to_size))
-#define DETHRUX_BYTES(name) DETHRUX_CONVERT(name, void, 1, void, 1)
-/* Of a state, only the fields that have a meaning must be initialized. */
-#define DETHRUX_STREAM(name, parameters, arguments, before) \
-    DETHRUX_CALL(dethrux_progress, name, parameters, arguments, \
-        DETHRUX_WRITES(state, sizeof *state); DETHRUX_READS(&state->pending_len, 1); \
-        DETHRUX_WRITES(to, most); before, \
-        DETHRUX_WROTE(state, sizeof *state); DETHRUX_WROTE(to, result.written))
-#define DETHRUX_FEED(name, type) \
-    DETHRUX_STREAM(name, (type *state, DETHRUX_FROM, void *to, size_t most), \
-        (state, order, from, len, to, most), DETHRUX_READS(from, len))
-#define DETHRUX_FINISH(name, type) \
-    DETHRUX_STREAM(name, (type *state, dethrux_byte_order order, void *to, size_t most), \
-        (state, order, to, most), (void)0)
-#define DETHRUX_SIZE(name) DETHRUX_UTF16(size_t, name)
-#define DETHRUX_EACH(define, a, b, c, d, e) define(a) define(b) define(c) define(d) define(e)
-DETHRUX_CALL(uint32_t, version, (void), (), (void)0, (void)0)
-DETHRUX_UTF16(dethrux_validity, validate)
-DETHRUX_UTF16(dethrux_inspection, inspect)
-DETHRUX_UTF16(dethrux_bom, detect_bom)
-DETHRUX_UTF16(bool, is_ascii)
-DETHRUX_EACH(DETHRUX_SIZE, count_chars, to_utf8_lossy_len, to_utf8_replacements, to_utf32_lossy_len,
-    to_wtf8_len)
-DETHRUX_UTF8(from_utf8_len)
-DETHRUX_UTF8(from_utf8_lossy_len)
-DETHRUX_UTF8(from_utf8_replacements)
-DETHRUX_UTF8(from_wtf8_len)
-DETHRUX_UTF32(dethrux_validity, validate_utf32)
-DETHRUX_UTF32(size_t, from_utf32_lossy_len)
-DETHRUX_EACH(DETHRUX_BYTES, to_utf8, to_utf8_lossy, to_utf8_partial, from_utf8, from_utf8_lossy)
-DETHRUX_EACH(DETHRUX_BYTES, to_wtf8, to_wtf8_partial, from_wtf8, from_wtf8_partial, to_latin1)
-DETHRUX_BYTES(from_latin1)
-DETHRUX_CONVERT(to_utf32, void, 1, uint32_t, 4)
-DETHRUX_CONVERT(to_utf32_lossy, void, 1, uint32_t, 4)
-DETHRUX_CONVERT(from_utf32, uint32_t, 4, void, 1)
-DETHRUX_CONVERT(from_utf32_lossy, uint32_t, 4, void, 1)
-DETHRUX_FEED(decoder_feed, dethrux_decoder)
-DETHRUX_FEED(decoder_feed_wtf8, dethrux_decoder)
-DETHRUX_FEED(encoder_feed, dethrux_encoder)
-DETHRUX_FEED(wtf8_encoder_feed, dethrux_wtf8_encoder)
-DETHRUX_STREAM(decoder_finish, (dethrux_decoder *state, void *to, size_t most), (state, to, most),
+DETHRUX_CALL(
+    dethrux_validity, validate, (dethrux_byte_order byte_order, const void *utf16, size_t len),
+    (byte_order, utf16, len), DETHRUX_READS(utf16, len), (void)0)
+DETHRUX_CALL(
+    size_t, count_chars, (dethrux_byte_order byte_order, const void *utf16, size_t len),
+    (byte_order, utf16, len), DETHRUX_READS(utf16, len), (void)0)
+DETHRUX_CALL(
+    bool, is_ascii, (dethrux_byte_order byte_order, const void *utf16, size_t len),
+    (byte_order, utf16, len), DETHRUX_READS(utf16, len), (void)0)
+DETHRUX_CALL(
+    size_t, to_utf8_lossy_len, (dethrux_byte_order byte_order, const void *utf16, size_t len),
+    (byte_order, utf16, len), DETHRUX_READS(utf16, len), (void)0)
+DETHRUX_CALL(
+    size_t, from_utf8_len, (const void *utf8, size_t len), (utf8, len), DETHRUX_READS(utf8, len),
     (void)0)
-DETHRUX_FINISH(decoder_finish_wtf8, dethrux_decoder)
-DETHRUX_FINISH(encoder_finish, dethrux_encoder)
-DETHRUX_FINISH(wtf8_encoder_finish, dethrux_wtf8_encoder)
-DETHRUX_PLACE(bool, is_char_boundary, size_t)
-DETHRUX_PLACE(size_t, floor_char_boundary, size_t)
-DETHRUX_PLACE(uint64_t, floor_char_boundary_around, uint64_t)
-DETHRUX_CALL(uint64_t, shard_offset, (uint64_t len, uint64_t count, uint64_t index),
-    (len, count, index), (void)0, (void)0)
-DETHRUX_TWO(size_t, find, (DETHRUX_FROM, const void *other, size_t most),
-    (order, from, len, other, most))
-DETHRUX_TWO(size_t, rfind, (DETHRUX_FROM, const void *other, size_t most),
-    (order, from, len, other, most))
-/* The bytes after the NUL need no values. */
-DETHRUX_CALL(size_t, nul_offset, (const void *from, size_t len), (from, len),
-    DETHRUX_WRITES(from, len), DETHRUX_READS(from, result + 2 < len ? result + 2 : len))
-DETHRUX_TWO(int32_t, compare,
-    (DETHRUX_FROM, dethrux_byte_order other_order, const void *other, size_t most),
-    (order, from, len, other_order, other, most))
-DETHRUX_READ(size_t, make_well_formed, (dethrux_byte_order order, void *from, size_t len),
-    (order, from, len), len)
-DETHRUX_DEFINE(void, swap_byte_order, (void *from, size_t len),
-    DETHRUX_READS(from, len); dethrux_unchecked_swap_byte_order(from, len))
+DETHRUX_CALL(
+    size_t, from_utf8_lossy_len, (const void *utf8, size_t len), (utf8, len),
+    DETHRUX_READS(utf8, len), (void)0)
+DETHRUX_CALL(
+    size_t, to_utf8_replacements, (dethrux_byte_order byte_order, const void *utf16, size_t len),
+    (byte_order, utf16, len), DETHRUX_READS(utf16, len), (void)0)
+DETHRUX_CALL(
+    size_t, from_utf8_replacements, (const void *utf8, size_t len), (utf8, len),
+    DETHRUX_READS(utf8, len), (void)0)
+DETHRUX_CALL(
+    dethrux_progress, to_utf8, (dethrux_byte_order byte_order, const void *utf16, size_t len,
+    void *to, size_t capacity), (byte_order, utf16, len, to, capacity), DETHRUX_READS(utf16, len);
+    DETHRUX_WRITES(to, capacity), DETHRUX_WROTE(to, result.written))
+DETHRUX_CALL(
+    dethrux_progress, to_utf8_lossy, (dethrux_byte_order byte_order, const void *utf16, size_t len,
+    void *to, size_t capacity), (byte_order, utf16, len, to, capacity), DETHRUX_READS(utf16, len);
+    DETHRUX_WRITES(to, capacity), DETHRUX_WROTE(to, result.written))
+DETHRUX_CALL(
+    dethrux_progress, to_utf8_partial, (dethrux_byte_order byte_order, const void *utf16,
+    size_t len, void *to, size_t capacity), (byte_order, utf16, len, to, capacity),
+    DETHRUX_READS(utf16, len); DETHRUX_WRITES(to, capacity), DETHRUX_WROTE(to, result.written))
+DETHRUX_CALL(
+    dethrux_progress, from_utf8, (dethrux_byte_order byte_order, const void *utf8, size_t len,
+    void *to, size_t capacity), (byte_order, utf8, len, to, capacity), DETHRUX_READS(utf8, len);
+    DETHRUX_WRITES(to, capacity), DETHRUX_WROTE(to, result.written))
+DETHRUX_CALL(
+    dethrux_progress, from_utf8_lossy, (dethrux_byte_order byte_order, const void *utf8, size_t len,
+    void *to, size_t capacity), (byte_order, utf8, len, to, capacity), DETHRUX_READS(utf8, len);
+    DETHRUX_WRITES(to, capacity), DETHRUX_WROTE(to, result.written))
+DETHRUX_CALL(
+    dethrux_inspection, inspect, (dethrux_byte_order byte_order, const void *utf16, size_t len),
+    (byte_order, utf16, len), DETHRUX_READS(utf16, len), (void)0)
+DETHRUX_CALL(
+    dethrux_progress, to_utf32, (dethrux_byte_order byte_order, const void *utf16, size_t len,
+    uint32_t *to, size_t capacity), (byte_order, utf16, len, to, capacity),
+    DETHRUX_READS(utf16, len); DETHRUX_WRITES(to, capacity * 4), DETHRUX_WROTE(to,
+    result.written * 4))
+DETHRUX_CALL(
+    dethrux_progress, to_utf32_lossy, (dethrux_byte_order byte_order, const void *utf16, size_t len,
+    uint32_t *to, size_t capacity), (byte_order, utf16, len, to, capacity),
+    DETHRUX_READS(utf16, len); DETHRUX_WRITES(to, capacity * 4), DETHRUX_WROTE(to,
+    result.written * 4))
+DETHRUX_CALL(
+    size_t, to_utf32_lossy_len, (dethrux_byte_order byte_order, const void *utf16, size_t len),
+    (byte_order, utf16, len), DETHRUX_READS(utf16, len), (void)0)
+DETHRUX_CALL(
+    dethrux_validity, validate_utf32, (const uint32_t *utf32, size_t len), (utf32, len),
+    DETHRUX_READS(utf32, len * 4), (void)0)
+DETHRUX_CALL(
+    dethrux_progress, from_utf32, (dethrux_byte_order byte_order, const uint32_t *utf32, size_t len,
+    void *to, size_t capacity), (byte_order, utf32, len, to, capacity), DETHRUX_READS(utf32,
+    len * 4); DETHRUX_WRITES(to, capacity), DETHRUX_WROTE(to, result.written))
+DETHRUX_CALL(
+    dethrux_progress, from_utf32_lossy, (dethrux_byte_order byte_order, const uint32_t *utf32,
+    size_t len, void *to, size_t capacity), (byte_order, utf32, len, to, capacity),
+    DETHRUX_READS(utf32, len * 4); DETHRUX_WRITES(to, capacity), DETHRUX_WROTE(to, result.written))
+DETHRUX_CALL(
+    size_t, from_utf32_lossy_len, (const uint32_t *utf32, size_t len), (utf32, len),
+    DETHRUX_READS(utf32, len * 4), (void)0)
+DETHRUX_CALL(
+    dethrux_progress, to_latin1, (dethrux_byte_order byte_order, const void *utf16, size_t len,
+    void *to, size_t capacity), (byte_order, utf16, len, to, capacity), DETHRUX_READS(utf16, len);
+    DETHRUX_WRITES(to, capacity), DETHRUX_WROTE(to, result.written))
+DETHRUX_CALL(
+    dethrux_progress, from_latin1, (dethrux_byte_order byte_order, const void *latin1, size_t len,
+    void *to, size_t capacity), (byte_order, latin1, len, to, capacity), DETHRUX_READS(latin1, len);
+    DETHRUX_WRITES(to, capacity), DETHRUX_WROTE(to, result.written))
+DETHRUX_CALL(
+    dethrux_progress, to_wtf8, (dethrux_byte_order byte_order, const void *utf16, size_t len,
+    void *to, size_t capacity), (byte_order, utf16, len, to, capacity), DETHRUX_READS(utf16, len);
+    DETHRUX_WRITES(to, capacity), DETHRUX_WROTE(to, result.written))
+DETHRUX_CALL(
+    size_t, to_wtf8_len, (dethrux_byte_order byte_order, const void *utf16, size_t len),
+    (byte_order, utf16, len), DETHRUX_READS(utf16, len), (void)0)
+DETHRUX_CALL(
+    dethrux_progress, to_wtf8_partial, (dethrux_byte_order byte_order, const void *utf16,
+    size_t len, void *to, size_t capacity), (byte_order, utf16, len, to, capacity),
+    DETHRUX_READS(utf16, len); DETHRUX_WRITES(to, capacity), DETHRUX_WROTE(to, result.written))
+DETHRUX_CALL(
+    dethrux_progress, decoder_feed_wtf8, (dethrux_decoder *decoder, dethrux_byte_order byte_order,
+    const void *chunk, size_t len, void *to, size_t capacity),
+    (decoder, byte_order, chunk, len, to, capacity), DETHRUX_WRITES(decoder, sizeof *decoder);
+    DETHRUX_READS(&decoder->pending_len, 1); DETHRUX_READS(chunk, len);
+    DETHRUX_WRITES(to, capacity), DETHRUX_WROTE(decoder, sizeof *decoder);
+    DETHRUX_WROTE(to, result.written))
+DETHRUX_CALL(
+    dethrux_progress, decoder_finish_wtf8, (dethrux_decoder *decoder, dethrux_byte_order byte_order,
+    void *to, size_t capacity), (decoder, byte_order, to, capacity), DETHRUX_WRITES(decoder,
+    sizeof *decoder); DETHRUX_READS(&decoder->pending_len, 1); DETHRUX_WRITES(to, capacity),
+    DETHRUX_WROTE(decoder, sizeof *decoder); DETHRUX_WROTE(to, result.written))
+DETHRUX_CALL(
+    dethrux_progress, from_wtf8, (dethrux_byte_order byte_order, const void *wtf8, size_t len,
+    void *to, size_t capacity), (byte_order, wtf8, len, to, capacity), DETHRUX_READS(wtf8, len);
+    DETHRUX_WRITES(to, capacity), DETHRUX_WROTE(to, result.written))
+DETHRUX_CALL(
+    size_t, from_wtf8_len, (const void *wtf8, size_t len), (wtf8, len), DETHRUX_READS(wtf8, len),
+    (void)0)
+DETHRUX_CALL(
+    dethrux_progress, from_wtf8_partial, (dethrux_byte_order byte_order, const void *wtf8,
+    size_t len, void *to, size_t capacity), (byte_order, wtf8, len, to, capacity),
+    DETHRUX_READS(wtf8, len); DETHRUX_WRITES(to, capacity), DETHRUX_WROTE(to, result.written))
+DETHRUX_CALL(
+    dethrux_progress, wtf8_encoder_feed, (dethrux_wtf8_encoder *encoder,
+    dethrux_byte_order byte_order, const void *chunk, size_t len, void *to, size_t capacity),
+    (encoder, byte_order, chunk, len, to, capacity), DETHRUX_WRITES(encoder, sizeof *encoder);
+    DETHRUX_READS(&encoder->pending_len, 1); DETHRUX_READS(chunk, len);
+    DETHRUX_WRITES(to, capacity), DETHRUX_WROTE(encoder, sizeof *encoder);
+    DETHRUX_WROTE(to, result.written))
+DETHRUX_CALL(
+    dethrux_progress, wtf8_encoder_finish, (dethrux_wtf8_encoder *encoder,
+    dethrux_byte_order byte_order, void *to, size_t capacity), (encoder, byte_order, to, capacity),
+    DETHRUX_WRITES(encoder, sizeof *encoder); DETHRUX_READS(&encoder->pending_len, 1);
+    DETHRUX_WRITES(to, capacity), DETHRUX_WROTE(encoder, sizeof *encoder);
+    DETHRUX_WROTE(to, result.written))
+DETHRUX_CALL(
+    dethrux_progress, decoder_feed, (dethrux_decoder *decoder, dethrux_byte_order byte_order,
+    const void *chunk, size_t len, void *to, size_t capacity),
+    (decoder, byte_order, chunk, len, to, capacity), DETHRUX_WRITES(decoder, sizeof *decoder);
+    DETHRUX_READS(&decoder->pending_len, 1); DETHRUX_READS(chunk, len);
+    DETHRUX_WRITES(to, capacity), DETHRUX_WROTE(decoder, sizeof *decoder);
+    DETHRUX_WROTE(to, result.written))
+DETHRUX_CALL(
+    dethrux_progress, decoder_finish, (dethrux_decoder *decoder, void *to, size_t capacity),
+    (decoder, to, capacity), DETHRUX_WRITES(decoder, sizeof *decoder);
+    DETHRUX_READS(&decoder->pending_len, 1); DETHRUX_WRITES(to, capacity), DETHRUX_WROTE(decoder,
+    sizeof *decoder); DETHRUX_WROTE(to, result.written))
+DETHRUX_CALL(
+    dethrux_progress, encoder_feed, (dethrux_encoder *encoder, dethrux_byte_order byte_order,
+    const void *chunk, size_t len, void *to, size_t capacity),
+    (encoder, byte_order, chunk, len, to, capacity), DETHRUX_WRITES(encoder, sizeof *encoder);
+    DETHRUX_READS(&encoder->pending_len, 1); DETHRUX_READS(chunk, len);
+    DETHRUX_WRITES(to, capacity), DETHRUX_WROTE(encoder, sizeof *encoder);
+    DETHRUX_WROTE(to, result.written))
+DETHRUX_CALL(
+    dethrux_progress, encoder_finish, (dethrux_encoder *encoder, dethrux_byte_order byte_order,
+    void *to, size_t capacity), (encoder, byte_order, to, capacity), DETHRUX_WRITES(encoder,
+    sizeof *encoder); DETHRUX_READS(&encoder->pending_len, 1); DETHRUX_WRITES(to, capacity),
+    DETHRUX_WROTE(encoder, sizeof *encoder); DETHRUX_WROTE(to, result.written))
+DETHRUX_CALL(
+    bool, is_char_boundary, (dethrux_byte_order byte_order, const void *utf16, size_t len,
+    size_t at), (byte_order, utf16, len, at), DETHRUX_READS(utf16, len), (void)0)
+DETHRUX_CALL(
+    size_t, floor_char_boundary, (dethrux_byte_order byte_order, const void *utf16, size_t len,
+    size_t at), (byte_order, utf16, len, at), DETHRUX_READS(utf16, len), (void)0)
+DETHRUX_CALL(
+    uint64_t, floor_char_boundary_around, (dethrux_byte_order byte_order, const void *around,
+    size_t len, uint64_t at), (byte_order, around, len, at), DETHRUX_READS(around, len), (void)0)
+DETHRUX_CALL(
+    size_t, find, (dethrux_byte_order byte_order, const void *utf16, size_t len,
+    const void *pattern, size_t pattern_len), (byte_order, utf16, len, pattern, pattern_len),
+    DETHRUX_READS(utf16, len); DETHRUX_READS(pattern, pattern_len), (void)0)
+DETHRUX_CALL(
+    size_t, rfind, (dethrux_byte_order byte_order, const void *utf16, size_t len,
+    const void *pattern, size_t pattern_len), (byte_order, utf16, len, pattern, pattern_len),
+    DETHRUX_READS(utf16, len); DETHRUX_READS(pattern, pattern_len), (void)0)
+DETHRUX_CALL(
+    size_t, nul_offset, (const void *utf16, size_t len), (utf16, len), DETHRUX_WRITES(utf16, len),
+    DETHRUX_READS(utf16, result + 2 < len ? result + 2 : len))
+DETHRUX_DEFINE(
+    void, swap_byte_order, (void *utf16, size_t len), DETHRUX_READS(utf16, len);
+    dethrux_unchecked_swap_byte_order(utf16, len))
+DETHRUX_CALL(
+    size_t, make_well_formed, (dethrux_byte_order byte_order, void *utf16, size_t len),
+    (byte_order, utf16, len), DETHRUX_READS(utf16, len), (void)0)
+DETHRUX_CALL(
+    int32_t, compare, (dethrux_byte_order first_order, const void *first, size_t first_len,
+    dethrux_byte_order second_order, const void *second, size_t second_len),
+    (first_order, first, first_len, second_order, second, second_len),
+    DETHRUX_READS(first, first_len); DETHRUX_READS(second, second_len), (void)0)
+DETHRUX_CALL(
+    dethrux_bom, detect_bom, (dethrux_byte_order default_order, const void *bytes, size_t len),
+    (default_order, bytes, len), DETHRUX_READS(bytes, len), (void)0)
 #pragma GCC diagnostic pop
 #endif
 /** @endcond */
@@ -1196,20 +1301,6 @@ DETHRUX_U16 dethrux_unit *dethrux_u16_bytes(dethrux_unit *utf16) {
 typedef uint16_t dethrux_unit;
 #define DETHRUX_U16_BYTES(utf16) (utf16)
 #endif
-/** @cond */
-#define DETHRUX_U16_TEXT(utf16, len) DETHRUX_NATIVE_ENDIAN, DETHRUX_U16_BYTES(utf16), (len) * 2
-/* Return how far a call came, in code units of the UTF-16 that it reads or writes. */
-#define DETHRUX_U16_READS(call) \
-    dethrux_progress progress = call; \
-    progress.read /= 2; \
-    progress.error_len /= 2; \
-    return progress
-#define DETHRUX_U16_WRITES(call) \
-    dethrux_progress progress = call; \
-    progress.written /= 2; \
-    return progress
-/** @endcond */
-
 /** The capacity in bytes for the calls from `len` code units to UTF-8 and WTF-8. */
 #define DETHRUX_U16_TO_UTF8_MAX(len) ((size_t)(len) * 3)
 /** The capacity in code units for the calls from `len` bytes of UTF-8, WTF-8 and Latin-1. */
@@ -1225,34 +1316,31 @@ typedef uint16_t dethrux_unit;
 
 /** Does what dethrux_validate does, on code units. */
 DETHRUX_U16_RESULT dethrux_validity dethrux_u16_validate(const dethrux_unit *utf16, size_t len) {
-    dethrux_validity validity = dethrux_validate(DETHRUX_U16_TEXT(utf16, len));
-    validity.valid_up_to /= 2;
-    validity.error_len /= 2;
-    return validity;
+    dethrux_validity found = dethrux_validate(
+        DETHRUX_NATIVE_ENDIAN, DETHRUX_U16_BYTES(utf16), len * 2);
+    found.valid_up_to /= 2;
+    found.error_len /= 2;
+    return found;
 }
 
 /** Does what dethrux_count_chars does, on code units. */
 DETHRUX_U16_RESULT size_t dethrux_u16_count_chars(const dethrux_unit *utf16, size_t len) {
-    return dethrux_count_chars(DETHRUX_U16_TEXT(utf16, len));
+    return dethrux_count_chars(DETHRUX_NATIVE_ENDIAN, DETHRUX_U16_BYTES(utf16), len * 2);
 }
 
 /** Does what dethrux_is_ascii does, on code units. */
 DETHRUX_U16_RESULT bool dethrux_u16_is_ascii(const dethrux_unit *utf16, size_t len) {
-    return dethrux_is_ascii(DETHRUX_U16_TEXT(utf16, len));
+    return dethrux_is_ascii(DETHRUX_NATIVE_ENDIAN, DETHRUX_U16_BYTES(utf16), len * 2);
 }
 
-/**
- * Does what dethrux_to_utf8_lossy_len does, on code units.
- *
- * @return at most `len * 3`
- */
+/** Does what dethrux_to_utf8_lossy_len does, on code units. The length is at most `len * 3`. */
 DETHRUX_U16_RESULT size_t dethrux_u16_to_utf8_lossy_len(const dethrux_unit *utf16, size_t len) {
-    return dethrux_to_utf8_lossy_len(DETHRUX_U16_TEXT(utf16, len));
+    return dethrux_to_utf8_lossy_len(DETHRUX_NATIVE_ENDIAN, DETHRUX_U16_BYTES(utf16), len * 2);
 }
 
 /** Does what dethrux_to_utf8_replacements does, on code units. */
 DETHRUX_U16_RESULT size_t dethrux_u16_to_utf8_replacements(const dethrux_unit *utf16, size_t len) {
-    return dethrux_to_utf8_replacements(DETHRUX_U16_TEXT(utf16, len));
+    return dethrux_to_utf8_replacements(DETHRUX_NATIVE_ENDIAN, DETHRUX_U16_BYTES(utf16), len * 2);
 }
 
 /**
@@ -1262,7 +1350,11 @@ DETHRUX_U16_RESULT size_t dethrux_u16_to_utf8_replacements(const dethrux_unit *u
  */
 DETHRUX_U16_RESULT dethrux_progress dethrux_u16_to_utf8(
     const dethrux_unit *utf16, size_t len, void *to, size_t capacity) {
-    DETHRUX_U16_READS(dethrux_to_utf8(DETHRUX_U16_TEXT(utf16, len), to, capacity));
+    dethrux_progress found = dethrux_to_utf8(
+        DETHRUX_NATIVE_ENDIAN, DETHRUX_U16_BYTES(utf16), len * 2, to, capacity);
+    found.read /= 2;
+    found.error_len /= 2;
+    return found;
 }
 
 /**
@@ -1272,30 +1364,24 @@ DETHRUX_U16_RESULT dethrux_progress dethrux_u16_to_utf8(
  */
 DETHRUX_U16_RESULT dethrux_progress dethrux_u16_to_utf8_lossy(
     const dethrux_unit *utf16, size_t len, void *to, size_t capacity) {
-    DETHRUX_U16_READS(dethrux_to_utf8_lossy(DETHRUX_U16_TEXT(utf16, len), to, capacity));
+    dethrux_progress found = dethrux_to_utf8_lossy(
+        DETHRUX_NATIVE_ENDIAN, DETHRUX_U16_BYTES(utf16), len * 2, to, capacity);
+    found.read /= 2;
+    return found;
 }
 
 /**
- * Does what dethrux_to_utf8_partial does, on code units.
- *
- * With DETHRUX_INCOMPLETE one code unit follows `read`, a leading surrogate.
+ * Does what dethrux_to_utf8_partial does, on code units. With DETHRUX_INCOMPLETE one code unit
+ * follows `read`, a leading surrogate.
  *
  * @param capacity `len * 3` suffices; a loop needs 4
  */
 DETHRUX_U16_RESULT dethrux_progress dethrux_u16_to_utf8_partial(
     const dethrux_unit *utf16, size_t len, void *to, size_t capacity) {
-    DETHRUX_U16_READS(dethrux_to_utf8_partial(DETHRUX_U16_TEXT(utf16, len), to, capacity));
-}
-
-/**
- * Does what dethrux_decoder_feed does, on code units.
- *
- * @param decoder one that only this call and dethrux_decoder_finish have changed
- * @param capacity `(len + 1) * 3` suffices; a loop needs 4
- */
-DETHRUX_U16_RESULT dethrux_progress dethrux_u16_decoder_feed(
-    dethrux_decoder *decoder, const dethrux_unit *chunk, size_t len, void *to, size_t capacity) {
-    DETHRUX_U16_READS(dethrux_decoder_feed(decoder, DETHRUX_U16_TEXT(chunk, len), to, capacity));
+    dethrux_progress found = dethrux_to_utf8_partial(
+        DETHRUX_NATIVE_ENDIAN, DETHRUX_U16_BYTES(utf16), len * 2, to, capacity);
+    found.read /= 2;
+    return found;
 }
 
 /**
@@ -1305,8 +1391,10 @@ DETHRUX_U16_RESULT dethrux_progress dethrux_u16_decoder_feed(
  */
 DETHRUX_U16_RESULT dethrux_progress dethrux_u16_from_utf8(
     const void *utf8, size_t len, dethrux_unit *to, size_t capacity) {
-    DETHRUX_U16_WRITES(
-        dethrux_from_utf8(DETHRUX_NATIVE_ENDIAN, utf8, len, DETHRUX_U16_BYTES(to), capacity * 2));
+    dethrux_progress found = dethrux_from_utf8(
+        DETHRUX_NATIVE_ENDIAN, utf8, len, DETHRUX_U16_BYTES(to), capacity * 2);
+    found.written /= 2;
+    return found;
 }
 
 /**
@@ -1316,37 +1404,19 @@ DETHRUX_U16_RESULT dethrux_progress dethrux_u16_from_utf8(
  */
 DETHRUX_U16_RESULT dethrux_progress dethrux_u16_from_utf8_lossy(
     const void *utf8, size_t len, dethrux_unit *to, size_t capacity) {
-    DETHRUX_U16_WRITES(dethrux_from_utf8_lossy(
-        DETHRUX_NATIVE_ENDIAN, utf8, len, DETHRUX_U16_BYTES(to), capacity * 2));
-}
-
-/**
- * Does what dethrux_encoder_feed does, on code units.
- *
- * @param capacity `len + 1` suffices; a loop needs 2
- */
-DETHRUX_U16_RESULT dethrux_progress dethrux_u16_encoder_feed(
-    dethrux_encoder *encoder, const void *chunk, size_t len, dethrux_unit *to, size_t capacity) {
-    DETHRUX_U16_WRITES(dethrux_encoder_feed(
-        encoder, DETHRUX_NATIVE_ENDIAN, chunk, len, DETHRUX_U16_BYTES(to), capacity * 2));
-}
-
-/**
- * Does what dethrux_encoder_finish does, on code units.
- *
- * @param capacity 1 suffices
- */
-DETHRUX_U16_RESULT dethrux_progress dethrux_u16_encoder_finish(
-    dethrux_encoder *encoder, dethrux_unit *to, size_t capacity) {
-    DETHRUX_U16_WRITES(dethrux_encoder_finish(encoder, DETHRUX_U16_TEXT(to, capacity)));
+    dethrux_progress found = dethrux_from_utf8_lossy(
+        DETHRUX_NATIVE_ENDIAN, utf8, len, DETHRUX_U16_BYTES(to), capacity * 2);
+    found.written /= 2;
+    return found;
 }
 
 /** Does what dethrux_inspect does, on code units. */
 DETHRUX_U16_RESULT dethrux_inspection dethrux_u16_inspect(const dethrux_unit *utf16, size_t len) {
-    dethrux_inspection inspection = dethrux_inspect(DETHRUX_U16_TEXT(utf16, len));
-    inspection.valid_up_to /= 2;
-    inspection.error_len /= 2;
-    return inspection;
+    dethrux_inspection found = dethrux_inspect(
+        DETHRUX_NATIVE_ENDIAN, DETHRUX_U16_BYTES(utf16), len * 2);
+    found.valid_up_to /= 2;
+    found.error_len /= 2;
+    return found;
 }
 
 /**
@@ -1356,7 +1426,11 @@ DETHRUX_U16_RESULT dethrux_inspection dethrux_u16_inspect(const dethrux_unit *ut
  */
 DETHRUX_U16_RESULT dethrux_progress dethrux_u16_to_utf32(
     const dethrux_unit *utf16, size_t len, uint32_t *to, size_t capacity) {
-    DETHRUX_U16_READS(dethrux_to_utf32(DETHRUX_U16_TEXT(utf16, len), to, capacity));
+    dethrux_progress found = dethrux_to_utf32(
+        DETHRUX_NATIVE_ENDIAN, DETHRUX_U16_BYTES(utf16), len * 2, to, capacity);
+    found.read /= 2;
+    found.error_len /= 2;
+    return found;
 }
 
 /**
@@ -1366,16 +1440,15 @@ DETHRUX_U16_RESULT dethrux_progress dethrux_u16_to_utf32(
  */
 DETHRUX_U16_RESULT dethrux_progress dethrux_u16_to_utf32_lossy(
     const dethrux_unit *utf16, size_t len, uint32_t *to, size_t capacity) {
-    DETHRUX_U16_READS(dethrux_to_utf32_lossy(DETHRUX_U16_TEXT(utf16, len), to, capacity));
+    dethrux_progress found = dethrux_to_utf32_lossy(
+        DETHRUX_NATIVE_ENDIAN, DETHRUX_U16_BYTES(utf16), len * 2, to, capacity);
+    found.read /= 2;
+    return found;
 }
 
-/**
- * Does what dethrux_to_utf32_lossy_len does, on code units.
- *
- * @return at most `len`
- */
+/** Does what dethrux_to_utf32_lossy_len does, on code units. The length is at most `len`. */
 DETHRUX_U16_RESULT size_t dethrux_u16_to_utf32_lossy_len(const dethrux_unit *utf16, size_t len) {
-    return dethrux_to_utf32_lossy_len(DETHRUX_U16_TEXT(utf16, len));
+    return dethrux_to_utf32_lossy_len(DETHRUX_NATIVE_ENDIAN, DETHRUX_U16_BYTES(utf16), len * 2);
 }
 
 /**
@@ -1385,8 +1458,10 @@ DETHRUX_U16_RESULT size_t dethrux_u16_to_utf32_lossy_len(const dethrux_unit *utf
  */
 DETHRUX_U16_RESULT dethrux_progress dethrux_u16_from_utf32(
     const uint32_t *utf32, size_t len, dethrux_unit *to, size_t capacity) {
-    DETHRUX_U16_WRITES(
-        dethrux_from_utf32(DETHRUX_NATIVE_ENDIAN, utf32, len, DETHRUX_U16_BYTES(to), capacity * 2));
+    dethrux_progress found = dethrux_from_utf32(
+        DETHRUX_NATIVE_ENDIAN, utf32, len, DETHRUX_U16_BYTES(to), capacity * 2);
+    found.written /= 2;
+    return found;
 }
 
 /**
@@ -1396,8 +1471,10 @@ DETHRUX_U16_RESULT dethrux_progress dethrux_u16_from_utf32(
  */
 DETHRUX_U16_RESULT dethrux_progress dethrux_u16_from_utf32_lossy(
     const uint32_t *utf32, size_t len, dethrux_unit *to, size_t capacity) {
-    DETHRUX_U16_WRITES(dethrux_from_utf32_lossy(
-        DETHRUX_NATIVE_ENDIAN, utf32, len, DETHRUX_U16_BYTES(to), capacity * 2));
+    dethrux_progress found = dethrux_from_utf32_lossy(
+        DETHRUX_NATIVE_ENDIAN, utf32, len, DETHRUX_U16_BYTES(to), capacity * 2);
+    found.written /= 2;
+    return found;
 }
 
 /**
@@ -1407,7 +1484,11 @@ DETHRUX_U16_RESULT dethrux_progress dethrux_u16_from_utf32_lossy(
  */
 DETHRUX_U16_RESULT dethrux_progress dethrux_u16_to_latin1(
     const dethrux_unit *utf16, size_t len, void *to, size_t capacity) {
-    DETHRUX_U16_READS(dethrux_to_latin1(DETHRUX_U16_TEXT(utf16, len), to, capacity));
+    dethrux_progress found = dethrux_to_latin1(
+        DETHRUX_NATIVE_ENDIAN, DETHRUX_U16_BYTES(utf16), len * 2, to, capacity);
+    found.read /= 2;
+    found.error_len /= 2;
+    return found;
 }
 
 /**
@@ -1417,8 +1498,10 @@ DETHRUX_U16_RESULT dethrux_progress dethrux_u16_to_latin1(
  */
 DETHRUX_U16_RESULT dethrux_progress dethrux_u16_from_latin1(
     const void *latin1, size_t len, dethrux_unit *to, size_t capacity) {
-    DETHRUX_U16_WRITES(dethrux_from_latin1(
-        DETHRUX_NATIVE_ENDIAN, latin1, len, DETHRUX_U16_BYTES(to), capacity * 2));
+    dethrux_progress found = dethrux_from_latin1(
+        DETHRUX_NATIVE_ENDIAN, latin1, len, DETHRUX_U16_BYTES(to), capacity * 2);
+    found.written /= 2;
+    return found;
 }
 
 /**
@@ -1428,41 +1511,44 @@ DETHRUX_U16_RESULT dethrux_progress dethrux_u16_from_latin1(
  */
 DETHRUX_U16_RESULT dethrux_progress dethrux_u16_to_wtf8(
     const dethrux_unit *utf16, size_t len, void *to, size_t capacity) {
-    DETHRUX_U16_READS(dethrux_to_wtf8(DETHRUX_U16_TEXT(utf16, len), to, capacity));
+    dethrux_progress found = dethrux_to_wtf8(
+        DETHRUX_NATIVE_ENDIAN, DETHRUX_U16_BYTES(utf16), len * 2, to, capacity);
+    found.read /= 2;
+    return found;
 }
 
-/**
- * Does what dethrux_to_wtf8_len does, on code units.
- *
- * @return at most `len * 3`
- */
+/** Does what dethrux_to_wtf8_len does, on code units. The length is at most `len * 3`. */
 DETHRUX_U16_RESULT size_t dethrux_u16_to_wtf8_len(const dethrux_unit *utf16, size_t len) {
-    return dethrux_to_wtf8_len(DETHRUX_U16_TEXT(utf16, len));
+    return dethrux_to_wtf8_len(DETHRUX_NATIVE_ENDIAN, DETHRUX_U16_BYTES(utf16), len * 2);
 }
 
 /**
- * Does what dethrux_to_wtf8_partial does, on code units.
- *
- * With DETHRUX_INCOMPLETE one code unit follows `read`, a leading surrogate.
+ * Does what dethrux_to_wtf8_partial does, on code units. With DETHRUX_INCOMPLETE one code unit
+ * follows `read`, a leading surrogate.
  *
  * @param capacity `len * 3` suffices; a loop needs 4
  */
 DETHRUX_U16_RESULT dethrux_progress dethrux_u16_to_wtf8_partial(
     const dethrux_unit *utf16, size_t len, void *to, size_t capacity) {
-    DETHRUX_U16_READS(dethrux_to_wtf8_partial(DETHRUX_U16_TEXT(utf16, len), to, capacity));
+    dethrux_progress found = dethrux_to_wtf8_partial(
+        DETHRUX_NATIVE_ENDIAN, DETHRUX_U16_BYTES(utf16), len * 2, to, capacity);
+    found.read /= 2;
+    return found;
 }
 
 /**
- * Does what dethrux_decoder_feed_wtf8 does, on code units. End the stream with
- * dethrux_decoder_finish_wtf8 and DETHRUX_NATIVE_ENDIAN.
+ * Does what dethrux_decoder_feed_wtf8 does, on code units. Only this call and
+ * dethrux_decoder_finish_wtf8 may have changed the decoder. End the stream with the latter and
+ * DETHRUX_NATIVE_ENDIAN.
  *
- * @param decoder one that only this call and dethrux_decoder_finish_wtf8 have changed
  * @param capacity `(len + 1) * 3` suffices; a loop needs 4
  */
 DETHRUX_U16_RESULT dethrux_progress dethrux_u16_decoder_feed_wtf8(
     dethrux_decoder *decoder, const dethrux_unit *chunk, size_t len, void *to, size_t capacity) {
-    DETHRUX_U16_READS(
-        dethrux_decoder_feed_wtf8(decoder, DETHRUX_U16_TEXT(chunk, len), to, capacity));
+    dethrux_progress found = dethrux_decoder_feed_wtf8(
+        decoder, DETHRUX_NATIVE_ENDIAN, DETHRUX_U16_BYTES(chunk), len * 2, to, capacity);
+    found.read /= 2;
+    return found;
 }
 
 /**
@@ -1472,8 +1558,10 @@ DETHRUX_U16_RESULT dethrux_progress dethrux_u16_decoder_feed_wtf8(
  */
 DETHRUX_U16_RESULT dethrux_progress dethrux_u16_from_wtf8(
     const void *wtf8, size_t len, dethrux_unit *to, size_t capacity) {
-    DETHRUX_U16_WRITES(
-        dethrux_from_wtf8(DETHRUX_NATIVE_ENDIAN, wtf8, len, DETHRUX_U16_BYTES(to), capacity * 2));
+    dethrux_progress found = dethrux_from_wtf8(
+        DETHRUX_NATIVE_ENDIAN, wtf8, len, DETHRUX_U16_BYTES(to), capacity * 2);
+    found.written /= 2;
+    return found;
 }
 
 /**
@@ -1483,8 +1571,10 @@ DETHRUX_U16_RESULT dethrux_progress dethrux_u16_from_wtf8(
  */
 DETHRUX_U16_RESULT dethrux_progress dethrux_u16_from_wtf8_partial(
     const void *wtf8, size_t len, dethrux_unit *to, size_t capacity) {
-    DETHRUX_U16_WRITES(dethrux_from_wtf8_partial(
-        DETHRUX_NATIVE_ENDIAN, wtf8, len, DETHRUX_U16_BYTES(to), capacity * 2));
+    dethrux_progress found = dethrux_from_wtf8_partial(
+        DETHRUX_NATIVE_ENDIAN, wtf8, len, DETHRUX_U16_BYTES(to), capacity * 2);
+    found.written /= 2;
+    return found;
 }
 
 /**
@@ -1495,8 +1585,10 @@ DETHRUX_U16_RESULT dethrux_progress dethrux_u16_from_wtf8_partial(
 DETHRUX_U16_RESULT dethrux_progress dethrux_u16_wtf8_encoder_feed(
     dethrux_wtf8_encoder *encoder, const void *chunk, size_t len, dethrux_unit *to,
     size_t capacity) {
-    DETHRUX_U16_WRITES(dethrux_wtf8_encoder_feed(
-        encoder, DETHRUX_NATIVE_ENDIAN, chunk, len, DETHRUX_U16_BYTES(to), capacity * 2));
+    dethrux_progress found = dethrux_wtf8_encoder_feed(
+        encoder, DETHRUX_NATIVE_ENDIAN, chunk, len, DETHRUX_U16_BYTES(to), capacity * 2);
+    found.written /= 2;
+    return found;
 }
 
 /**
@@ -1506,55 +1598,94 @@ DETHRUX_U16_RESULT dethrux_progress dethrux_u16_wtf8_encoder_feed(
  */
 DETHRUX_U16_RESULT dethrux_progress dethrux_u16_wtf8_encoder_finish(
     dethrux_wtf8_encoder *encoder, dethrux_unit *to, size_t capacity) {
-    DETHRUX_U16_WRITES(dethrux_wtf8_encoder_finish(encoder, DETHRUX_U16_TEXT(to, capacity)));
+    dethrux_progress found = dethrux_wtf8_encoder_finish(
+        encoder, DETHRUX_NATIVE_ENDIAN, DETHRUX_U16_BYTES(to), capacity * 2);
+    found.written /= 2;
+    return found;
+}
+
+/**
+ * Does what dethrux_decoder_feed does, on code units. Only this call and dethrux_decoder_finish
+ * may have changed the decoder.
+ *
+ * @param capacity `(len + 1) * 3` suffices; a loop needs 4
+ */
+DETHRUX_U16_RESULT dethrux_progress dethrux_u16_decoder_feed(
+    dethrux_decoder *decoder, const dethrux_unit *chunk, size_t len, void *to, size_t capacity) {
+    dethrux_progress found = dethrux_decoder_feed(
+        decoder, DETHRUX_NATIVE_ENDIAN, DETHRUX_U16_BYTES(chunk), len * 2, to, capacity);
+    found.read /= 2;
+    return found;
+}
+
+/**
+ * Does what dethrux_encoder_feed does, on code units.
+ *
+ * @param capacity `len + 1` suffices; a loop needs 2
+ */
+DETHRUX_U16_RESULT dethrux_progress dethrux_u16_encoder_feed(
+    dethrux_encoder *encoder, const void *chunk, size_t len, dethrux_unit *to, size_t capacity) {
+    dethrux_progress found = dethrux_encoder_feed(
+        encoder, DETHRUX_NATIVE_ENDIAN, chunk, len, DETHRUX_U16_BYTES(to), capacity * 2);
+    found.written /= 2;
+    return found;
+}
+
+/**
+ * Does what dethrux_encoder_finish does, on code units.
+ *
+ * @param capacity 1 suffices
+ */
+DETHRUX_U16_RESULT dethrux_progress dethrux_u16_encoder_finish(
+    dethrux_encoder *encoder, dethrux_unit *to, size_t capacity) {
+    dethrux_progress found = dethrux_encoder_finish(
+        encoder, DETHRUX_NATIVE_ENDIAN, DETHRUX_U16_BYTES(to), capacity * 2);
+    found.written /= 2;
+    return found;
 }
 
 /** Does what dethrux_is_char_boundary does, on code units. */
 DETHRUX_U16_RESULT bool dethrux_u16_is_char_boundary(
     const dethrux_unit *utf16, size_t len, size_t at) {
-    return at <= len && dethrux_is_char_boundary(DETHRUX_U16_TEXT(utf16, len), at * 2);
+    return at <= len && dethrux_is_char_boundary(
+        DETHRUX_NATIVE_ENDIAN, DETHRUX_U16_BYTES(utf16), len * 2, at * 2);
 }
 
 /**
- * Does what dethrux_floor_char_boundary does, on code units.
- *
- * @return a boundary at most one code unit before the smaller of `at` and `len`
+ * Does what dethrux_floor_char_boundary does, on code units. The boundary is at most one code unit
+ * before the smaller of `at` and `len`.
  */
 DETHRUX_U16_RESULT size_t dethrux_u16_floor_char_boundary(
     const dethrux_unit *utf16, size_t len, size_t at) {
-    return dethrux_floor_char_boundary(DETHRUX_U16_TEXT(utf16, len), at < len ? at * 2 : len * 2)
-           / 2;
+    return dethrux_floor_char_boundary(
+        DETHRUX_NATIVE_ENDIAN, DETHRUX_U16_BYTES(utf16), len * 2, at < len ? at * 2 : len * 2) / 2;
 }
 
 /**
- * Does what dethrux_find does, on code units.
- *
- * @return an offset in code units, or DETHRUX_NOT_FOUND
+ * Does what dethrux_find does, on code units. Returns an offset in code units, or
+ * DETHRUX_NOT_FOUND.
  */
 DETHRUX_U16_RESULT size_t dethrux_u16_find(
     const dethrux_unit *utf16, size_t len, const dethrux_unit *pattern, size_t pattern_len) {
-    size_t found =
-        dethrux_find(DETHRUX_U16_TEXT(utf16, len), DETHRUX_U16_BYTES(pattern), pattern_len * 2);
+    size_t found = dethrux_find(
+        DETHRUX_NATIVE_ENDIAN, DETHRUX_U16_BYTES(utf16), len * 2, DETHRUX_U16_BYTES(pattern),
+        pattern_len * 2);
     return found == DETHRUX_NOT_FOUND ? found : found / 2;
 }
 
 /**
- * Does what dethrux_rfind does, on code units.
- *
- * @return an offset in code units, or DETHRUX_NOT_FOUND
+ * Does what dethrux_rfind does, on code units. Returns an offset in code units, or
+ * DETHRUX_NOT_FOUND.
  */
 DETHRUX_U16_RESULT size_t dethrux_u16_rfind(
     const dethrux_unit *utf16, size_t len, const dethrux_unit *pattern, size_t pattern_len) {
-    size_t found =
-        dethrux_rfind(DETHRUX_U16_TEXT(utf16, len), DETHRUX_U16_BYTES(pattern), pattern_len * 2);
+    size_t found = dethrux_rfind(
+        DETHRUX_NATIVE_ENDIAN, DETHRUX_U16_BYTES(utf16), len * 2, DETHRUX_U16_BYTES(pattern),
+        pattern_len * 2);
     return found == DETHRUX_NOT_FOUND ? found : found / 2;
 }
 
-/**
- * Does what dethrux_nul_offset does, on code units.
- *
- * @return an offset in code units, or `len`
- */
+/** Does what dethrux_nul_offset does, on code units. Returns an offset in code units, or `len`. */
 DETHRUX_U16_RESULT size_t dethrux_u16_nul_offset(const dethrux_unit *utf16, size_t len) {
     return dethrux_nul_offset(DETHRUX_U16_BYTES(utf16), len * 2) / 2;
 }
@@ -1566,14 +1697,15 @@ DETHRUX_U16 void dethrux_u16_swap_byte_order(dethrux_unit *utf16, size_t len) {
 
 /** Does what dethrux_make_well_formed does, on code units. */
 DETHRUX_U16 size_t dethrux_u16_make_well_formed(dethrux_unit *utf16, size_t len) {
-    return dethrux_make_well_formed(DETHRUX_U16_TEXT(utf16, len));
+    return dethrux_make_well_formed(DETHRUX_NATIVE_ENDIAN, DETHRUX_U16_BYTES(utf16), len * 2);
 }
 
 /** Does what dethrux_compare does, on code units. */
 DETHRUX_U16_RESULT int32_t dethrux_u16_compare(
     const dethrux_unit *first, size_t first_len, const dethrux_unit *second, size_t second_len) {
     return dethrux_compare(
-        DETHRUX_U16_TEXT(first, first_len), DETHRUX_U16_TEXT(second, second_len));
+        DETHRUX_NATIVE_ENDIAN, DETHRUX_U16_BYTES(first), first_len * 2, DETHRUX_NATIVE_ENDIAN,
+        DETHRUX_U16_BYTES(second), second_len * 2);
 }
 
 /** @} */
@@ -1581,8 +1713,5 @@ DETHRUX_U16_RESULT int32_t dethrux_u16_compare(
 #undef DETHRUX_U16
 #undef DETHRUX_U16_RESULT
 #undef DETHRUX_U16_BYTES
-#undef DETHRUX_U16_TEXT
-#undef DETHRUX_U16_READS
-#undef DETHRUX_U16_WRITES
 
 #endif

@@ -66,24 +66,24 @@ has() {
 
 # A program of this folder, in C99 or, with the types of <uchar.h>, C11.
 in_c() {
-    cc -std="${2:-c99}" "$level" -Wall -Wextra -Wpedantic -Werror "-I$top/include" "$here/$1.c" "$archive" -o "$room/$1"
+    cc -std="${2:-c99}" "$level" -Wall -Wextra -Wpedantic -Werror "-I$top/dist/include" "$here/$1.c" "$archive" -o "$room/$1"
 }
 
 # The same program in C++, where code units have any type of two bytes.
 c_in_cxx() {
-    c++ -std=c++17 "$level" -Wall -Wextra -Wpedantic -Werror "-I$top/include" -x c++ "$here/$1.c" \
+    c++ -std=c++17 "$level" -Wall -Wextra -Wpedantic -Werror "-I$top/dist/include" -x c++ "$here/$1.c" \
         -x none "$archive" -o "$room/$1_cxx"
 }
 
 # A program of examples/cpp, by a compiler and in a standard.
 in_cxx() {
     "$1" -std="$2" "$level" -Wall -Wextra -Wpedantic -Wconversion -Wsign-conversion -Wshadow -Werror \
-        "-I$top/include" "$top/examples/cpp/$3.cpp" "$archive" -o "$room/cpp_$3"
+        "-I$top/dist/include" "$top/examples/cpp/$3.cpp" "$archive" -o "$room/cpp_$3"
 }
 
 # Whether the header itself has no cast that a program's warnings tell of.
 casts_nothing() {
-    c++ -std=c++17 -Wold-style-cast -Wuseless-cast -Werror "$@" "-I$top/include" -fsyntax-only \
+    c++ -std=c++17 -Wold-style-cast -Wuseless-cast -Werror "$@" "-I$top/dist/include" -fsyntax-only \
         "$top/examples/cpp/first.cpp"
 }
 
@@ -91,7 +91,7 @@ casts_nothing() {
 # C strings where UTF-16 has zero bytes inside.
 refuses_in_cxx() {
     local call
-    mkdir "$room/header" && c++ -std=c++17 -w "$top/include/dethrux.hpp" -o "$room/header/dethrux.hpp.gch" &&
+    mkdir "$room/header" && c++ -std=c++17 -w "$top/dist/include/dethrux.hpp" -o "$room/header/dethrux.hpp.gch" &&
         compiles 'to_utf8(u"a")' || return
     for call in 'to_utf8<std::u16string>(u"a")' 'write_utf8(u"a", units)' 'write_utf16("a", bytes)' \
         'from_utf8<std::string>("a")' 'from_utf8_lossy<std::string>("a")' 'from_wtf8<std::string>("a")' \
@@ -115,7 +115,7 @@ header_in_cxx() {
     local standard
     for standard in c++11 c++17; do
         printf '#include "dethrux.h"\nconstexpr dethrux_byte_order other = dethrux_byte_order(5);\n' |
-            c++ -std=$standard -Wall -Wextra -Wpedantic -Werror "-I$top/include" -x c++ -fsyntax-only - || return
+            c++ -std=$standard -Wall -Wextra -Wpedantic -Werror "-I$top/dist/include" -x c++ -fsyntax-only - || return
     done
 }
 
@@ -137,7 +137,7 @@ is_clean() {
 warns() {
     local program=$1
     shift
-    "$@" -O0 "-I$top/include" -c "$program" -o "$room/ignored.o" 2> "$room/warnings" || return
+    "$@" -O0 "-I$top/dist/include" -c "$program" -o "$room/ignored.o" 2> "$room/warnings" || return
     grep -n '^    dethrux[a-z0-9_:]*(' "$program" | cut -d : -f 1 > "$room/ignored"
     grep 'warning: ignoring' "$room/warnings" | grep -oE 'ignored\.c(pp)?:[0-9]+' | cut -d : -f 2 |
         sort -nu | diff "$room/ignored" -
@@ -159,8 +159,8 @@ write_ignored() {
     parameters+=' size_t len, dethrux_decoder *decoder, dethrux_encoder *encoder,'
     parameters+=' dethrux_wtf8_encoder *wtf8_encoder'
     mkdir -p "$2"
-    gcc -fsyntax-only -aux-info "$room/prototypes" -x c "$top/include/$1.h" || return
-    sed -nE 's/.*'"$1"'\.h:.*[ *](dethrux_[a-z0-9_]+) (\([^()]*\);).*/    \1\2/p' "$room/prototypes" |
+    gcc -fsyntax-only -aux-info "$room/prototypes" -x c "$top/dist/include/$1.h" || return
+    sed -nE '/_kernel /d; s/.*'"$1"'\.h:.*[ *](dethrux_[a-z0-9_]+) (\([^()]*\);).*/    \1\2/p' "$room/prototypes" |
         sed -E 's/const //g; s/\(void\)/()/; s/dethrux_((wtf8_)?(decoder|encoder)) \*\w*/\1/g
             s/void \*\w*, size_t( \w+)?/bytes, len/g; s/dethrux_unit \*\w*, size_t( \w+)?/units, len/g
             s/dethrux_unit \*\w*/units/g; s/uint32_t \*\w*, size_t( \w+)?/points, len/g
@@ -172,7 +172,7 @@ write_ignored() {
 
 # Compiles a file of this folder with sanitizers, and runs a command if that passes.
 sanitized() {
-    "$1" -std=c99 -O0 -g "-fsanitize=$2" -w "-I$top/include" "-I$room" "$here/$3.c" "$archive" \
+    "$1" -std=c99 -O0 -g "-fsanitize=$2" -w "-I$top/dist/include" "-I$room" "$here/$3.c" "$archive" \
         -o "$room/sanitized" && "${@:4}"
 }
 
@@ -196,13 +196,13 @@ reports_misuse() {
 # Whether a sanitizer reports the call of a program in C++: a header, a buffer, and the call.
 reports() {
     printf '#include "%s"\nint main() {\n%s;\nreturn !%s;\n}\n' "${@:3}" > "$room/wrong.cpp"
-    "$1" -std=c++17 -g "-fsanitize=$2" "-I$top/include" "$room/wrong.cpp" "$archive" -o "$room/wrong" &&
+    "$1" -std=c++17 -g "-fsanitize=$2" "-I$top/dist/include" "$room/wrong.cpp" "$archive" -o "$room/wrong" &&
         ! "$room/wrong" 2> "$room/report" && is_about wrong.cpp:4
 }
 
 # Whether the checks in C name each function of the header.
 checks_all() {
-    grep -oE 'dethrux_[a-z0-9_]+\(' "$top/include/dethrux.h" | tr -d '(' | grep -vE 'kernel|u16_bytes|checked_' |
+    grep -oE 'dethrux_[a-z0-9_]+\(' "$top/dist/include/dethrux.h" | tr -d '(' | grep -vE 'kernel|u16_bytes|checked_' |
         sort -u > "$room/declared"
     cat "$here"/{check,units,fixed}.c | grep -oE 'dethrux_[a-z0-9_]+' | sort -u |
         comm -23 "$room/declared" - > "$room/missing"
@@ -211,7 +211,7 @@ checks_all() {
 
 # Whether a program calls each function of a header whose result may not be ignored.
 calls_all() {
-    names dethrux_ "$top/include/$1.h" > "$room/declared"
+    names dethrux_ "$top/dist/include/$1.h" > "$room/declared"
     names dethrux_ "$2" | grep -xFf "$room/declared" | diff "$room/declared" -
 }
 
@@ -221,7 +221,7 @@ refuses_other_sizes() {
     for unit in char char32_t; do
         for line in "${@:2}"; do
             printf '#include "%s"\n%s\n' "$1" "${line/UNIT/$unit}" | c++ -std=c++11 \
-                "-I$top/include" -fsyntax-only -x c++ - 2> "$room/refused" && return 1
+                "-I$top/dist/include" -fsyntax-only -x c++ - 2> "$room/refused" && return 1
             grep -q 'a code unit of UTF-16 has two bytes' "$room/refused" || return
         done
     done
@@ -235,19 +235,19 @@ warns_by_standard() {
 
 # Whether C refuses an enum of one byte.
 refuses_short_enums() {
-    ! cc -std=c99 -fshort-enums -fsyntax-only -w -x c "$top/include/dethrux.h" 2> "$room/refused" &&
+    ! cc -std=c99 -fshort-enums -fsyntax-only -w -x c "$top/dist/include/dethrux.h" 2> "$room/refused" &&
         grep -q dethrux_enum_has_four_bytes "$room/refused"
 }
 
 # Whether a header can be in two files of one program, and twice in one, as a compiler links them.
 in_two_files() {
-    "$@" -O0 -w "-I$top/include" "$archive" -o "$room/two"
+    "$@" -O0 -w "-I$top/dist/include" "$archive" -o "$room/two"
 }
 
 # Whether code units are in the byte order that the compiler says the machine has.
 is_native() {
     printf '#include "dethrux.h"\ntypedef char is[DETHRUX_NATIVE_ENDIAN == DETHRUX_%s_ENDIAN ? 1 : -1];\n' "$2" |
-        cc -std=c99 "-I$top/include" -U__BYTE_ORDER__ "-D__BYTE_ORDER__=$1" -fsyntax-only -w -x c -
+        cc -std=c99 "-I$top/dist/include" -U__BYTE_ORDER__ "-D__BYTE_ORDER__=$1" -fsyntax-only -w -x c -
 }
 
 check_c() {
@@ -280,9 +280,9 @@ decodes_by_word() {
 
 # The program in the first comment of the header, compiled as it is there.
 in_comment() {
-    sed -n '/^ \* @code/,/^ \* @endcode/p' "$top/include/dethrux.h" |
+    sed -n '/^ \* @code/,/^ \* @endcode/p' "$top/dist/include/dethrux.h" |
         sed '/^ \* @/d; s|^ \* \{0,1\}||' > "$room/comment.c"
-    cc -std=c99 "$level" -Wall -Wextra -Wpedantic -Werror "-I$top/include" "$room/comment.c" "$archive" -o "$room/comment"
+    cc -std=c99 "$level" -Wall -Wextra -Wpedantic -Werror "-I$top/dist/include" "$room/comment.c" "$archive" -o "$room/comment"
 }
 
 # That program, on a text that is longer than its buffers, with characters of one to four bytes of
@@ -381,7 +381,7 @@ has_no_warning() {
         [[ $standard == c1* || $standard == c99 ]] || words='c++ -Wold-style-cast'
         for compiler in gcc clang; do
             $compiler -std=$standard -x $words -Wall -Wextra -Wpedantic -Wconversion -Wsign-conversion \
-                -Wshadow -Werror "-I$top/include" -fsyntax-only "$room/header.c" "$here/alloc.c" || return
+                -Wshadow -Werror "-I$top/dist/include" -fsyntax-only "$room/header.c" "$here/alloc.c" || return
         done
     done
 }
@@ -390,7 +390,7 @@ has_no_warning() {
 refuses_allocators() {
     local words malloc=-DDETHRUX_MALLOC realloc=-DDETHRUX_REALLOC free=-DDETHRUX_FREE
     for words in $malloc $realloc $free "$malloc $realloc" "$malloc $free" "$realloc $free"; do
-        ! cc -std=c99 $words "-I$top/include" -fsyntax-only "$room/header.c" 2> "$room/refused" &&
+        ! cc -std=c99 $words "-I$top/dist/include" -fsyntax-only "$room/header.c" 2> "$room/refused" &&
             grep -q 'or none of them' "$room/refused" || return
     done
 }

@@ -69,7 +69,7 @@ build() {
         winpr)
             need cmake:cmake pkg-config:pkg-config /usr/include/openssl/ssl.h:libssl-dev \
                 /usr/include/unicode/ucnv.h:libicu-dev >&2 || exit 2
-            ours="dethrux.c)\n  winpr_system_include_directory_add($top/include)\n  "
+            ours="dethrux.c)\n  winpr_system_include_directory_add($top/dist/include)\n  "
             ours+="winpr_library_add_private($library/libdethrux.so)"
             cp "$here/winpr.c" $crt/dethrux.c &&
                 sed -i "s|unicode_builtin.c)|$ours|" $crt/CMakeLists.txt &&
@@ -159,7 +159,7 @@ library=$(make -s -C "$top/dist" folder)
     cat "$top/bindings/iconv/tests/count.c"
     echo 'COUNTED(dethrux_to_utf8_lossy) COUNTED(dethrux_from_utf8_lossy)'
 } > "$work/count.c"
-step 1 'the counter' cc -shared -fPIC -D_GNU_SOURCE -I"$top/include" "$work/count.c" \
+step 1 'the counter' cc -shared -fPIC -D_GNU_SOURCE -I"$top/dist/include" "$work/count.c" \
     -Wl,--no-as-needed "-L$library" "-Wl,-rpath,$library" -ldethrux -o "$work/count.so"
 
 status=0

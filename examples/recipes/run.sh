@@ -14,7 +14,7 @@ failed=0
 export PYTHONDONTWRITEBYTECODE=1 PYTHONUTF8=1 PYTHONPATH=$room/package LC_ALL=C.UTF-8
 "$top/bindings/python/build.sh" package || exit 1
 
-flags=(-O2 -Wall -Wextra -Wpedantic -Wconversion -Werror -D_GLIBCXX_ASSERTIONS "-I$top/include")
+flags=(-O2 -Wall -Wextra -Wpedantic -Wconversion -Werror -D_GLIBCXX_ASSERTIONS "-I$top/dist/include")
 for source in "$here"/*.{c,cpp,py}; do
     program=${source##*/}
     case $program in

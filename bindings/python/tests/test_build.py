@@ -18,7 +18,7 @@ VERSION = (TOP / "VERSION").read_text().strip()
 EXTENSION = f"_native{sysconfig.get_config_var('EXT_SUFFIX')}"
 # What a source distribution takes from around the folder of the package: all but what is for
 # Windows, and the programs.
-AROUND = ["LICENSE-MIT", "LICENSE-APACHE", "THIRD-PARTY.md", "include/dethrux.h"]
+AROUND = ["LICENSE-MIT", "LICENSE-APACHE", "THIRD-PARTY.md", "dist/include/dethrux.h"]
 AROUND += [f"dist/src/{it.name}" for it in (TOP / "dist" / "src").glob("[clm]*.*")]
 # The number of each machine in the header of an ELF file.
 MACHINES = {"x86_64": 62, "aarch64": 183}

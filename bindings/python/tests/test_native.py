@@ -637,7 +637,7 @@ class Gil(unittest.TestCase):
                 sources = TOP / "bindings" / "python" / "src" / "dethrux"
             library = Path(folder) / "tells.c"
             library.write_text(TELLS_GIL)
-            words = ["cc", "-std=c11", "-shared", "-fPIC", "-w", f"-I{TOP / 'include'}"]
+            words = ["cc", "-std=c11", "-shared", "-fPIC", "-w", f"-I{TOP / 'dist/include'}"]
             words += [f"-I{sysconfig.get_path('include')}", str(sources / "_native.c")]
             made = package / f"_native{sysconfig.get_config_var('EXT_SUFFIX')}"
             subprocess.run([*words, str(library), "-o", str(made)], check=True)
