@@ -401,20 +401,19 @@ typedef struct {
     }
 FEED_BY(feed_utf16, dethrux_decoder, dethrux_decoder_feed)
 FEED_BY(feed_utf8, dethrux_encoder, dethrux_encoder_feed)
-FEED_BY(feed_wtf8, dethrux_decoder, dethrux_decoder_feed_wtf8)
+FEED_BY(feed_wtf8, dethrux_decoder, dethrux_wtf8_decoder_feed)
 
 #define FINISH_BY(name, state_of, ...) \
     static dethrux_progress name(dethrux_decoder *decoder, dethrux_byte_order order, uint8_t *to, \
                                  size_t capacity) { \
-        (void)order; \
         state_of *state = guarded_state(decoder, sizeof *decoder, situation.at); \
         dethrux_progress got = __VA_ARGS__; \
         memcpy(decoder, state, sizeof *decoder); \
         return got; \
     }
-FINISH_BY(finish_utf16, dethrux_decoder, dethrux_decoder_finish(state, to, capacity))
+FINISH_BY(finish_utf16, dethrux_decoder, dethrux_decoder_finish(state, order, to, capacity))
 FINISH_BY(finish_utf8, dethrux_encoder, dethrux_encoder_finish(state, order, to, capacity))
-FINISH_BY(finish_wtf8, dethrux_decoder, dethrux_decoder_finish_wtf8(state, order, to, capacity))
+FINISH_BY(finish_wtf8, dethrux_decoder, dethrux_wtf8_decoder_finish(state, order, to, capacity))
 
 static void decode_chunk_to_wtf8(dethrux_byte_order order, const uint8_t *bytes, size_t len,
                                  decoded *to) {
@@ -573,12 +572,12 @@ static void check_to_wtf8_partial(void) {
     check_conversion(dethrux_to_wtf8_partial, &chunk_to_wtf8, PARTIAL, DETHRUX_WTF8_MAX(in.len));
 }
 
-static void check_decoder_feed_wtf8(void) {
+static void check_wtf8_decoder_feed(void) {
     check_feed(&WTF8_DECODER);
 }
 
 /* A pending code unit is written, in any state, and an odd byte is left out. */
-static void check_decoder_finish_wtf8(void) {
+static void check_wtf8_decoder_finish(void) {
     uint8_t wtf8[3];
     size_t pending = pending_len(&in.decoder);
     size_t len = pending >= 2 ? encode_utf8(unit_at(in.order, in.decoder.pending, 0), wtf8) : 0;
@@ -1202,8 +1201,8 @@ const check CHECKS[] = {
     {"dethrux_to_wtf8", check_to_wtf8},
     {"dethrux_to_wtf8_len", check_to_wtf8_len},
     {"dethrux_to_wtf8_partial", check_to_wtf8_partial},
-    {"dethrux_decoder_feed_wtf8", check_decoder_feed_wtf8},
-    {"dethrux_decoder_finish_wtf8", check_decoder_finish_wtf8},
+    {"dethrux_wtf8_decoder_feed", check_wtf8_decoder_feed},
+    {"dethrux_wtf8_decoder_finish", check_wtf8_decoder_finish},
     {"dethrux_from_wtf8", check_from_wtf8},
     {"dethrux_from_wtf8_len", check_from_wtf8_len},
     {"dethrux_from_wtf8_partial", check_from_wtf8_partial},

@@ -72,7 +72,7 @@
  *             at += progress.read;
  *         } while (progress.status == DETHRUX_NO_SPACE);
  *     }
- *     progress = dethrux_decoder_finish(&decoder, utf8, sizeof utf8);
+ *     progress = dethrux_decoder_finish(&decoder, DETHRUX_LITTLE_ENDIAN, utf8, sizeof utf8);
  *     return fwrite(utf8, 1, progress.written, stdout) != progress.written
  *         || fflush(stdout) != 0 || ferror(stdin);
  * }
@@ -132,9 +132,9 @@
 #define DETHRUX_UTF32_MAX(len) (((size_t)(len) + 1) / 2)
 /** The capacity for the conversions from UTF-32, for `len` code units of it. */
 #define DETHRUX_FROM_UTF32_MAX(len) ((size_t)(len) * 4)
-/** The capacity for dethrux_decoder_feed and dethrux_decoder_feed_wtf8. */
+/** The capacity for dethrux_decoder_feed and dethrux_wtf8_decoder_feed. */
 #define DETHRUX_DECODER_FEED_MAX(len) (((size_t)(len) + 3) / 2 * 3)
-/** The capacity for dethrux_decoder_finish and dethrux_decoder_finish_wtf8. */
+/** The capacity for dethrux_decoder_finish and dethrux_wtf8_decoder_finish. */
 #define DETHRUX_DECODER_FINISH_MAX 3
 /** The capacity for dethrux_encoder_feed. */
 #define DETHRUX_ENCODER_FEED_MAX(len) ((size_t)(len) * 2 + 2)
@@ -277,7 +277,7 @@ typedef struct dethrux_bom {
  *
  * All zero, as in `dethrux_decoder decoder = DETHRUX_DECODER_INIT`, it begins a stream. Any values
  * are allowed: a `pending_len` above 3 is read as 3, and dethrux_decoder_feed and
- * dethrux_decoder_feed_wtf8 never leave one above 3.
+ * dethrux_wtf8_decoder_feed never leave one above 3.
  *
  * @ingroup dethrux_streams
  */
@@ -691,7 +691,7 @@ DETHRUX_NODISCARD dethrux_progress dethrux_to_wtf8_partial(
  * Decodes the next chunk of a stream, cut anywhere, to WTF-8.
  *
  * This is like dethrux_decoder_feed, but keeps each unpaired surrogate. End the stream with
- * dethrux_decoder_finish_wtf8.
+ * dethrux_wtf8_decoder_finish.
  *
  * @param byte_order the same for a whole stream
  * @param capacity DETHRUX_DECODER_FEED_MAX(len) suffices; a loop needs 4
@@ -701,11 +701,11 @@ DETHRUX_NODISCARD dethrux_progress dethrux_to_wtf8_partial(
  *   `to` were left: call again with the rest
  * @ingroup dethrux_wtf8
  */
-DETHRUX_NODISCARD dethrux_progress dethrux_decoder_feed_wtf8(dethrux_decoder *decoder,
+DETHRUX_NODISCARD dethrux_progress dethrux_wtf8_decoder_feed(dethrux_decoder *decoder,
     dethrux_byte_order byte_order, const void *chunk, size_t len, void *to, size_t capacity);
 
 /**
- * Ends a stream of dethrux_decoder_feed_wtf8 whose last chunk was read.
+ * Ends a stream of dethrux_wtf8_decoder_feed whose last chunk was read.
  *
  * Writes the pending leading surrogate, of 3 bytes, or nothing if none is pending. The decoder
  * begins a new stream. Here the bytes of `to` after `written` stay as they were.
@@ -718,7 +718,7 @@ DETHRUX_NODISCARD dethrux_progress dethrux_decoder_feed_wtf8(dethrux_decoder *de
  * - DETHRUX_NO_SPACE: the surrogate does not fit, and nothing changed
  * @ingroup dethrux_wtf8
  */
-DETHRUX_NODISCARD dethrux_progress dethrux_decoder_finish_wtf8(
+DETHRUX_NODISCARD dethrux_progress dethrux_wtf8_decoder_finish(
     dethrux_decoder *decoder, dethrux_byte_order byte_order, void *to, size_t capacity);
 
 /**
@@ -831,6 +831,7 @@ DETHRUX_NODISCARD dethrux_progress dethrux_decoder_feed(dethrux_decoder *decoder
  * Writes U+FFFD, of 3 bytes, if bytes are not decoded yet, else nothing. The decoder begins a new
  * stream. Here the bytes of `to` after `written` stay as they were.
  *
+ * @param byte_order the same for a whole stream
  * @param capacity DETHRUX_DECODER_FINISH_MAX suffices
  * @return how much was written; `read` is 0, and the status is one of these:
  * - DETHRUX_DONE: the stream has ended
@@ -839,7 +840,7 @@ DETHRUX_NODISCARD dethrux_progress dethrux_decoder_feed(dethrux_decoder *decoder
  * @ingroup dethrux_streams
  */
 DETHRUX_NODISCARD dethrux_progress dethrux_decoder_finish(
-    dethrux_decoder *decoder, void *to, size_t capacity);
+    dethrux_decoder *decoder, dethrux_byte_order byte_order, void *to, size_t capacity);
 
 /**
  * Encodes the next chunk of a stream of UTF-8, cut anywhere, in UTF-16.
@@ -1121,7 +1122,7 @@ typedef uint16_t dethrux_unit;
 #define DETHRUX_U16_FROM_UTF8_MAX(len) ((size_t)(len))
 /** The capacity in code units for the calls from `len` code units of UTF-32. */
 #define DETHRUX_U16_FROM_UTF32_MAX(len) ((size_t)(len) * 2)
-/** The capacity in bytes for dethrux_u16_decoder_feed and dethrux_u16_decoder_feed_wtf8. */
+/** The capacity in bytes for dethrux_u16_decoder_feed and dethrux_u16_wtf8_decoder_feed. */
 #define DETHRUX_U16_DECODER_FEED_MAX(len) ((size_t)(len) * 3 + 3)
 /** The capacity in code units for dethrux_u16_encoder_feed. */
 #define DETHRUX_U16_ENCODER_FEED_MAX(len) ((size_t)(len) + 1)

@@ -1282,7 +1282,7 @@ public:
     template <class String>
     void finish(String &to) {
         detail::append(to, DETHRUX_DECODER_FINISH_MAX, [&](auto *data, std::size_t most) {
-            return dethrux_decoder_finish(&state_, data, most);
+            return dethrux_decoder_finish(&state_, detail::order(order_), data, most);
         });
     }
 };
@@ -1302,11 +1302,11 @@ public:
      */
     template <class String>
     void feed(bytes chunk, String &to) {
-        feed_by(dethrux_decoder_feed_wtf8, {order_, chunk}, to);
+        feed_by(dethrux_wtf8_decoder_feed, {order_, chunk}, to);
     }
     template <class String>
     void feed(units chunk, String &to) {
-        feed_by(dethrux_decoder_feed_wtf8, chunk, to);
+        feed_by(dethrux_wtf8_decoder_feed, chunk, to);
         order_ = byte_order::native;
     }
     /** @} */
@@ -1320,7 +1320,7 @@ public:
     [[nodiscard]] bool finish(String &to) {
         const dethrux_progress made =
             detail::append(to, DETHRUX_DECODER_FINISH_MAX, [&](auto *data, std::size_t most) {
-                return dethrux_decoder_finish_wtf8(&state_, detail::order(order_), data, most);
+                return dethrux_wtf8_decoder_finish(&state_, detail::order(order_), data, most);
             });
         return made.status == DETHRUX_DONE;
     }

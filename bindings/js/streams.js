@@ -132,14 +132,13 @@ class Decoder {
 
     feed(chunk) {
         const bytes = checked(chunk, this.#kind);
-        const name = this.#isWtf8 ? "decoder_feed_wtf8" : "decoder_feed";
+        const name = this.#isWtf8 ? "wtf8_decoder_feed" : "decoder_feed";
         return this.#stream.fed(name, this.#form.order, bytes, DECODER.feed);
     }
 
     finish() {
-        return this.#isWtf8
-            ? this.#stream.ended("decoder_finish_wtf8", [this.#form.order], DECODER.finish)
-            : this.#stream.ended("decoder_finish", [], DECODER.finish);
+        const name = this.#isWtf8 ? "wtf8_decoder_finish" : "decoder_finish";
+        return this.#stream.ended(name, [this.#form.order], DECODER.finish);
     }
 }
 

@@ -344,7 +344,7 @@ static decoder new_decoder(way by, dethrux_byte_order order) {
 static dethrux_progress feed(decoder *by, const uint8_t *chunk, size_t len, uint8_t *to, size_t room) {
     switch (by->way) {
     case TO_UTF8: return dethrux_decoder_feed(&by->utf16, by->order, chunk, len, to, room);
-    case TO_WTF8: return dethrux_decoder_feed_wtf8(&by->utf16, by->order, chunk, len, to, room);
+    case TO_WTF8: return dethrux_wtf8_decoder_feed(&by->utf16, by->order, chunk, len, to, room);
     case FROM_WTF8: return dethrux_wtf8_encoder_feed(&by->wtf8, by->order, chunk, len, to, room);
     default: return dethrux_encoder_feed(&by->utf8, by->order, chunk, len, to, room);
     }
@@ -352,8 +352,8 @@ static dethrux_progress feed(decoder *by, const uint8_t *chunk, size_t len, uint
 
 static dethrux_progress finish(decoder *by, uint8_t *to, size_t room) {
     switch (by->way) {
-    case TO_UTF8: return dethrux_decoder_finish(&by->utf16, to, room);
-    case TO_WTF8: return dethrux_decoder_finish_wtf8(&by->utf16, by->order, to, room);
+    case TO_UTF8: return dethrux_decoder_finish(&by->utf16, by->order, to, room);
+    case TO_WTF8: return dethrux_wtf8_decoder_finish(&by->utf16, by->order, to, room);
     case FROM_WTF8: return dethrux_wtf8_encoder_finish(&by->wtf8, by->order, to, room);
     default: return dethrux_encoder_finish(&by->utf8, by->order, to, room);
     }

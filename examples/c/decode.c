@@ -20,9 +20,9 @@ static bool feed(dethrux_decoder *decoder, dethrux_byte_order order, const uint8
 }
 
 /* Writes U+FFFD if the stream ends inside a character. */
-static bool finish(dethrux_decoder *decoder) {
+static bool finish(dethrux_decoder *decoder, dethrux_byte_order order) {
     uint8_t utf8[DETHRUX_DECODER_FINISH_MAX];
-    size_t len = dethrux_decoder_finish(decoder, utf8, sizeof utf8).written;
+    size_t len = dethrux_decoder_finish(decoder, order, utf8, sizeof utf8).written;
     return fwrite(utf8, 1, len, stdout) == len && fflush(stdout) == 0;
 }
 
@@ -47,5 +47,5 @@ int main(int argc, char **argv) {
             return 1;
         }
     }
-    return !finish(&decoder) || ferror(stdin);
+    return !finish(&decoder, order) || ferror(stdin);
 }

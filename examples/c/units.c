@@ -203,12 +203,12 @@ READS(dethrux_u16_to_latin1, dethrux_to_latin1, void)
 READS(dethrux_u16_to_utf32, dethrux_to_utf32, uint32_t)
 READS(dethrux_u16_to_utf32_lossy, dethrux_to_utf32_lossy, uint32_t)
 DECODES(dethrux_u16_decoder_feed, dethrux_decoder_feed)
-DECODES(dethrux_u16_decoder_feed_wtf8, dethrux_decoder_feed_wtf8)
+DECODES(dethrux_u16_wtf8_decoder_feed, dethrux_wtf8_decoder_feed)
 static const call reading[] = {NAMED(dethrux_u16_to_utf8), NAMED(dethrux_u16_to_utf8_lossy),
     NAMED(dethrux_u16_to_utf8_partial), NAMED(dethrux_u16_to_wtf8),
     NAMED(dethrux_u16_to_wtf8_partial), NAMED(dethrux_u16_to_latin1), NAMED(dethrux_u16_to_utf32),
     NAMED(dethrux_u16_to_utf32_lossy), NAMED(dethrux_u16_decoder_feed),
-    NAMED(dethrux_u16_decoder_feed_wtf8)};
+    NAMED(dethrux_u16_wtf8_decoder_feed)};
 
 WRITES(dethrux_u16_from_utf8, dethrux_from_utf8, void)
 WRITES(dethrux_u16_from_utf8_lossy, dethrux_from_utf8_lossy, void)

@@ -24,7 +24,7 @@ int main(void) {
             &decoder, bom.byte_order, raw + skip, len - skip, utf8, sizeof utf8);
         write_fields(utf8, part.written);
     }
-    dethrux_progress end = dethrux_decoder_finish(&decoder, utf8, sizeof utf8);
+    dethrux_progress end = dethrux_decoder_finish(&decoder, bom.byte_order, utf8, sizeof utf8);
     write_fields(utf8, end.written);
     return ferror(stdin) || fflush(stdout) != 0 || ferror(stdout);
 }

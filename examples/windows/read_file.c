@@ -40,7 +40,8 @@ static bool decode(HANDLE file) {
         }
         start = 0;
     }
-    return write_all(utf8, dethrux_decoder_finish(&decoder, utf8, sizeof utf8).written);
+    dethrux_progress end = dethrux_decoder_finish(&decoder, bom.byte_order, utf8, sizeof utf8);
+    return write_all(utf8, end.written);
 }
 
 int main(void) {

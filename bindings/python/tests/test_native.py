@@ -530,7 +530,9 @@ PROGRESS(from_utf8) PROGRESS(from_utf8_lossy) PROGRESS(to_latin1) PROGRESS(from_
 PROGRESS(to_wtf8) PROGRESS(to_wtf8_partial) PROGRESS(from_wtf8) PROGRESS(from_wtf8_partial)
 dethrux_progress dethrux_decoder_feed(dethrux_decoder *d, P, TO) { return p(len, capacity); }
 dethrux_progress dethrux_encoder_feed(dethrux_encoder *d, P, TO) { return p(len, capacity); }
-dethrux_progress dethrux_decoder_finish(dethrux_decoder *d, TO) { return p(0, 0); }
+dethrux_progress dethrux_decoder_finish(dethrux_decoder *d, dethrux_byte_order o, TO) {
+    return p(0, 0);
+}
 dethrux_progress dethrux_encoder_finish(dethrux_encoder *d, dethrux_byte_order o, TO) {
     return p(0, 0);
 }

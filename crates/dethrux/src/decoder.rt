@@ -43,9 +43,14 @@ pub extern "C" fn dethrux_decoder_feed(
 }
 
 /// Ends a stream: writes U+FFFD in UTF-8 if bytes are pending, and otherwise nothing. The bytes
-/// after it are unchanged. If U+FFFD does not fit, nothing changes.
+/// after it are unchanged. If U+FFFD does not fit, nothing changes. U+FFFD in UTF-8 is the same in
+/// both byte orders.
 #[unsafe(no_mangle)]
-pub extern "C" fn dethrux_decoder_finish(decoder: &mut Stream, to: &mut [u8]) -> Progress
+pub extern "C" fn dethrux_decoder_finish(
+    decoder: &mut Stream,
+    _byte_order: u32,
+    to: &mut [u8],
+) -> Progress
     ensures read { result.read ≡ 0 }
     ensures done { (stop_of result.status result.error_len ≡ Done)
         ↔ (length (encode_utf8_all (whole_lossy_chars [] (stream_pending decoder.old)))
@@ -63,7 +68,6 @@ pub extern "C" fn dethrux_decoder_finish(decoder: &mut Stream, to: &mut [u8]) ->
         × (to.new ≡ to.old) }
     ensures numbers { AreNumbers result.status result.error_len }
 {
-    // U+FFFD in UTF-8 is the same in both byte orders.
     progress_of(decoder.finish::<ToUtf8<LE>>(to))
 }
 

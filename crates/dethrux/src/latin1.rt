@@ -1,35 +1,17 @@
-//! Latin-1 and UTF-16, and what kind of text bytes are.
+//! Latin-1 and UTF-16.
 
 ghost use Rattle.std.specs.Prelude.{◌≡◌, ◌≢◌, ◌-◌, ◌*◌, ◌/◌, ◌≤◌, drop, if◌then◌else◌, length, min, nat_le, take};
-ghost use Rattle.utf16_units.specs.Encoding.{Encodes, text_of};
+ghost use Rattle.utf16_units.specs.Encoding.{Encodes};
 ghost use Rattle.utf16_transcode.specs.declared.progress.Stop.TheVariants.{Done, NoSpace};
-ghost use Rattle.utf16_fixed.specs.Repertoire.{IsLeast};
 ghost use Rattle.utf16_fixed.specs.StopsLatin1.{StopsLatin1};
-ghost use Rattle.utf16_fixed.specs.Inspection.{EndsAt};
 ghost use Rattle.utf16_fixed.specs.declared.latin1_stop.Latin1Stop.TheVariants as latin1;
-ghost use Rattle.dethrux.specs.Numbers.{AreLatin1Numbers, AreNumbers, is_big, latin1_stop_of, repertoire_of, stop_of};
+ghost use Rattle.dethrux.specs.Numbers.{AreLatin1Numbers, AreNumbers, is_big, latin1_stop_of, stop_of};
 
 use crate::byte_order::in_order;
-use crate::results::{Progress, progress_of, status_of};
-use utf16_fixed::{Latin1Stop, Repertoire, from_latin1, inspect, to_latin1};
+use crate::results::{Progress, progress_of};
+use utf16_fixed::{Latin1Stop, from_latin1, to_latin1};
 
 const NOT_LATIN1: u32 = 4;
-
-/// What a text is: `dethrux_inspection` of the header.
-#[repr(C)]
-#[derive(Clone, Copy)]
-pub struct Inspection {
-    /// The length of the longest well-formed prefix in bytes.
-    pub valid_up_to: usize,
-    /// The number of its characters.
-    pub chars: usize,
-    /// The smallest repertoire that has all of them: 0 ASCII, 1 Latin-1, 2 the BMP, 3 Unicode.
-    pub repertoire: u32,
-    /// What follows it: 0 nothing, 1 an ill-formed sequence, 2 an incomplete character.
-    pub status: u32,
-    /// The length in bytes of the ill-formed sequence with status 1, and 0 with any other.
-    pub error_len: u32,
-}
 
 /// Converts UTF-16 to Latin-1, up to the first ill-formed sequence or the first character above
 /// U+00FF, or as far as the buffer has space. With status 3 the buffer is full: call again with the
@@ -90,45 +72,4 @@ pub extern "C" fn dethrux_from_latin1(byte_order: u32, latin1: &[u8], to: &mut [
     ensures numbers { AreNumbers result.status result.error_len }
 {
     progress_of(in_order!(byte_order, from_latin1(latin1, to)))
-}
-
-/// Returns the length of the longest well-formed prefix, the number of its characters, the smallest
-/// repertoire that has them, and what follows. Two passes, up to the first error.
-#[unsafe(no_mangle)]
-pub extern "C" fn dethrux_inspect(byte_order: u32, utf16: &[u8]) -> Inspection
-    ensures stop { EndsAt (is_big byte_order) utf16.now result.valid_up_to
-        (stop_of result.status result.error_len) }
-    ensures chars { result.chars
-        ≡ length (text_of (is_big byte_order) (take result.valid_up_to utf16.now)) }
-    ensures repertoire { IsLeast (text_of (is_big byte_order) (take result.valid_up_to utf16.now))
-        (repertoire_of result.repertoire) }
-    ensures known { result.repertoire ≤ 3 }
-    ensures numbers { AreNumbers result.status result.error_len }
-{
-    inspection_of(in_order!(byte_order, inspect(utf16)))
-}
-
-// What C gets as the result of an inspection.
-#[inline(always)]
-fn inspection_of(found: utf16_fixed::Inspection) -> Inspection
-    ensures valid_up_to { result.valid_up_to ≡ found.valid_up_to }
-    ensures chars { result.chars ≡ found.chars }
-    ensures repertoire { repertoire_of result.repertoire ≡ found.repertoire }
-    ensures known { result.repertoire ≤ 3 }
-    ensures stop { stop_of result.status result.error_len ≡ found.stop }
-    ensures numbers { AreNumbers result.status result.error_len }
-{
-    let (status, error_len) = status_of(found.stop);
-    Inspection {
-        valid_up_to: found.valid_up_to,
-        chars: found.chars,
-        repertoire: match found.repertoire {
-            Repertoire::Ascii => 0,
-            Repertoire::Latin1 => 1,
-            Repertoire::Bmp => 2,
-            Repertoire::Unicode => 3,
-        },
-        status,
-        error_len,
-    }
 }

@@ -12,6 +12,7 @@ mod encoder;
 mod find;
 mod from_utf8;
 mod in_place;
+mod inspect;
 mod latin1;
 mod nul;
 mod order;

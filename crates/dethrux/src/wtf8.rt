@@ -74,7 +74,7 @@ pub extern "C" fn dethrux_to_wtf8_partial(byte_order: u32, utf16: &[u8], to: &mu
 /// Decodes the next chunk of a stream like `dethrux_decoder_feed`, and writes each unpaired
 /// surrogate as itself, in WTF-8.
 #[unsafe(no_mangle)]
-pub extern "C" fn dethrux_decoder_feed_wtf8(
+pub extern "C" fn dethrux_wtf8_decoder_feed(
     decoder: &mut Stream,
     byte_order: u32,
     chunk: &[u8],
@@ -101,12 +101,12 @@ pub extern "C" fn dethrux_decoder_feed_wtf8(
     progress_of(in_order!(byte_order, decoder.feed::<ToWtf8>(chunk, to)))
 }
 
-/// Ends a stream of `dethrux_decoder_feed_wtf8`: writes a pending leading surrogate in WTF-8, and
+/// Ends a stream of `dethrux_wtf8_decoder_feed`: writes a pending leading surrogate in WTF-8, and
 /// otherwise nothing. The bytes after it are unchanged. With status 2 an odd byte at the end, which
 /// is not a code unit, was left out. With status 3 the surrogate does not fit, and nothing changes;
 /// otherwise a new stream begins.
 #[unsafe(no_mangle)]
-pub extern "C" fn dethrux_decoder_finish_wtf8(
+pub extern "C" fn dethrux_wtf8_decoder_finish(
     decoder: &mut Stream,
     byte_order: u32,
     to: &mut [u8],

@@ -25,7 +25,7 @@ use utf16_wtf8::{ToWtf8, finish_wtf8};
 /// # Errors
 ///
 /// If allocation fails.
-pub fn decoder_feed_wtf8_through<E: Utf16Order, A: Allocator, B: Allocator>(
+pub fn wtf8_decoder_feed_through<E: Utf16Order, A: Allocator, B: Allocator>(
     alloc: A,
     chunks: &[Vec<u8, B>],
     buffer: &mut [u8],

@@ -767,9 +767,10 @@ static PyObject *finish(arguments given, bool is_utf8) {
     }
     stream copy;
     memcpy(&copy, state.buf, sizeof copy);
+    dethrux_byte_order order = order_of_stream(given[1]);
     dethrux_progress done = is_utf8
-        ? dethrux_encoder_finish(&copy.encoder, order_of_stream(given[1]), to, sizeof to)
-        : dethrux_decoder_finish(&copy.decoder, to, sizeof to);
+        ? dethrux_encoder_finish(&copy.encoder, order, to, sizeof to)
+        : dethrux_decoder_finish(&copy.decoder, order, to, sizeof to);
     PyObject *output = PyBytes_FromStringAndSize((const char *) to, (Py_ssize_t) done.written);
     if (output) {
         memcpy(state.buf, &copy, sizeof copy);

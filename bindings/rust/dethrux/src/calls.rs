@@ -28,15 +28,15 @@ extern "C" {
     pub(crate) fn dethrux_to_wtf8(byte_order: ByteOrder, utf16: *const u8, len: usize, to: *mut u8, capacity: usize) -> Progress;
     pub(crate) fn dethrux_to_wtf8_len(byte_order: ByteOrder, utf16: *const u8, len: usize) -> usize;
     pub(crate) fn dethrux_to_wtf8_partial(byte_order: ByteOrder, utf16: *const u8, len: usize, to: *mut u8, capacity: usize) -> Progress;
-    pub(crate) fn dethrux_decoder_feed_wtf8(decoder: *mut State, byte_order: ByteOrder, chunk: *const u8, len: usize, to: *mut u8, capacity: usize) -> Progress;
-    pub(crate) fn dethrux_decoder_finish_wtf8(decoder: *mut State, byte_order: ByteOrder, to: *mut u8, capacity: usize) -> Progress;
+    pub(crate) fn dethrux_wtf8_decoder_feed(decoder: *mut State, byte_order: ByteOrder, chunk: *const u8, len: usize, to: *mut u8, capacity: usize) -> Progress;
+    pub(crate) fn dethrux_wtf8_decoder_finish(decoder: *mut State, byte_order: ByteOrder, to: *mut u8, capacity: usize) -> Progress;
     pub(crate) fn dethrux_from_wtf8(byte_order: ByteOrder, wtf8: *const u8, len: usize, to: *mut u8, capacity: usize) -> Progress;
     pub(crate) fn dethrux_from_wtf8_len(wtf8: *const u8, len: usize) -> usize;
     pub(crate) fn dethrux_from_wtf8_partial(byte_order: ByteOrder, wtf8: *const u8, len: usize, to: *mut u8, capacity: usize) -> Progress;
     pub(crate) fn dethrux_wtf8_encoder_feed(encoder: *mut State<6>, byte_order: ByteOrder, chunk: *const u8, len: usize, to: *mut u8, capacity: usize) -> Progress;
     pub(crate) fn dethrux_wtf8_encoder_finish(encoder: *mut State<6>, byte_order: ByteOrder, to: *mut u8, capacity: usize) -> Progress;
     pub(crate) fn dethrux_decoder_feed(decoder: *mut State, byte_order: ByteOrder, chunk: *const u8, len: usize, to: *mut u8, capacity: usize) -> Progress;
-    pub(crate) fn dethrux_decoder_finish(decoder: *mut State, to: *mut u8, capacity: usize) -> Progress;
+    pub(crate) fn dethrux_decoder_finish(decoder: *mut State, byte_order: ByteOrder, to: *mut u8, capacity: usize) -> Progress;
     pub(crate) fn dethrux_encoder_feed(encoder: *mut State, byte_order: ByteOrder, chunk: *const u8, len: usize, to: *mut u8, capacity: usize) -> Progress;
     pub(crate) fn dethrux_encoder_finish(encoder: *mut State, byte_order: ByteOrder, to: *mut u8, capacity: usize) -> Progress;
     pub(crate) fn dethrux_is_char_boundary(byte_order: ByteOrder, utf16: *const u8, len: usize, at: usize) -> bool;

@@ -157,9 +157,7 @@ impl Decoder {
 
     /// Ends the stream and begins another. Returns how many bytes were written.
     fn finish_to(&mut self, to: &mut [u8]) -> usize {
-        let state = &mut self.stream.state;
-        // SAFETY: the pointer and the length come from a mutable slice.
-        unsafe { ffi::dethrux_decoder_finish(state, to.as_mut_ptr(), to.len()) }.written
+        self.stream.finish(ffi::dethrux_decoder_finish, to).written
     }
 }
 

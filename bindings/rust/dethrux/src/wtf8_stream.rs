@@ -45,7 +45,7 @@ impl Wtf8Decoder {
     /// [`Status::NoSpace`]: crate::Status::NoSpace
     #[must_use]
     pub fn feed<B: Buffer + ?Sized>(&mut self, chunk: &[u8], to: &mut B) -> Progress {
-        self.stream.feed(ffi::dethrux_decoder_feed_wtf8, chunk, to)
+        self.stream.feed(ffi::dethrux_wtf8_decoder_feed, chunk, to)
     }
 
     /// Decodes the next chunk and appends its WTF-8. It allocates at most once.
@@ -67,7 +67,7 @@ impl Wtf8Decoder {
     /// [`Status::NoSpace`]: crate::Status::NoSpace
     #[must_use]
     pub fn finish<B: Buffer + ?Sized>(&mut self, to: &mut B) -> Progress {
-        self.stream.finish(ffi::dethrux_decoder_finish_wtf8, to)
+        self.stream.finish(ffi::dethrux_wtf8_decoder_finish, to)
     }
 }
 

@@ -8,7 +8,7 @@ use Rattle.utf16_wtf8.specs.ToWtf8.{wtf8_parts}
 use Rattle.utf16_wtf8.specs.Wtf8.{generalized_utf8}
 use Rattle.utf16_wtf8.proofs.ToWtf8Lemmas.{wtf8_chunks}
 use Rattle.uses_buffers.proofs.CallLemmas.{end_fits, end_text}
-use Rattle.uses_buffers.proofs.wtf8_stream.decoder_feed_wtf8_through.Goals as goal
+use Rattle.uses_buffers.proofs.wtf8_stream.wtf8_decoder_feed_through.Goals as goal
 
 pub returns-in-Incomplete-clause-points : goal.returns-in-Incomplete-clause-points
 returns-in-Incomplete-clause-points g c =

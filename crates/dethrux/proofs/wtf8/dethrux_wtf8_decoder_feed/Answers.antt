@@ -7,8 +7,8 @@ use Rattle.utf16_wtf8.specs.ToWtf8.{wtf8_parts}
 use Rattle.utf16_wtf8.specs.Wtf8.{generalized_utf8}
 use Rattle.dethrux.specs.Numbers.{is_big}
 use Rattle.dethrux.proofs.WtfBounds.{fed_wtf8_within}
-use Rattle.dethrux.proofs.wtf8.dethrux_decoder_feed_wtf8.Goals as goal
-use Rattle.dethrux.proofs.wtf8.dethrux_decoder_feed_wtf8.Goals.{else-is_big_endian, then-is_big_endian}
+use Rattle.dethrux.proofs.wtf8.dethrux_wtf8_decoder_feed.Goals as goal
+use Rattle.dethrux.proofs.wtf8.dethrux_wtf8_decoder_feed.Goals.{else-is_big_endian, then-is_big_endian}
 
 pub returns-clause-done : goal.returns-clause-done
 returns-clause-done c =
