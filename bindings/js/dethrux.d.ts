@@ -222,7 +222,7 @@ export interface Dethrux {
     toUtf8LossyLen: OfUtf16<number>;
     /**
      * Returns how many U+FFFD `toUtf8Lossy` writes for ill-formed sequences: 0 exactly if this is
-     * UTF-16. A U+FFFD of the input does not count.
+     * UTF-16.
      */
     toUtf8Replacements: OfUtf16<number>;
     /** Converts UTF-8 to UTF-16, up to the first ill-formed sequence. */
@@ -235,7 +235,7 @@ export interface Dethrux {
     fromUtf8LossyLen: ForUtf16<Uint8Array>;
     /**
      * Returns how many U+FFFD `fromUtf8Lossy` writes for ill-formed sequences: 0 exactly if this is
-     * UTF-8. A U+FFFD of the input does not count.
+     * UTF-8.
      */
     fromUtf8Replacements(utf8: Uint8Array): number;
 

@@ -720,7 +720,7 @@ struct bom {
 
 /**
  * Returns how many U+FFFD to_utf8_lossy writes for ill-formed sequences: 0 if and only if the input
- * is UTF-16. A U+FFFD of the input does not count. to_utf32_lossy writes as many.
+ * is UTF-16. to_utf32_lossy writes as many.
  */
 [[nodiscard]] inline std::size_t to_utf8_replacements(utf16 text) noexcept {
     return dethrux_to_utf8_replacements(text.order(), text.data(), text.len());
@@ -733,7 +733,7 @@ struct bom {
 
 /**
  * Returns how many U+FFFD from_utf8_lossy writes for ill-formed sequences: 0 if and only if the
- * input is UTF-8. A U+FFFD of the input does not count.
+ * input is UTF-8.
  */
 [[nodiscard]] inline std::size_t from_utf8_replacements(chars utf8) noexcept {
     return dethrux_from_utf8_replacements(utf8.data(), utf8.size());

@@ -41,11 +41,9 @@
     X(from_utf8_lossy_len, 1, UTF8, "utf8", \
       "Return the length of what ``from_utf8_lossy`` returns for the whole input.") \
     X(to_utf8_replacements, 2, UTF16, "utf16, byteorder", \
-      "Return how often ``to_utf8_lossy`` replaces: 0 exactly if the bytes are UTF-16.\n\n" \
-      "A U+FFFD of the input does not count.") \
+      "Return how often ``to_utf8_lossy`` replaces: 0 exactly if the bytes are UTF-16.") \
     X(from_utf8_replacements, 1, UTF8, "utf8", \
-      "Return how often ``from_utf8_lossy`` replaces: 0 exactly if the bytes are UTF-8.\n\n" \
-      "A U+FFFD of the input does not count.") \
+      "Return how often ``from_utf8_lossy`` replaces: 0 exactly if the bytes are UTF-8.") \
     X(to_utf8, 2, UTF16_CAPACITY, "utf16, byteorder, capacity=None", \
       "Convert UTF-16 to UTF-8, up to the first ill-formed sequence.\n\n" \
       "With a capacity, write at most this many bytes: the status is\n" \

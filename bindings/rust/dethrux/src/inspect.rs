@@ -194,7 +194,7 @@ pub fn from_utf8_lossy_len(utf8: &[u8]) -> usize {
 }
 
 /// Returns how many U+FFFD [`to_utf8_lossy`](crate::to_utf8_lossy) writes for ill-formed sequences
-/// of the whole input: 0 exactly if the input is UTF-16. A U+FFFD of the input does not count.
+/// of the whole input: 0 exactly if the input is UTF-16.
 ///
 /// ```
 /// use dethrux::ByteOrder::LittleEndian;
@@ -210,8 +210,7 @@ pub fn to_utf8_replacements(order: ByteOrder, utf16: &[u8]) -> usize {
 }
 
 /// Returns how many U+FFFD [`from_utf8_lossy`](crate::from_utf8_lossy) writes for ill-formed
-/// sequences of the whole input: 0 exactly if the input is UTF-8. A U+FFFD of the input does not
-/// count.
+/// sequences of the whole input: 0 exactly if the input is UTF-8.
 ///
 /// ```
 /// // U+FFFD, a byte that begins nothing, and the start of U+4E00.
