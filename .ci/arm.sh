@@ -58,6 +58,14 @@ prints_page() {
     [ -s "$room/page" ] && "${@:2}" > "$room/found" && cmp "$room/page" "$room/found"
 }
 
+# Prints which code either library runs.
+runs_kernel() {
+    local library=(-L "$folder" -ldethrux)
+    [ "$1" = shared ] || library=("$folder/libdethrux.a")
+    $triplet-gcc -I "$top/dist/include" "$room/kernel.c" "${library[@]}" -o "$room/kernel" &&
+        LD_LIBRARY_PATH=$folder qemu-aarch64 "$room/kernel"
+}
+
 # == fuzzing
 
 # Runs the harness for ten seconds, and the planted versions, and then the harness with pages of
@@ -116,6 +124,12 @@ for library in static shared; do
     check "the first program in C++, $library" \
         prints_page CPP runs "$triplet-g++ -std=c++17" examples/cpp/first.cpp $library
     check "17 MiB, $library" runs "$triplet-gcc -std=gnu11" packaging/test/big.c $library
+done
+write_kernel
+for library in static shared; do
+    # This processor has BTI.
+    QEMU_CPU=max check "the name of the code, $library" \
+        diff <(echo aarch64) <(runs_kernel $library)
 done
 check 'the check in C++' runs "$triplet-g++ -std=c++17" examples/cpp/check.cpp static
 # A kernel for ARM64 may have such pages.

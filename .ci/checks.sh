@@ -124,6 +124,12 @@ exports_header() {
     [ -s "$room/declared" ] && diff "$room/declared" "$room/exported"
 }
 
+# A program that prints which code the library runs.
+write_kernel() {
+    printf '#include <dethrux.h>\n#include <stdio.h>\nint main(void) { return puts(%s) < 0; }\n' \
+        'dethrux_kernel()' > "$room/kernel.c"
+}
+
 # Lists the symbols of a static library without its code for each level, by this command.
 public() {
     "$@" | grep -vE ' _?dethrux_\w+_(v2|v3|aarch64)$'

@@ -15,9 +15,8 @@ chosen=$room/chosen
 
 # Builds the library with choose.S, and for each level one whose code of that level ends a program.
 build() {
-    local level built
-    built=$(make -s -C "$dist" folder) &&
-        make -s -C "$dist" "$built"/linux-x86-64-v{2,3}.o "$built/programs/choose.o" || return
+    local level
+    make -s -C "$dist" || return
     gcc "-I$dist/src" -c "$source" -o "$room/choose.o" &&
         gcc "-I$dist/src" -Wa,-defsym,DETHRUX_SHARED=1 -c "$source" -o "$room/shared.o" || return
     for level in 2 3; do
@@ -55,7 +54,7 @@ takes_with_state() {
 
 # Runs a debugger from the first instruction of the first call on.
 debug() {
-    { printf '%s\n' 'set confirm off' 'break *dethrux_kernel' run; cat; } > "$room/script"
+    { printf '%s\n' 'set confirm off' 'break *dethrux_version' run; cat; } > "$room/script"
     gdb -q -batch -x "$room/script" "$chosen" > "$room/debugged" 2>&1
 }
 
@@ -74,8 +73,8 @@ keeps_registers() {
 shows_callers() {
     printf '%s\n' 'set $before = $rsp' 'while $rsp <= $before' 'echo step\n' bt stepi end | debug
     sed -n 's/^step$/;/p; s/^#[0-9].* in \(.*\) ()$/\1/p' "$room/debugged" | paste -sd ' ' |
-        tr ';' '\n' | awk 'NF { $1 = $1; print }' | sort -u |
-        diff <(printf '%s\n' 'dethrux_kernel main' 'find_level dethrux_kernel main') -
+        tr ';' '\n' | awk 'NF { $1 = $1; print }' | sed 's/_v[23]//' | sort -u |
+        diff <(printf '%s\n' 'dethrux_version main' 'find_level dethrux_version main') -
 }
 
 # Tests that each function begins with the instruction at which an indirect call may land, that only
@@ -83,7 +82,8 @@ shows_callers() {
 is_marked() {
     diff <(nm -g --defined-only "$room/choose.o" | wc -l) \
         <(objdump -d "$room/choose.o" | grep -A 1 '^[0-9a-f]* <dethrux_.*>:$' | grep -c endbr64) &&
-        ! readelf -sW "$room/choose.o" | grep 'FUNC  *GLOBAL DEFAULT' &&
+        diff <(nm -g --defined-only "$room/choose.o" | wc -l) \
+            <(readelf -sW "$room/choose.o" | grep -c ' FUNC  *GLOBAL HIDDEN ') &&
         exports_header nm -D --defined-only "$room/libdethrux.so" &&
         has_marks readelf 'x86 feature: IBT, SHSTK' "$room/libdethrux.so" &&
         readelf -n "$room/libdethrux.so" | grep 'x86 ISA needed: x86-64-baseline, x86-64-v2$' &&
@@ -107,9 +107,19 @@ runs_only() {
     "${@:2}" "$room/check" "$top"/cases/*.txt && "${@:2}" "$room/units" && "${@:2}" "$room/fixed"
 }
 
+# Tests that thirty threads never take the code for x86-64-v2 on a processor that has the other one,
+# not even while they find this out.
+threads_take_one() {
+    local time
+    compile "$room/one" "$top/packaging/test/chosen.c" "$room"/{choose,ends-v2,v3}.o || return
+    for time in {1..10}; do
+        on Haswell "$room/one" threads || return
+    done
+}
+
 # Tests which code a program takes: without the other one it still runs.
 program_takes() {
-    local level=$1 name=utf16_cat objects=("$built/programs/choose.o" "$built/system.o")
+    local level=$1 name=utf16_cat objects=("$built/system.o")
     objects+=("$built/programs/linux-x86-64-v$level/$name.o")
     printf '.globl proved_main_v%d\nproved_main_v%d: ud2\n' $((5 - level)) $((5 - level)) |
         gcc -c -x assembler - -o "$room/ends.o" && gcc "${objects[@]}" "$room/ends.o" \
@@ -133,12 +143,12 @@ try 'the newest processor of qemu' takes v3 on max "$chosen"
 for feature in avx2 bmi1 bmi2 fma f16c movbe abm avx xsave; do
     try "Haswell without $feature" takes v2 on "Haswell,-$feature" "$chosen"
 done
-try 'leaves of cpuid below 7' takes v2 on Haswell,level=6 "$chosen"
 try 'a system without AVX' takes_with_state v2 3
 try 'a system without SSE' takes_with_state v2 5
 try 'a system with both' takes_with_state v3 7
 # qemu gives a signal handler a stack that is not aligned.
 try 'threads, Nehalem' takes v2 on Nehalem "$chosen" threads
+try 'threads, Haswell' threads_take_one
 for where in threads handler child; do
     try "$where" diff <("$chosen") <("$chosen" $where)
 done
@@ -148,7 +158,12 @@ try 'the tables, Haswell' runs_only 3 on Haswell
 if [ "$source" = "$dist/src/choose.S" ]; then
     try 'the tables, Haswell without xsave' runs_only 2 on Haswell,-xsave
     try 'the tables, the newest processor of qemu' runs_only 3 on max
+    for feature in avx2 bmi1 bmi2 fma f16c movbe abm avx xsave; do
+        try "a program, Haswell without $feature" program_takes 2 on "Haswell,-$feature"
+    done
     try 'a program, Nehalem' program_takes 2 on Nehalem
     try 'a program, Haswell' program_takes 3 on Haswell
+    try 'a program for which glibc has no AVX2' \
+        program_takes 2 env GLIBC_TUNABLES=glibc.cpu.hwcaps=-AVX2
 fi
 finish

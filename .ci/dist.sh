@@ -3,9 +3,9 @@
 # same files from the crates that rt ci has just proved, that their assembled code is the
 # compiler's, and that make and CMake build libraries and programs of this machine that pass the
 # tables of cases, with gcc and clang and without rt. With an argument, library or programs, it
-# compares only these with the crates. qemu emulates a processor with AVX2 for x86-64-v3. The other platforms are tested by .ci/arm.sh, .ci/windows.sh and .ci/macos.sh. If this
-# runs as root, apt-get installs missing tools; a tool that is still missing is a failure. The last
-# line is 'N passed, M failed'.
+# compares only these with the crates. qemu emulates processors. The other platforms are tested by
+# .ci/arm.sh, .ci/windows.sh and .ci/macos.sh. If this runs as root, apt-get installs missing tools;
+# a tool that is still missing is a failure. The last line is 'N passed, M failed'.
 set -uo pipefail
 top=$(cd "$(dirname "$0")/.." && pwd)
 room=$(mktemp -d)
@@ -89,6 +89,12 @@ is_refused() {
         grep -F 'CPU ISA level is lower than required' "$room/line"
 }
 
+# Tests that a library for one level names it.
+names_level() {
+    cc "${user[0]}" "$room/kernel.c" "$room/make-$1/libdethrux.a" -o "$room/kernel" &&
+        diff <(echo "x86-64-$1") <(qemu-x86_64 -cpu max "$room/kernel")
+}
+
 # Tests that make refuses words with this line.
 refuses() {
     local line=$1
@@ -116,7 +122,7 @@ count 'make with clang' with_make clang CC=clang
 for compiler in gcc clang; do
     count "jumps by $compiler" keeps_blocks $compiler
     count "marks by $compiler" has_marks readelf "$marks" \
-        "$room/make-$compiler"/{*.o,programs/{,*/}*.o,libdethrux.so}
+        "$room/make-$compiler"/{*.o,programs/*/*.o,libdethrux.so}
     count "a shared library by $compiler" hides_calls $compiler
     count "a static program by $compiler" drops_rest $compiler
     count "a debugger by $compiler" shows_callers $compiler
@@ -125,9 +131,15 @@ count 'which code is taken' "$top/.ci/chosen.sh"
 count 'make for x86-64-v2' with_make v2 LEVEL=x86-64-v2
 count 'make for x86-64-v3' with_make v3 LEVEL=x86-64-v3 RUN='qemu-x86_64 -cpu max'
 count 'a program for x86-64-v3 below it' is_refused "$room/make-v3/utf16_cat"
+write_kernel
+for level in v2 v3; do
+    count "the library for only x86-64-$level" names_level $level
+done
 count 'CMake' with_cmake
 for target in i686-linux-gnu x86_64-linux-gnux32 riscv64-linux-gnu x86_64-unknown-freebsd; do
     count "a compiler for $target" refuses_target "$target"
 done
-count 'another level' refuses 'LEVEL=x86-64-v4: take x86-64-v2 or x86-64-v3' LEVEL=x86-64-v4
+for level in x86-64-v4 v3 'x86-64-v2 x86-64-v3'; do
+    count "LEVEL=$level" refuses "LEVEL=$level: take x86-64-v2 or x86-64-v3" "LEVEL=$level"
+done
 finish

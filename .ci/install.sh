@@ -132,8 +132,7 @@ check_libraries() {
 # Tests that a program with musl takes the code that one with glibc takes.
 by_musl() {
     local words=("$room/kernel.c" "-I$prefix/include" "$prefix/lib/libdethrux.a")
-    printf '#include <dethrux.h>\n#include <stdio.h>\nint main(void) { puts(dethrux_kernel()); }\n' \
-        > "$room/kernel.c" && gcc "${words[@]}" -o "$room/program" &&
+    write_kernel && gcc "${words[@]}" -o "$room/program" &&
         musl-gcc -static "${words[@]}" -o "$room/by_musl" && diff <("$room/program") <("$room/by_musl")
 }
 

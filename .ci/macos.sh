@@ -76,6 +76,21 @@ tables() {
             "$room/memory.s" -o "$room/program" && "$@"
 }
 
+# Tests that a linked library names the code that the one for Linux takes on this machine.
+names_code() {
+    local target=$1 compiler=$2
+    shift 2
+    write_kernel && "$top/.ci/macos.py" "$room/$target/libdethrux.dylib" "$room/memory.s" &&
+        make -s -C "$top/dist" CC="$compiler" BUILD="$room/linux" "$room/linux/libdethrux.a" &&
+        $compiler -I "$top/dist/include" "$room/kernel.c" "$room/linux/libdethrux.a" \
+            -o "$room/program" && "$@" > "$room/wanted" &&
+        $compiler -I "$top/dist/include" "$room/kernel.c" "$room/memory.s" -o "$room/program" &&
+        diff "$room/wanted" <("$@")
+    local status=$?
+    rm -rf "$room/linux"
+    return $status
+}
+
 # Tests that the words of make on a Mac with an ARM64 processor are these, and that it refuses to
 # install.
 words_of_make() {
@@ -103,6 +118,7 @@ for target in arm64-apple-macosx11 x86_64-apple-macosx10.15; do
     check "a library around it for $target" hides_calls $target
     check "CMake for $target" with_cmake $target
     count "cases for $target" tables $target check c99 $compiler "${run[@]}" "$top"/cases/*.txt
+    check "the name of the code for $target" names_code $target $compiler "${run[@]}"
     [[ $target == arm64* ]] || count "cases for $target on x86-64-v2" tables $target check c99 \
         $compiler qemu-x86_64 -cpu Nehalem "${run[@]}" "$top"/cases/*.txt
     count "code units for $target" tables $target units c11 $compiler "${run[@]}"

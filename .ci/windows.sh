@@ -92,21 +92,24 @@ build_and_check() {
     [ "$status" = 0 ] && [ "$(grep -cxE '[0-9]{3,} passed, 0 failed' "$room/tables")" = 6 ]
 }
 
-# Tests that a library takes the code that the one for Linux takes on this machine, and with a level
-# only the code for that.
+# Tests that libraries and a program take the code that the library for Linux takes on this machine,
+# and that the library for one level has only that.
 takes_code() {
-    local folder wanted main='#include <dethrux.h>
-        #include <stdio.h>
-        int main(void) { return puts(dethrux_kernel()) < 0; }'
-    gcc "-I$dist/include" "-I$dist/src" -x c - -x assembler-with-cpp "$dist/src/choose.S" \
-        -x none "$dist"/src/linux-x86-64-v{2,3}.s -o "$room/linux" <<< "$main" || return
+    local folder here wanted ends
+    write_kernel && gcc "-I$dist/include" "-I$dist/src" "$room/kernel.c" \
+        "$dist"/src/{choose.S,linux-x86-64-v{2,3}.s} -o "$room/linux" && here=$("$room/linux") || return
     for folder in gcc clang v2; do
-        wanted=x86-64-v2
-        [ $folder = v2 ] || wanted=$("$room/linux")
-        $gcc "-I$dist/include" -x c - -x none "$room/$folder/libdethrux.a" \
-            -o "$room/program.exe" <<< "$main" &&
+        wanted=$here
+        [ $folder != v2 ] || wanted=x86-64-v2
+        $gcc "-I$dist/include" "$room/kernel.c" "$room/$folder/libdethrux.a" \
+            -o "$room/program.exe" &&
             diff <(printf '%s\r\n' "$wanted") <(run "$room/program.exe") || return
     done
+    ends=v$((5 - ${here##*v}))
+    echo ".globl proved_main_$ends; proved_main_$ends: ud2" > "$room/ends.s" &&
+        $gcc -municode "$room"/gcc/{system.o,programs/windows-$here/utf16_cat.o} "$room/ends.s" \
+            -o "$room/program.exe" &&
+        [ "$(printf 'h\0i\0' | "$wine" "$room/program.exe" le)" = hi ]
 }
 
 # Compiles a program and compares all that it prints with the block of text of a page. Windows ends
@@ -229,7 +232,7 @@ int main(int count, char **words) {
 # Tests that a program for which there is no memory ends with its message.
 tells_memory() {
     sed -E 's/block\((malloc|realloc)\(.*\)\);/block(NULL);/' "$dist/src/programs/system.c" \
-        > "$room/planted.c" && $gcc -O2 -municode "$room/planted.c" "$room/gcc/programs/choose.o" \
+        > "$room/planted.c" && $gcc -O2 -municode "$room/planted.c" \
         "$room"/gcc/programs/*/utf16_cat.o -o "$room/program.exe" || return
     printf 'h\0i\0' | "$wine" "$room/program.exe" le 2> "$room/line"
     [ $? = 1 ] && diff "$room/line" <(echo 'utf16_cat: out of memory')

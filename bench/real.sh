@@ -61,7 +61,7 @@ for space in 16 32 16 32 16 32; do
         for program in utf16_cat utf16_enc; do
             programs+=("$room/${#programs[@]}")
             folder=$(make -s -C "$checkout/dist" folder)
-            gcc "$room/pad.o" "$folder"/programs/{choose,linux-*/$program}.o "$folder/system.o" \
+            gcc "$room/pad.o" "$folder"/programs/linux-*/$program.o "$folder/system.o" \
                 -o "${programs[-1]}"
         done
     done

@@ -3,7 +3,7 @@
  * levels x86-64-v2 and x86-64-v3. The first call of a process finds out whether the processor and
  * the system have all of x86-64-v3, and from then on each call takes the same code. Threads that
  * find it out at once store the same number, so there is no lock. With DETHRUX_LEVEL, 2 or 3, there
- * is only the code for that level. programs/choose.S does the same for the main of a program. */
+ * is only the code for that level. */
 
 #ifdef __APPLE__
 #define NAME(name) _##name
@@ -11,7 +11,7 @@
 #define NAME(name) name
 #endif
 /* The calls keep the convention of Linux. On Windows windows.c has the public names. */
-#if defined(_WIN32) && !defined(DETHRUX_PROGRAM)
+#ifdef _WIN32
 #define PUBLIC(name) sysv_##name
 #else
 #define PUBLIC(name) NAME(name)
@@ -126,7 +126,6 @@ find_level:
     testl $XCR0_EAX, %eax
     jnz 2f
     movl $7, %eax
-    xorl %ecx, %ecx
     cpuid
     notl %ebx
     testl $LEAF_7_EBX, %ebx
@@ -163,9 +162,6 @@ find_level:
 
 #define ACTION(name, parameters, arguments) CALL(void, name, parameters, arguments)
 
-#ifdef DETHRUX_PROGRAM
-CALL(int, proved_main, (void), ())
-#else
 #include "calls.inc"
 
 /* dethrux_kernel returns the name of the code that is taken. */
@@ -202,7 +198,6 @@ only: .asciz "aarch64"
 1:  retq
 #endif
     END NAME(dethrux_kernel)
-#endif
 
 #if defined(__APPLE__)
     .subsections_via_symbols

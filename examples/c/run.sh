@@ -200,6 +200,12 @@ reports() {
         ! "$room/wrong" 2> "$room/report" && is_about wrong.cpp:4
 }
 
+# Whether it reports nothing.
+is_silent() {
+    rm -f "$room/wrong"
+    ! reports "$@" && [ -x "$room/wrong" ]
+}
+
 # Whether the checks in C name each function of the header.
 checks_all() {
     grep -oE 'dethrux_[a-z0-9_]+\(' "$top/dist/include/dethrux.h" | tr -d '(' | grep -vE 'kernel|u16_bytes|checked_' |
@@ -349,6 +355,15 @@ test_sanitizers() {
     count 'what decoders write, by MemorySanitizer' sanitized clang memory decode decodes sanitized
     count 'wrong arguments by gcc' sanitized gcc address misuse reports_misuse 1
     count 'wrong arguments by clang' sanitized clang address misuse reports_misuse 7
+    count 'UTF-32 that was written' is_silent clang++ memory dethrux.h \
+        'uint32_t to[2]; (void)dethrux_to_utf32(DETHRUX_LITTLE_ENDIAN, "a\\0b", 4, to, 2)' \
+        'dethrux_validate_utf32(to, 2).status'
+    count 'a byte after those that were written' reports clang++ memory dethrux.h \
+        'char to[3]; (void)dethrux_to_utf8(DETHRUX_LITTLE_ENDIAN, "a", 2, to, 3)' \
+        'dethrux_is_ascii(DETHRUX_LITTLE_ENDIAN, to, 2)'
+    count 'a state that is too short' reports g++ address dethrux.h \
+        'char to[9]; dethrux_decoder *state = (dethrux_decoder *)new char[3]()' \
+        'dethrux_decoder_feed(state, DETHRUX_LITTLE_ENDIAN, "a", 2, to, 9).written'
     count 'a byte that is not set' reports clang++ memory dethrux.h 'char text[2]; text[0] = 0' \
         'dethrux_is_ascii(DETHRUX_BIG_ENDIAN, text, 2)'
     count 'a NUL whose last byte is not set' reports clang++ memory dethrux.h \

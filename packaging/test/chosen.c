@@ -94,9 +94,9 @@ __attribute__((constructor)) static void before_main(void) {
 }
 #else
 int main(int count, char **words) {
-    /* A debugger looks at this call. */
+    /* A debugger looks at the first call. */
     if (count < 2) {
-        return puts(dethrux_kernel()) < 0;
+        return dethrux_version() != DETHRUX_VERSION || puts(dethrux_kernel()) < 0;
     }
     call_all(words[1]);
     return all_are_same();

@@ -1,6 +1,6 @@
 /* SPDX-License-Identifier: MIT OR Apache-2.0
  * What the proved code of the programs calls, apart from libc: memory, arguments and errno, and on
- * Windows reading and writing. choose.S has proved_main, the main of that code. */
+ * Windows reading and writing. The main of that code has the level of its code in its name. */
 #include <errno.h>
 #include <stdbool.h>
 #include <stddef.h>
@@ -69,8 +69,8 @@ SYSV ptrdiff_t rattle_arg(size_t number, unsigned char *to, size_t len) {
 
 #ifdef _WIN32
 /* Returns what glibc's call does for the leaves of cpuid with the numbers 0 to 2: eax, ebx, ecx and
- * edx, and again without features that the system does not provide. Those of x86-64-v2 need no
- * system, and choose.S takes code for x86-64-v3 only if the system provides it. */
+ * edx, and again without features that the system does not provide. These are the ones of vectors
+ * of 256 bits: the first leaf then has no AVX. */
 SYSV unsigned *__x86_get_cpuid_feature_leaf(unsigned number) {
     static const unsigned leaves[3] = {1, 7, 0x80000001};
     static unsigned found[3][8];
@@ -78,6 +78,13 @@ SYSV unsigned *__x86_get_cpuid_feature_leaf(unsigned number) {
     __asm__("cpuid"
             : "=a"(it[4]), "=b"(it[5]), "=c"(it[6]), "=d"(it[7])
             : "a"(leaves[number]), "c"(0));
+    if (number == 0) {
+        unsigned saved = 0, high;
+        if (it[6] & 1u << 27)
+            __asm__("xgetbv" : "=a"(saved), "=d"(high) : "c"(0));
+        if ((saved & 6) != 6)
+            it[6] &= ~(1u << 28);
+    }
     return it;
 }
 
@@ -125,7 +132,33 @@ SYSV void *sysv_memset(void *to, int byte, size_t len) { return memset(to, byte,
 SYSV int sysv_memcmp(const void *a, const void *b, size_t len) { return memcmp(a, b, len); }
 #endif
 
-SYSV int proved_main(void);
+#if defined(__aarch64__)
+SYSV int proved_main_aarch64(void);
+static int proved_main(void) { return proved_main_aarch64(); }
+#elif defined(DETHRUX_LEVEL)
+#define JOINED(name, level) name##level
+#define MAIN_OF(level) JOINED(proved_main_v, level)
+SYSV int MAIN_OF(DETHRUX_LEVEL)(void);
+static int proved_main(void) { return MAIN_OF(DETHRUX_LEVEL)(); }
+#else
+#ifndef _WIN32
+unsigned *__x86_get_cpuid_feature_leaf(unsigned number);
+#endif
+SYSV int proved_main_v2(void);
+SYSV int proved_main_v3(void);
+
+/* Whether a register has all of these features, which the system provides. */
+static bool has(unsigned number, int at, unsigned features) {
+    return (__x86_get_cpuid_feature_leaf(number)[4 + at] & features) == features;
+}
+
+/* Takes the code for x86-64-v3 if the processor has what it asks for at its start: FMA, MOVBE, AVX and
+ * F16C, BMI1, AVX2 and BMI2, and LZCNT. */
+static int proved_main(void) {
+    bool has_v3 = has(0, 2, 0x30401000) && has(1, 1, 0x128) && has(2, 2, 0x20);
+    return has_v3 ? proved_main_v3() : proved_main_v2();
+}
+#endif
 
 int main(int given, character **arguments) {
     count = (size_t)given;
