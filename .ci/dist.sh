@@ -83,10 +83,10 @@ with_cmake() {
         readelf -d "$room/prefix/lib"/*.so.?.? | grep BIND_NOW
 }
 
-# Tests that the loader refuses a program on a processor without AVX2.
+# Tests that a program refuses a processor without AVX2.
 is_refused() {
     ! qemu-x86_64 -cpu Nehalem "$1" le < /dev/null > "$room/line" 2>&1 &&
-        grep -F 'CPU ISA level is lower than required' "$room/line"
+        grep -F 'this machine lacks a feature of x86-64-v3' "$room/line"
 }
 
 # Tests that a library for one level names it.

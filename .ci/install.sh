@@ -101,10 +101,10 @@ on_processor() {
     return "${PIPESTATUS[0]}"
 }
 
-# Tests that a program does not start on a processor below x86-64-v2, but on one that has it.
+# Tests that a program ends with these words on a processor below x86-64-v2, but runs on one that has
+# it. The loader tests the processor for the library, and a program of ours tests it itself.
 is_refused_below() {
-    says 127 'CPU ISA level is lower than required' on_processor qemu64 "$@" &&
-        on_processor Nehalem "$@"
+    says 127 "$1" on_processor qemu64 "${@:2}" && on_processor Nehalem "${@:2}"
 }
 
 takes_17_mib() {
@@ -121,9 +121,11 @@ check_libraries() {
     check "what the static library calls" \
         calls_memory_alone public nm --undefined-only "$lib/libdethrux.a"
     check "the shared library" compile "$(config "$prefix" --cflags --libs)"
-    LD_LIBRARY_PATH=$lib check "the shared library below its level" is_refused_below "$room/program"
+    LD_LIBRARY_PATH=$lib check "the shared library below its level" \
+        is_refused_below 'CPU ISA level is lower' "$room/program"
     check "the static library" compile "$(config "$prefix" --cflags)" "$lib/libdethrux.a"
-    check "the static library below its level" is_refused_below "$room/program"
+    check "the static library below its level" \
+        is_refused_below 'CPU ISA level is lower' "$room/program"
     check '17 MiB on x86-64-v2' takes_17_mib Nehalem
     check '17 MiB on x86-64-v3' takes_17_mib Haswell
     check 'musl' by_musl
@@ -294,7 +296,8 @@ check 'a later version by CMake' cmake_refuses "${version%.*}.999"
 check 'another major version by CMake' cmake_refuses $((${version%%.*} + 1)).0
 check 'the programs' programs_run "$prefix/bin"
 for file in "$prefix"/bin/*; do
-    check "${file##*/} below its level" is_refused_below "$file" le
+    check "${file##*/} below its level" \
+        is_refused_below 'this machine lacks a feature of x86-64-v2' "$file" le
 done
 
 check 'an unknown option' says 2 'usage: install.sh' "$top/install.sh" --help

@@ -45,9 +45,8 @@ const PLAIN = {
     nothing: () => undefined,
     number: (it) => it,
     truth: (it) => Boolean(it),
+    // DETHRUX_NOT_FOUND is SIZE_MAX, and becomes -1, since the engine gives a signed number.
     size: Number,
-    // An offset, or -1: DETHRUX_NOT_FOUND is SIZE_MAX, and the engine gives a signed number.
-    place: Number,
     offset: (it) => BigInt.asUintN(64, it),
 };
 

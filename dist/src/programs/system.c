@@ -152,8 +152,8 @@ static bool has(unsigned number, int at, unsigned features) {
     return (__x86_get_cpuid_feature_leaf(number)[4 + at] & features) == features;
 }
 
-/* Takes the code for x86-64-v3 if the processor has what it asks for at its start: FMA, MOVBE, AVX and
- * F16C, BMI1, AVX2 and BMI2, and LZCNT. */
+/* Takes the code for x86-64-v3 if the processor has what this code asks for when it starts: FMA,
+ * MOVBE, AVX and F16C, BMI1, AVX2 and BMI2, and LZCNT. */
 static int proved_main(void) {
     bool has_v3 = has(0, 2, 0x30401000) && has(1, 1, 0x128) && has(2, 2, 0x20);
     return has_v3 ? proved_main_v3() : proved_main_v2();
