@@ -69,9 +69,12 @@ keeps_registers() {
         ! objdump -d "$room/choose.o" | grep -E '%([xyz]?mm|st)|vzero'
 }
 
-# Tests that from each instruction of a first call a debugger finds the caller.
+# Tests that from each instruction of a first call a debugger finds the caller, and that the level
+# is set only once.
 shows_callers() {
-    printf '%s\n' 'set $before = $rsp' 'while $rsp <= $before' 'echo step\n' bt stepi end | debug
+    printf '%s\n' 'set $before = $rsp' 'while $rsp <= $before' 'echo step\n' bt \
+        'printf "level %d\n", *(int *)&level' stepi end | debug
+    [ "$(grep '^level ' "$room/debugged" | sort -u | wc -l)" = 2 ] || return
     sed -n 's/^step$/;/p; s/^#[0-9].* in \(.*\) ()$/\1/p' "$room/debugged" | paste -sd ' ' |
         tr ';' '\n' | awk 'NF { $1 = $1; print }' | sed 's/_v[23]//' | sort -u |
         diff <(printf '%s\n' 'dethrux_version main' 'find_level dethrux_version main') -
