@@ -1,5 +1,5 @@
 # Reads the contracts in the sources of the crates: functions, types and traits, with their clauses
-# and their documentation. .ci/promises looks up what the documents name, and docs/html/build.py
+# and their documentation. .ci/promises looks up what the documents name, and docs/html/crates.py
 # makes a page of each crate.
 import glob
 import os

@@ -1,23 +1,25 @@
 #!/usr/bin/env bash
-# Builds the pages docs/site, checks the manual pages with mandoc, follows each link of the pages,
-# and opens pages of each kind in headless Chromium. A tool that is missing is a failure. The last
-# line is 'N passed, M failed'.
+# Builds the pages docs/site, checks the manual pages with mandoc, follows the links of all pages
+# with linkchecker, and opens a page of each kind in headless Chromium. A tool that is missing is a
+# failure. The last line is 'N passed, M failed'.
 set -uo pipefail
 cd "$(dirname "$0")/.." || exit 1
 room=$(mktemp -d)
 trap 'rm -rf "$room"' EXIT
 . .ci/checks.sh
 
-check 'the pages' docs/html/build.py
+check 'the pages' docs/html/build.sh
 if check "mandoc, in Debian's package mandoc" command -v mandoc; then
     packaging/man3 "$room"
     for page in "$room"/*.3 crates/*/*.1; do
         check "$page" mandoc -T lint -W warning "$page"
     done
 fi
-counts 'the links' .ci/site_links.py docs/site
+check 'the links' linkchecker --no-status docs/site/index.html
 CHROMIUM=$(first_of chromium chromium-browser google-chrome || echo chromium)
 export CHROMIUM
+pages=(docs/site/{index,README,search,docs/C,docs/PROMISES,bench/README,reference/dethrux}.html)
+pages+=(docs/site/{reference/dethrux_cxx,reference/python,rattle/utf16_str,man/utf16_cat}.html)
 check "chromium, in Debian's package chromium" command -v "$CHROMIUM" &&
-    counts 'the pages in a browser' .ci/site_browser.py docs/site
+    counts 'the pages in a browser' .ci/site_browser.py "${pages[@]}" docs/site/see/index.html
 finish

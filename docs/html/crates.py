@@ -1,41 +1,29 @@
-# The pages about the crates of the library: a page for each crate, with its public items, their
-# documentation and their clauses, and a page that lists the crates.
-import html
+#!/usr/bin/env python3
+# Writes into FOLDER, as Markdown, for each crate of the library a page with its public items and
+# their clauses, and a page with its definitions. Prints each public item without documentation, and
+# each name in brackets that is not a public item; then the status is 1.
 import os
+import pathlib
 import re
+import sys
 
-from pages import MARKDOWN, Names, link, markdown, need, write
-from contracts import CLAUSE, LIBRARY, Crates, Item, first_sentence, read
+sys.dont_write_bytecode = True
+TOP = pathlib.Path(__file__).resolve().parents[2]
+sys.path.insert(0, str(TOP / ".ci"))
+
+from contracts import CLAUSE, LIBRARY, WORD, Crates, Item, first_sentence, imports, read  # noqa: E402
 
 # What begins where an item of a module may begin, and has neither clauses nor members.
 VALUE = re.compile(r"^pub (?:const|static|type) (\w+)[^;]*;", re.M)
 MEMBER = re.compile(r"    (?:pub |const |type )")
 INNER_DOC = re.compile(r"^//!(?: (.*))?$", re.M)
-REFERENCE = re.compile(r"\[(`([\w:]+)`)\]")
+REFERENCE = re.compile(r"\[(`([\w:]+)`)\](?!\()")
+INDEX = """# Rattle
 
+Each public item of the library for Rattle, with its contract.
+[CALLING](../docs/CALLING.md) says what the names of clauses mean, and how to prove a caller.
 
-def build_crates(tree):
-    """Writes a page for each crate, and one that lists them; returns what is not documented."""
-    need(MARKDOWN)
-    crates = {name: it for name, it in Crates().all.items() if LIBRARY.match(name)}
-    names = Places(crates)
-    lost = [it for crate in crates.values() for it in Page(crate, names, tree).write()]
-    write_list(crates)
-    return lost
-
-
-def write_list(crates):
-    rows = "".join(
-        f"| [`{name}`]({name}.html) | {first_sentence(about(f'crates/{name}/src/lib.rt'))} |\n"
-        for name in crates
-    )
-    text = (
-        "# The crates\n\nEach public item of the library for Rattle, with its contract. "
-        "[CALLING](../tree/docs/CALLING.html) says what the names of clauses mean, and how to "
-        "prove a caller.\n\n"
-        f"| Crate | About |\n|---|---|\n{rows}"
-    )
-    write("rattle/index.html", "The crates", markdown(text))
+"""
 
 
 def about(path):
@@ -43,164 +31,45 @@ def about(path):
     return [it[1] or "" for it in INNER_DOC.finditer(read(path))] if os.path.isfile(path) else []
 
 
-class Places:
-    """The page and the anchor of each public item, by its name."""
-
-    def __init__(self, crates):
-        self.pages = {}
-        for crate in crates.values():
-            for item in items_of(crate):
-                # Of equal names the one of the lowest crate counts.
-                name = "::".join(filter(None, (item.owner, item.name)))
-                page = f"{crate.name}.html#{anchor(crate, item)}"
-                self.pages.setdefault(name, page)
-                for variant in variants_of(item) if item.is_type else ():
-                    self.pages.setdefault(f"{name}::{variant}", page)
-
-
-def variants_of(item):
-    """The names of an enum's variants."""
-    body = re.search(rf"^pub enum {item.name}\b[^{{;]*\{{\n(.*?)^\}}", read(item.path), re.M | re.S)
-    return re.findall(r"^    (\w+)[,({]", body[1], re.M) if body else []
-
-
-def anchor(crate, item):
-    return crate.title(item).replace("`", "").replace(" ", "-")
-
-
-def items_of(crate):
-    """The public items of a crate, with its constants and names of types, by file and line."""
-    values = [it for path in crate.sources for it in values_of(crate, path)]
-    found = [*crate.public_items(), *values]
-    return sorted(found, key=lambda it: (it.path, it.line))
-
-
 def values_of(crate, path):
-    text = read(path)
-    for found in VALUE.finditer(text):
+    """The constants and the names of types of a module."""
+    lines = read(path).split("\n")
+    for found in VALUE.finditer(read(path)):
         item = Item(crate.name, path, found[1], None, None, True)
-        item.line = text.count("\n", 0, found.start()) + 1
-        item.docs = docs_before(text.split("\n"), item.line - 1)
+        first = item.line = read(path).count("\n", 0, found.start()) + 1
+        while lines[first - 2].startswith(("///", "#[")):
+            first -= 1
+        docs = (it for it in lines[first - 1 : item.line] if it.startswith("///"))
+        item.docs = [it[3:].removeprefix(" ") for it in docs]
         if crate.exports(item):
             yield item
 
 
-def docs_before(lines, at):
-    """The lines of the documentation above a line."""
-    first = at
-    while lines[first - 1].startswith(("///", "#[")):
-        first -= 1
-    return [it[3:].removeprefix(" ") for it in lines[first:at] if it.startswith("///")]
+def items_of(crate):
+    """The public items of a crate, by file and line."""
+    values = [it for path in crate.sources for it in values_of(crate, path)]
+    return sorted([*crate.public_items(), *values], key=lambda it: (it.path, it.line))
 
 
-class Page:
-    def __init__(self, crate, names, tree):
-        self.crate, self.names, self.tree = crate, names, tree
-        self.page = f"rattle/{crate.name}.html"
-        self.items = list(items_of(crate))
-        self.lost = []
-
-    def write(self):
-        """Writes the page, and returns what is not documented."""
-        name = self.crate.name
-        parts = [f"# `{name}`", *self.prose(about(f"crates/{name}/src/lib.rt"))]
-        parts += [self.needs(), self.contents(), *self.modules_of_definitions()]
-        path = None
-        for item in self.items:
-            if item.path != path:
-                path = item.path
-                parts += self.module(path)
-            parts += self.item(item)
-        write(self.page, name, markdown("\n\n".join(parts) + "\n"))
-        return self.lost
-
-    def needs(self):
-        """The crates that it depends on, by its line of crates.txt."""
-        needed = re.search(rf"^{self.crate.name}\b[^:]*:(.*)", read("crates.txt"), re.M)[1].split()
-        shown = [f"[`{it}`]({it}.html)" if LIBRARY.match(it) else f"`{it}`" for it in needed]
-        return f"It depends on {', '.join(shown)}." if shown else ""
-
-    def contents(self):
-        """The names of the items, each a link, with a line for each type."""
-        lines = {"": []}
-        for item in self.items:
-            owner = item.owner or (item.name if item.is_type else "")
-            path = f"{item.trait}::{item.name}" if item.trait else item.name
-            name = f"`{path}`" if item.owner else self.crate.title(item)
-            shown = f"[{name}](#{anchor(self.crate, item)})"
-            # A type comes before its calls, which may be in other files.
-            line = lines.setdefault(owner, [])
-            line.insert(0 if item.is_type else len(line), shown)
-        rows = [f"- {', '.join(it)}" for it in lines.values() if it]
-        return "## Items\n\n" + "\n".join(rows)
-
-    def modules_of_definitions(self):
-        """The list of the modules of definitions, with the first sentence of each."""
-        rows = []
-        for path in self.crate.specs:
-            name = path.split("/specs/")[1][: -len(".antt")]
-            if name != "Lib":
-                comment = re.match(r"(?:-- .*\n)*", read(path))[0].replace("-- ", "")
-                words = first_sentence(comment.strip().split("\n"))
-                rows.append(f"- [`{name}`]({self.source(path)}): {words}")
-        return ["## Definitions", "\n".join(rows)] if rows else []
-
-    def module(self, path):
-        name = path.split("/src/")[1]
-        docs = [] if name == "lib.rt" else self.prose(about(path))
-        return [f"## [`{name}`]({self.source(path)})", *docs]
-
-    def source(self, path, line=None):
-        return link(self.page, self.tree.page(path)) + (f"#L{line}" if line else "")
-
-    def prose(self, lines):
-        """Documentation as Markdown for the page: links have addresses, and headings are bold."""
-        text = re.sub(r"^#+ (.*)$", r"**\1**", "\n".join(lines), flags=re.M)
-        return [REFERENCE.sub(self.reference, text)]
-
-    def reference(self, found):
-        page = self.names.pages.get(found[2])
-        if not page:
-            self.lost.append(f"{self.crate.name}: no public item is [`{found[2]}`]")
-        return f"[{found[1]}]({page})" if page else found[1]
-
-    def item(self, item):
-        """The parts of the page about an item."""
-        if not item.docs and not item.trait:
-            self.lost.append(f"{item.path}:{item.line}: {item.name} has no documentation")
-        title, at = self.crate.title(item), anchor(self.crate, item)
-        head = f'<h3 id="{at}"><a href="#{at}">{code(title)}</a> '
-        head += f'<a class="source" href="{self.source(item.path, item.line)}">source</a></h3>'
-        signature = html.escape("\n".join(signature_of(item)), quote=False)
-        return [head, f"<pre>{signature}</pre>", *self.prose(item.docs), *self.clauses(item)]
-
-    def clauses(self, item):
-        if not item.written:
-            return []
-        rows = "".join(map(self.clause, item.written))
-        return [f'<dl class="clauses">\n{rows}</dl>']
-
-    def clause(self, clause):
-        names = Names(self.tree, self.page, clause.path)
-        of = f" of <code>{clause.trait}</code>" if clause.trait else ""
-        name = f" <code>{clause.name}</code>" if clause.name else ""
-        statement = names.linked(statement_of(clause.text))
-        return f"<dt>{clause.kind}{name}{of}</dt>\n<dd><pre>{statement}</pre></dd>\n"
+def anchor(item):
+    """The target of links to an item."""
+    return f"{re.sub(r'[/.]', '-', item.path)}-{item.line}".lower()
 
 
-def code(title):
-    """A title as HTML."""
-    return re.sub(r"`([^`]*)`", lambda it: f"<code>{html.escape(it[1])}</code>", title)
+def targets(crates):
+    """The targets of public items, and of the variants of enums, by their names."""
+    found = {}
+    for crate in crates:
+        for item in items_of(crate):
+            name = "::".join(filter(None, (item.owner, item.name)))
+            # Of equal names the one of the lowest crate counts.
+            found.setdefault(name, anchor(item))
+            for variant in re.findall(r"^    (\w+)[,({]", "\n".join(shown(item)), re.M):
+                found.setdefault(f"{name}::{variant}", anchor(item))
+    return found
 
 
-def statement_of(text):
-    """What a clause states, without its name and brackets, in lines that are not indented."""
-    indent = len(text) - len(text.lstrip())
-    inner = text[text.index("{") + 1 : text.rindex("}")].strip()
-    return inner.replace("\n" + " " * indent, "\n")
-
-
-def signature_of(item):
+def shown(item):
     """The lines of an item without its clauses and what is private, from the left edge."""
     lines = read(item.path).split("\n")[item.line - 1 :]
     indent = len(lines[0]) - len(lines[0].lstrip())
@@ -222,18 +91,108 @@ def members_of(lines):
     if not lines[0].endswith("{"):
         return lines[:1]
     lines = lines[: lines.index("}") + 1]
-    if re.match(r"pub enum\b", lines[0]):
+    if lines[0].startswith("pub enum"):
         return lines
-    found, docs, hides = lines[:1], [], False
+    found, docs = lines[:1], []
     for line in lines[1:-1]:
         if line.startswith("    ///"):
             docs.append(line)
             continue
         if MEMBER.match(line) and not re.search(r"\bfn ", line):
             found += [*docs, line]
-        elif re.match(r"    (?:pub\(\w+\) )?\w+: ", line):
-            hides = True
         docs = []
-    if hides:
+    if any(re.match(r"    (?:pub\(\w+\) )?\w+: ", it) for it in lines):
         found.append("    // private fields")
-    return [*found, "}"] if len(found) > 1 else [f"{lines[0][:-1].rstrip()}"]
+    return [*found, "}"] if len(found) > 1 else [lines[0][:-1].rstrip()]
+
+
+def definitions_in(item):
+    """Links to the modules whose definitions the clauses use."""
+    links = {}
+    for clause in item.written:
+        known = imports(clause.path)
+        for word in {*WORD.findall(clause.text)} & known.keys():
+            links[word] = f"[`{word}`]({module_target(known[word])})"
+    return f"Definitions: {', '.join(links[it] for it in sorted(links))}" if links else ""
+
+
+def module_target(path):
+    """The target of links to a module of definitions."""
+    return re.sub(r"[/.]", "-", path.removesuffix(".antt")).lower()
+
+
+class Page:
+    """The page of a crate."""
+
+    def __init__(self, crate, names):
+        self.crate, self.names, self.lost = crate, names, []
+
+    def text(self):
+        """Returns the page, and finds what is lost."""
+        crate = self.crate
+        needed = re.search(rf"^{crate.name}\b[^:]*:(.*)", read("crates.txt"), re.M)[1].split()
+        links = [f"[`{it}`]({it}.md)" if LIBRARY.match(it) else f"`{it}`" for it in needed]
+        parts = [f"# `{crate.name}`", *self.prose(about(f"crates/{crate.name}/src/lib.rt"))]
+        parts += [f"It depends on {', '.join(links)}."] if links else []
+        parts += [f"[Its definitions]({crate.name}.definitions.md)"] if crate.specs else []
+        path = None
+        for item in items_of(crate):
+            if item.path != path:
+                path = item.path
+                parts += [f"## `{path}`", *self.prose([] if "/lib." in path else about(path))]
+            parts += self.item(item)
+        return "\n\n".join(parts) + "\n"
+
+    def item(self, item):
+        """The parts of the page about an item."""
+        if not item.docs and not item.trait:
+            self.lost.append(f"{item.path}:{item.line}: {item.name} has no documentation")
+        code, indent = shown(item), "" if item.is_type or not item.owner else "    "
+        for it in item.written:
+            code += [f"// of {it.trait}"] if it.trait and item.is_type else []
+            code += [line.removeprefix(indent) for line in it.text.split("\n")]
+        head = f"({anchor(item)})=\n### {self.crate.title(item)}"
+        block = "\n".join(["```rust", *code, "```"])
+        return [head, *self.prose(item.docs), block, definitions_in(item)]
+
+    def prose(self, lines):
+        """Documentation as Markdown for the page: links have addresses, and headings are bold."""
+        text = re.sub(r"^#+ (.*)$", r"**\1**", "\n".join(lines), flags=re.M)
+        return [REFERENCE.sub(self.reference, text)]
+
+    def reference(self, found):
+        target = self.names.get(found[2])
+        if not target:
+            self.lost.append(f"{self.crate.name}: no public item is [`{found[2]}`]")
+        return f"[{found[1]}]({target})" if target else found[1]
+
+
+def definitions(crate):
+    """The page of a crate's definitions, with a heading for each module."""
+    parts = [f"# Definitions of `{crate.name}`"]
+    for path in crate.specs:
+        module = path.split("/specs/")[1].removesuffix(".antt")
+        parts += [f"({module_target(path)})=\n## `{module}`", f"```antt\n{read(path)}```"]
+    return "\n\n".join(parts) + "\n"
+
+
+def main(folder):
+    os.chdir(TOP)
+    crates = [it for name, it in Crates().all.items() if LIBRARY.match(name)]
+    names, lost, rows = targets(crates), [], INDEX
+    folder.mkdir(parents=True, exist_ok=True)
+    for crate in crates:
+        page = Page(crate, names)
+        (folder / f"{crate.name}.md").write_text(page.text())
+        if crate.specs:
+            (folder / f"{crate.name}.definitions.md").write_text(definitions(crate))
+        lost += page.lost
+        words = first_sentence(about(f"crates/{crate.name}/src/lib.rt"))
+        rows += f"- [`{crate.name}`]({crate.name}.md): {words}\n"
+    (folder / "index.md").write_text(f"{rows}\n```{{toctree}}\n:hidden:\n:glob:\n*\n```\n")
+    print("".join(f"{it}\n" for it in lost), end="")
+    return 1 if lost else 0
+
+
+if __name__ == "__main__":
+    sys.exit(main(pathlib.Path(sys.argv[1]).absolute()))

@@ -1,0 +1,50 @@
+#!/usr/bin/env bash
+# Builds docs/site from the tree with Sphinx: the documents, the references for C and C++ (which
+# Doxygen reads from the headers), for Python and for the crates of Rattle, and the programs' manual
+# pages. rustdoc writes the reference for Rust, and site/build.py the page that repairs files. A link
+# without a target, a name without documentation and each other warning is a failure. It needs the
+# Debian packages python3-breathe, python3-myst-parser, python3-sphinx-rtd-theme, doxygen and mandoc,
+# and what the Python package and the Rust crates need.
+set -euo pipefail
+cd "$(dirname "$0")/../.."
+room=$(mktemp -d)
+trap 'rm -rf "$room"' EXIT
+status=0
+
+mkdir -p "$room/source"/{extra/rust,man,reference,static}
+git ls-files -z --cached --others --exclude-standard \
+    '*.md' '*.svg' '*.png' '*.csv' VERSION ':!.github' | xargs -0 cp --parents -t "$room/source"
+cp docs/html/{conf.py,index.rst} "$room/source"
+cp docs/html/style.css "$room/source/static"
+docs/html/crates.py "$room/source/rattle" || status=1
+for page in crates/*/*.1; do
+    mandoc -T markdown "$page" > "$room/source/man/$(basename "$page" .1).md"
+done
+for header in dethrux.h dethrux_alloc.h dethrux.hpp; do
+    name=${header/.hpp/_cxx}
+    printf '# `%s`\n\n```{doxygenfile} %s\n```\n' "$header" "$header" \
+        > "$room/source/reference/${name%.h}.md"
+done
+{ cat docs/html/Doxyfile && echo "OUTPUT_DIRECTORY = $room/source"; } | doxygen - || status=1
+printf 'Python\n======\n\n.. automodule:: dethrux\n' > "$room/source/reference/python.rst"
+PYTHON=/usr/bin/python3 bindings/python/build.sh "$room/python"
+site/build.py "$room/source/extra/see/index.html" ../index.html
+
+# A copy, since cargo writes a file next to a crate. A setting replaces the build script, which needs
+# the library.
+git ls-files -z bindings/rust | xargs -0 cp --parents -t "$room"
+host=$(rustc -vV | sed -n 's/^host: //p')
+settings=('source.crates-io.replace-with="debian"')
+settings+=('source.debian.directory="/usr/share/cargo/registry"')
+settings+=("target.$host.dethrux.rustc-link-lib=[\"dethrux\"]")
+for crate in dethrux utf16string; do
+    (cd "$room/bindings/rust/$crate" && CARGO_TARGET_DIR=$room/target RUSTDOCFLAGS='-D warnings' \
+        cargo doc --quiet --no-deps --offline "${settings[@]/#/--config=}") || status=1
+done
+cp -r "$room/target/doc/." "$room/source/extra/rust"
+
+rm -rf docs/site
+PYTHONPATH=$room/python PYTHONDONTWRITEBYTECODE=1 \
+    sphinx-build -q -W --keep-going -d "$room/doctrees" "$room/source" docs/site || status=1
+echo 'built: docs/site/index.html'
+exit $status
