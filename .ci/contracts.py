@@ -16,13 +16,14 @@ TYPE = rf"{PUB}(?:unsafe )?(?:trait|struct|enum) (\w+)"
 IMPL = r"(?:unsafe )?impl\b(?:<.*?>(?= ))? (.*?) ?\{"
 BLOCK = re.compile(f"{TYPE}|{IMPL}")
 FUNCTION = re.compile(rf"(?P<deep>    )?{PUB}(?:(?:const|unsafe|final|extern \"C\") )*fn (\w+)")
+# What has neither clauses nor members.
+VALUE = re.compile(r"pub (?:const|static|type) (\w+)")
 CLAUSE = re.compile(
     r" +(?P<kind>requires|ensures)\*? (?:(?P<name>\w+) )?\{|    ghost (?P<member>\w+)(?: =|:) \{"
 )
 PUBLIC_MODULE = re.compile(r"^pub mod (\w+);", re.M)
 REEXPORT = re.compile(r"^pub use ([^;]*);", re.M)
 DOC = re.compile(r" *///(?: (.*))?$")
-SENTENCE = re.compile(r"(?<=[.?!]) (?=[A-Z`])")
 USE = re.compile(r"^ *(?:ghost |pub )?use Rattle\.(\w+)\.specs\.(\w+)(?:\.\{(.*)\})?;?$", re.M)
 WORD = re.compile(r"[^\W\d][\w-]*")
 # What names something: in a source the word after such a word, in a module the first word.
@@ -74,7 +75,7 @@ class Item:
 
 class Crate:
     def __init__(self, name):
-        self.name, self.items = name, []
+        self.name, self.items, self.values = name, [], []
         self.sources = files_below(f"crates/{name}/src", ".rt")
         self.specs = files_below(f"crates/{name}/specs", ".antt")
         library = "".join(read(it) for it in self.sources if it.endswith("/src/lib.rt"))
@@ -103,6 +104,10 @@ class Crate:
                 item = self.function(path, found, block if found["deep"] else None)
                 self.add_item(item, doc)
                 item.line = at + 1
+            elif found := VALUE.match(line):
+                value = Item(self.name, path, found[1], None, None, True)
+                value.docs, value.line = doc, at + 1
+                self.values.append(value)
             elif item and (found := CLAUSE.match(line)):
                 owner = block if found["member"] else item
                 name = found["name"] or found["member"] or ""
@@ -162,11 +167,11 @@ class Crate:
         return name in self.reexported or item.modules[0] in self.public_modules
 
     def public_items(self):
-        """What another crate can name: types, traits and calls.
+        """What another crate can name: types, traits, calls and constants.
 
         What an impl of a trait only repeats is where the trait is.
         """
-        for it in self.items:
+        for it in (*self.items, *self.values):
             is_own = it.name != it.trait and (not it.trait or it.clauses or it.docs)
             if is_own and it.is_public and self.exports(it):
                 yield it
@@ -179,12 +184,6 @@ class Crate:
             return f"`{item.owner}::{item.name}`"
         is_in_module = self.public_modules and item.name not in self.reexported
         return f"`{'::'.join([*item.modules, item.name]) if is_in_module else item.name}`"
-
-
-def first_sentence(lines):
-    """The first sentence of a doc comment, without the brackets of its links."""
-    text = " ".join(lines[: lines.index("")] if "" in lines else lines)
-    return re.sub(r"\[(`[^`]+`)\]", r"\1", SENTENCE.split(text)[0])
 
 
 def text_of_clause(lines, at):

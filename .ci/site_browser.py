@@ -1,8 +1,8 @@
 #!/usr/bin/env python3
 # Opens pages in headless Chromium. Each must load without an error on its console, a request that
-# fails and a request to another machine, and it must show its pictures. A dark theme must change the
-# colours, and a page must be no wider than a window of 360 pixels. Prints what is not so, and last a
-# line 'N passed, M failed', which counts pages. CHROMIUM names another program.
+# fails and a request to another machine, and it must show its pictures. A dark theme must change
+# the colours, and a page must be no wider than a window of 360 pixels. Prints what is not so, and
+# last a line 'N passed, M failed', which counts pages. CHROMIUM names another program.
 import json
 import os
 import pathlib

@@ -1,10 +1,10 @@
 #!/usr/bin/env bash
 # Builds docs/site from the tree with Sphinx: the documents, the references for C and C++ (which
 # Doxygen reads from the headers), for Python and for the crates of Rattle, and the programs' manual
-# pages. rustdoc writes the reference for Rust, and site/build.py the page that repairs files. A link
-# without a target, a name without documentation and each other warning is a failure. It needs the
-# Debian packages python3-breathe, python3-myst-parser, python3-sphinx-rtd-theme, doxygen and mandoc,
-# and what the Python package and the Rust crates need.
+# pages. rustdoc writes the reference for Rust, and site/build.py the page that repairs files. A
+# link without a target, a name without documentation and each other warning is a failure. It needs
+# the Debian packages python3-breathe, python3-myst-parser, python3-sphinx-rtd-theme, doxygen and
+# mandoc, and what the Python package and the Rust crates need.
 set -euo pipefail
 cd "$(dirname "$0")/../.."
 room=$(mktemp -d)
@@ -30,8 +30,8 @@ printf 'Python\n======\n\n.. automodule:: dethrux\n' > "$room/source/reference/p
 PYTHON=/usr/bin/python3 bindings/python/build.sh "$room/python"
 site/build.py "$room/source/extra/see/index.html" ../index.html
 
-# A copy, since cargo writes a file next to a crate. A setting replaces the build script, which needs
-# the library.
+# A copy, since cargo writes a file next to a crate. A setting replaces the build script, which
+# needs the library.
 git ls-files -z bindings/rust | xargs -0 cp --parents -t "$room"
 host=$(rustc -vV | sed -n 's/^host: //p')
 settings=('source.crates-io.replace-with="debian"')

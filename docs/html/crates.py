@@ -11,18 +11,23 @@ sys.dont_write_bytecode = True
 TOP = pathlib.Path(__file__).resolve().parents[2]
 sys.path.insert(0, str(TOP / ".ci"))
 
-from contracts import CLAUSE, LIBRARY, WORD, Crates, Item, first_sentence, imports, read  # noqa: E402
+from contracts import CLAUSE, LIBRARY, WORD, Crates, imports, read  # noqa: E402
 
-# What begins where an item of a module may begin, and has neither clauses nor members.
-VALUE = re.compile(r"^pub (?:const|static|type) (\w+)[^;]*;", re.M)
 MEMBER = re.compile(r"    (?:pub |const |type )")
 INNER_DOC = re.compile(r"^//!(?: (.*))?$", re.M)
 REFERENCE = re.compile(r"\[(`([\w:]+)`)\](?!\()")
 INDEX = """# Rattle
 
 Each public item of the library for Rattle, with its contract.
-[CALLING](../docs/CALLING.md) says what the names of clauses mean, and how to prove a caller.
+[CALLING](../docs/CALLING.md) says what the names of clauses mean, and how to prove a caller, and
+[ARCHITECTURE](../docs/ARCHITECTURE.md) what each crate is for.
 
+```{toctree}
+:maxdepth: 1
+:glob:
+
+*
+```
 """
 
 
@@ -31,24 +36,9 @@ def about(path):
     return [it[1] or "" for it in INNER_DOC.finditer(read(path))] if os.path.isfile(path) else []
 
 
-def values_of(crate, path):
-    """The constants and the names of types of a module."""
-    lines = read(path).split("\n")
-    for found in VALUE.finditer(read(path)):
-        item = Item(crate.name, path, found[1], None, None, True)
-        first = item.line = read(path).count("\n", 0, found.start()) + 1
-        while lines[first - 2].startswith(("///", "#[")):
-            first -= 1
-        docs = (it for it in lines[first - 1 : item.line] if it.startswith("///"))
-        item.docs = [it[3:].removeprefix(" ") for it in docs]
-        if crate.exports(item):
-            yield item
-
-
 def items_of(crate):
     """The public items of a crate, by file and line."""
-    values = [it for path in crate.sources for it in values_of(crate, path)]
-    return sorted([*crate.public_items(), *values], key=lambda it: (it.path, it.line))
+    return sorted(crate.public_items(), key=lambda it: (it.path, it.line))
 
 
 def anchor(item):
@@ -179,17 +169,15 @@ def definitions(crate):
 def main(folder):
     os.chdir(TOP)
     crates = [it for name, it in Crates().all.items() if LIBRARY.match(name)]
-    names, lost, rows = targets(crates), [], INDEX
+    names, lost = targets(crates), []
     folder.mkdir(parents=True, exist_ok=True)
+    (folder / "index.md").write_text(INDEX)
     for crate in crates:
         page = Page(crate, names)
         (folder / f"{crate.name}.md").write_text(page.text())
         if crate.specs:
             (folder / f"{crate.name}.definitions.md").write_text(definitions(crate))
         lost += page.lost
-        words = first_sentence(about(f"crates/{crate.name}/src/lib.rt"))
-        rows += f"- [`{crate.name}`]({crate.name}.md): {words}\n"
-    (folder / "index.md").write_text(f"{rows}\n```{{toctree}}\n:hidden:\n:glob:\n*\n```\n")
     print("".join(f"{it}\n" for it in lost), end="")
     return 1 if lost else 0
 
