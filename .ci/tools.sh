@@ -33,7 +33,7 @@ tools=(
     node:nodejs npm:npm tsc:node-typescript esbuild:esbuild wasm-opt:binaryen
     # Documents and packages.
     sphinx-build:python3-sphinx python3-breathe python3-myst-parser python3-sphinx-rtd-theme
-    linkchecker:linkchecker mandoc:mandoc doxygen:doxygen chromium:chromium dh:debhelper
+    python3-dev linkchecker:linkchecker mandoc:mandoc doxygen:doxygen chromium:chromium dh:debhelper
     dpkg-buildpackage:dpkg-dev lintian:lintian
     # What runs and compares.
     valgrind:valgrind git:git iconv:libc-bin cmp:diffutils setpriv:util-linux

@@ -18,7 +18,9 @@ cp docs/html/{conf.py,index.rst} "$room/source"
 cp docs/html/style.css "$room/source/static"
 docs/html/crates.py "$room/source/rattle" || status=1
 for page in crates/*/*.1; do
-    mandoc -T markdown "$page" > "$room/source/man/$(basename "$page" .1).md"
+    name=$(basename "$page" .1)
+    { printf '# `%s`\n\n' "$name" && mandoc -T markdown "$page" | sed 's/^#/##/'; } \
+        > "$room/source/man/$name.md"
 done
 for header in dethrux.h dethrux_alloc.h dethrux.hpp; do
     name=${header/.hpp/_cxx}
