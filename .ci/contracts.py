@@ -19,7 +19,7 @@ FUNCTION = re.compile(rf"(?P<deep>    )?{PUB}(?:(?:const|unsafe|final|extern \"C
 # What has neither clauses nor members.
 VALUE = re.compile(r"pub (?:const|static|type) (\w+)")
 CLAUSE = re.compile(
-    r" +(?P<kind>requires|ensures)\*? (?:(?P<name>\w+) )?\{|    ghost (?P<member>\w+)(?: =|:) \{"
+    r" +(?:requires|ensures)\*? (?:(?P<name>\w+) )?\{|    ghost (?P<member>\w+)(?: =|:) \{"
 )
 PUBLIC_MODULE = re.compile(r"^pub mod (\w+);", re.M)
 REEXPORT = re.compile(r"^pub use ([^;]*);", re.M)
@@ -32,7 +32,7 @@ DEFINED = re.compile(r"^ *(?:(?:pub|abbrev|unfoldable|record|data|ruleset) +)*([
 
 
 # A clause as it is written, with its file; a ghost member has the trait whose impl it is in.
-Clause = namedtuple("Clause", "kind name text path trait")
+Clause = namedtuple("Clause", "name text path trait")
 
 
 def read(path):
@@ -111,8 +111,7 @@ class Crate:
             elif item and (found := CLAUSE.match(line)):
                 owner = block if found["member"] else item
                 name = found["name"] or found["member"] or ""
-                text = text_of_clause(lines, at)
-                owner.add(Clause(found["kind"] or "ghost", name, text, path, owner.trait))
+                owner.add(Clause(name, text_of_clause(lines, at), path, owner.trait))
             elif line.startswith("}"):
                 block = item = None
             elif re.match(r"(unsafe )?impl\b", line):
