@@ -1,12 +1,16 @@
 #!/usr/bin/env bash
 # Builds the pages docs/site, checks the manual pages with mandoc, follows the links of all pages
-# with linkchecker, and opens a page of each kind in headless Chromium. A tool that is missing is a
-# failure. The last line is 'N passed, M failed'.
+# with linkchecker, looks for what they fetch from elsewhere, and opens a page of each kind in
+# headless Chromium. A tool that is missing is a failure. The last line is 'N passed, M failed'.
 set -uo pipefail
 cd "$(dirname "$0")/.." || exit 1
 room=$(mktemp -d)
 trap 'rm -rf "$room"' EXIT
 . .ci/checks.sh
+
+fetches_nothing() {
+    ! grep -rE '<(script|img|link|iframe)[^>]* (src|href)="(https?:)?//' --include='*.html' docs/site
+}
 
 check 'the pages' docs/html/build.sh
 if check "mandoc, in Debian's package mandoc" command -v mandoc; then
@@ -16,6 +20,7 @@ if check "mandoc, in Debian's package mandoc" command -v mandoc; then
     done
 fi
 check 'the links' linkchecker --no-status docs/site/index.html
+check 'what pages fetch' fetches_nothing
 CHROMIUM=$(first_of chromium chromium-browser google-chrome || echo chromium)
 export CHROMIUM
 pages=(docs/site/{index,README,search,docs/C,docs/PROMISES,bench/README,reference/dethrux}.html)
