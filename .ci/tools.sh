@@ -28,7 +28,7 @@ tools=(
     /usr/lib/wine/wine64:wine64
     # Python and JavaScript.
     python3:python3 pip:python3-pip "$python_headers:python3-dev" module=ensurepip:python3-venv
-    "module=test.test_codecs:libpython${python_version:-3}-testsuite" mypy:mypy python3-distributed
+    "module=test.test_codecs:libpython${python_version:-3}-testsuite" mypy:mypy
     python3-setuptools module=setuptools:python3-setuptools python3-wheel-whl
     node:nodejs npm:npm tsc:node-typescript esbuild:esbuild wasm-opt:binaryen
     # Documents and packages.
