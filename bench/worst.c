@@ -99,76 +99,68 @@ typedef dethrux_progress convert(
     dethrux_byte_order, const void *, size_t, void *, size_t);
 
 // Converts the whole input, a buffer at a time, and continues after each ill-formed sequence.
-// Returns the number of calls.
-static size_t whole(convert *call, size_t len, size_t capacity) {
-    size_t at = 0, calls = 0;
+static void whole(convert *call, size_t len, size_t capacity) {
+    size_t at = 0;
     for (;;) {
         dethrux_progress it = call(DETHRUX_LITTLE_ENDIAN, input + at, len - at, output, capacity);
         at += it.read;
-        calls++;
         if (it.status == DETHRUX_ILL_FORMED) at += it.error_len;
-        else if (it.status != DETHRUX_NO_SPACE) return calls;
+        else if (it.status != DETHRUX_NO_SPACE) return;
     }
 }
 
 // Does the same with a decoder that has a state, in chunks of 1,000 bytes.
-static size_t streamed(size_t len, size_t capacity) {
+static void streamed(size_t len, size_t capacity) {
     dethrux_decoder decoder = DETHRUX_DECODER_INIT;
-    size_t at = 0, calls = 0;
+    size_t at = 0;
     while (at < len) {
         size_t chunk = len - at < 1000 ? len - at : 1000;
         dethrux_progress it = dethrux_decoder_feed(
             &decoder, DETHRUX_LITTLE_ENDIAN, input + at, chunk, output, capacity);
         at += it.read;
-        calls++;
     }
-    return calls;
 }
 
 // Do the same with ICU, lossy, from code units to UTF-8 and back. ICU's converters keep what does
 // not fit.
 static UConverter *icu;
 
-static size_t icu_to_utf8(size_t len, size_t capacity) {
+static void icu_to_utf8(size_t len, size_t capacity) {
     const UChar *source = (const UChar *)input, *end = source + len / 2;
-    size_t calls = 0;
+    UErrorCode error = U_BUFFER_OVERFLOW_ERROR;
     ucnv_reset(icu);
-    for (;;) {
-        UErrorCode error = U_ZERO_ERROR;
+    while (error == U_BUFFER_OVERFLOW_ERROR) {
+        error = U_ZERO_ERROR;
         char *target = (char *)output;
         ucnv_fromUnicode(icu, &target, target + capacity, &source, end, NULL, 1, &error);
-        calls++;
-        if (error != U_BUFFER_OVERFLOW_ERROR) return calls;
     }
 }
 
-static size_t icu_from_utf8(size_t len, size_t capacity) {
+static void icu_from_utf8(size_t len, size_t capacity) {
     const char *source = (const char *)input, *end = source + len;
-    size_t calls = 0;
+    UErrorCode error = U_BUFFER_OVERFLOW_ERROR;
     ucnv_reset(icu);
-    for (;;) {
-        UErrorCode error = U_ZERO_ERROR;
+    while (error == U_BUFFER_OVERFLOW_ERROR) {
+        error = U_ZERO_ERROR;
         UChar *target = units;
         ucnv_toUnicode(icu, &target, target + capacity / 2, &source, end, NULL, 1, &error);
-        calls++;
-        if (error != U_BUFFER_OVERFLOW_ERROR) return calls;
     }
 }
 
 enum { STRICT, LOSSY, STREAMED, ICU, CALLS };
 
-static size_t run(int from, int call, size_t len, size_t capacity) {
-    switch (call) {
-    case STRICT: return whole(from ? dethrux_from_utf8 : dethrux_to_utf8, len, capacity);
-    case LOSSY: return whole(from ? dethrux_from_utf8_lossy : dethrux_to_utf8_lossy, len, capacity);
-    case STREAMED: return streamed(len, capacity);
-    default: return from ? icu_from_utf8(len, capacity) : icu_to_utf8(len, capacity);
-    }
+static void run(int from, int call, size_t len, size_t capacity) {
+    if (call == STRICT) whole(from ? dethrux_from_utf8 : dethrux_to_utf8, len, capacity);
+    else if (call == LOSSY)
+        whole(from ? dethrux_from_utf8_lossy : dethrux_to_utf8_lossy, len, capacity);
+    else if (call == STREAMED) streamed(len, capacity);
+    else if (from) icu_from_utf8(len, capacity);
+    else icu_to_utf8(len, capacity);
 }
 
-// What was measured for a text: the seconds of the fastest round, and the calls that it took.
+// What was measured for a text: the seconds of the fastest round.
 struct measured {
-    size_t len, calls[CALLS][CAPACITIES];
+    size_t len;
     double best[CALLS][CAPACITIES];
 };
 
@@ -179,23 +171,20 @@ static void measure(int from, const struct text *text, struct measured *it) {
     for (int call = 0; call < CALLS; call++)
         for (size_t c = 0; c < CAPACITIES && is_measured(from, call); c++) {
             double start = seconds();
-            it->calls[call][c] = run(from, call, it->len, capacities[c]);
+            run(from, call, it->len, capacities[c]);
             double took = seconds() - start;
             if (it->best[call][c] == 0 || took < it->best[call][c]) it->best[call][c] = took;
         }
 }
 
-// Prints a line for each call and capacity: the nanoseconds for each byte of input, and the
-// nanoseconds that a call costs above one into the largest buffer.
+// Prints a line for each call and capacity: the nanoseconds for each byte of input.
 static void print(int from, const struct text *text, const struct measured *it) {
     static const char *const names[] = {"strict", "lossy", "streamed", "ICU"};
     for (int call = 0; call < CALLS; call++)
         for (size_t c = 0; c < CAPACITIES && is_measured(from, call); c++) {
-            const double *best = it->best[call];
-            printf("%s\t%s\t%s\t%zu\t%zu\t%.3f\t%.1f\n", from ? "from_utf8" : "to_utf8",
-                names[call], text->name, text->every == INPUT ? 0 : text->every, capacities[c],
-                best[c] * 1e9 / it->len,
-                (best[c] - best[CAPACITIES - 1]) * 1e9 / it->calls[call][c]);
+            printf("%s\t%s\t%s\t%zu\t%zu\t%.3f\n", from ? "from_utf8" : "to_utf8", names[call],
+                text->name, text->every == INPUT ? 0 : text->every, capacities[c],
+                it->best[call][c] * 1e9 / it->len);
         }
 }
 

@@ -1,9 +1,8 @@
 #!/bin/sh
 # Times the calls of the C library on the bytes that cost most, in buffers of each capacity, and
 # ICU's converters on the same bytes, in one run. For each call and capacity it prints the most
-# nanoseconds per byte of input over all texts, the text that costs them, and ICU's most. Then it
-# prints, for each text, the most that a call into a small buffer costs above a call into a large
-# one. The tables are written to bench/out/worst.md.
+# nanoseconds per byte of input over all texts, the text that costs them, and ICU's most. The table
+# is written to bench/out/worst.md.
 set -eu
 top=$(cd "$(dirname "$0")/.." && pwd)
 mkdir -p "$top/bench/out"
@@ -19,8 +18,6 @@ awk -F '\t' '
     if (!(call in calls)) { calls[call] = 1; order[++n] = call }
     if (!($5 in capacities)) { capacities[$5] = 1; capacity[++c] = $5 }
     if ($6 > most[call, $5]) { most[call, $5] = $6; at[call, $5] = text }
-    if ($2 != "ICU" && !($4) && $7 > above[call, $3]) { above[call, $3] = $7; where[call, $3] = $5 }
-    if ($2 != "ICU" && !($4) && !((call, $3) in seen)) { seen[call, $3] = 1; pair[++p] = call SUBSEP $3 }
 }
 END {
     print "| Call | Capacity | ns a byte, at most | Text | ICU, ns a byte, at most |\n|---|---|---|---|---|"
@@ -29,12 +26,6 @@ END {
         split(order[i], word, " ")
         for (k = 1; k <= c; k++)
             printf "| `%s`, %s | %s | %.1f | %s | %.1f |\n", word[1], word[2], capacity[k], most[order[i], capacity[k]], at[order[i], capacity[k]], most[word[1] " ICU", capacity[k]]
-    }
-    print "\n| Call | Text | ns a call above that into a large buffer, at most | Capacity |\n|---|---|---|---|"
-    for (i = 1; i <= p; i++) {
-        split(pair[i], word, SUBSEP)
-        split(word[1], name, " ")
-        printf "| `%s`, %s | %s | %.0f | %s |\n", name[1], name[2], word[2], above[pair[i]], where[pair[i]]
     }
 }' out/worst.tsv > out/worst.md
 cat out/worst.md
