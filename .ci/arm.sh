@@ -7,11 +7,8 @@
 # root, apt-get installs missing tools; a tool that is still missing is a failure. Prints each check
 # that fails; the last line is 'N passed, M failed'.
 set -uo pipefail
-top=$(cd "$(dirname "$0")/.." && pwd)
+. "$(dirname "$0")/checks.sh"
 version=$(< "$top/VERSION")
-room=$(mktemp -d)
-trap 'rm -rf "$room"' EXIT
-. "$top/.ci/checks.sh"
 
 system=/usr/aarch64-linux-gnu
 triplet=aarch64-linux-gnu
@@ -20,15 +17,6 @@ export QEMU_CPU=cortex-a53 QEMU_LD_PREFIX=$system
 warnings=(-O2 -Wall -Wextra -Wpedantic -Werror)
 
 # == dist/
-
-# Builds the library and the programs with a compiler and runs the checks: the tables of cases over
-# both libraries and over the programs, and code units.
-tables() {
-    make -s -C "$top/dist" CC="$1" check > "$room/tables"
-    local status=$?
-    cat "$room/tables"
-    [ $status = 0 ] && [ "$(grep -cxE '[0-9]+ passed, 0 failed' "$room/tables")" = 6 ]
-}
 
 # Tests that the shared library has its name, needs only libc, and only what glibc 2.17 has, the
 # first one for ARM64.
@@ -52,10 +40,9 @@ runs() {
         LD_LIBRARY_PATH=$folder qemu-aarch64 "$room/program" "$@"
 }
 
-# Tests that the program prints what a page of docs/ shows in its block of text.
+# Tests that the program prints what a page shows.
 prints_page() {
-    sed -n '/^```text$/,/^```$/p' "$top/docs/$1.md" | sed '/^```/d' > "$room/page"
-    [ -s "$room/page" ] && "${@:2}" > "$room/found" && cmp "$room/page" "$room/found"
+    page_text "$1" > "$room/page" && "${@:2}" > "$room/found" && cmp "$room/page" "$room/found"
 }
 
 # Prints which code either library runs.
@@ -107,9 +94,9 @@ need "${for_arm64[@]}" $triplet-g++:g++-$triplet qemu-aarch64:qemu-user clang:cl
     make:make pkg-config:pkg-config dpkg-buildpackage:dpkg-dev dh:debhelper lintian:lintian ||
     finish
 
-count 'the tables with gcc' tables $triplet-gcc || finish
+count 'the tables with gcc' runs_tables "$top/dist" -s CC=$triplet-gcc || finish
 fuzz &
-count 'the tables with clang' tables 'clang --target=aarch64-linux-gnu'
+count 'the tables with clang' runs_tables "$top/dist" -s CC='clang --target=aarch64-linux-gnu'
 check 'the symbols of the shared library' \
     exports_header $triplet-nm -D --defined-only "$folder/libdethrux.so"
 check 'the symbols of the static library' \

@@ -1,5 +1,9 @@
 # Sourced by scripts that test something: how they count checks and install tools, and what a
-# library's symbols must be. They set `top`, the folder of the tree, and `room`, a temporary folder.
+# library's symbols must be. It sets `top`, the folder of the tree, and `room`, a temporary folder,
+# which goes at the end.
+top=$(cd "$(dirname "${BASH_SOURCE[0]}")/.." && pwd)
+room=$(mktemp -d)
+trap 'rm -rf "$room"' EXIT
 passed=0
 failed=0
 
@@ -46,6 +50,44 @@ counts() {
         echo "failed: $name:"
         tail -n 20 <<< "$said"
     fi
+}
+
+# Tests that a command fails, and that its output has these words.
+refuses() {
+    ! "${@:2}" > "$room/refused" 2>&1 && grep -F -- "$1" "$room/refused"
+}
+
+# Prints what a page of docs/ shows in its block of text.
+page_text() {
+    sed -n '/^```text$/,/^```$/p' "$top/docs/$1.md" | grep -v '^```'
+}
+
+# Runs `make check` in a dist/, with more words: the tables over both libraries and the programs.
+runs_tables() {
+    make -C "$1" "${@:2}" check | tr -d '\r' > "$room/tables"
+    local status=${PIPESTATUS[0]}
+    cat "$room/tables"
+    [ "$status" = 0 ] && [ "$(grep -cxE '[0-9]{3,} passed, 0 failed' "$room/tables")" = 6 ]
+}
+
+# Compiles a program with each library below a prefix, using CMake with more words.
+compile_by_cmake() {
+    rm -rf "$room/user"
+    cmake -S "$top/packaging/test" -B "$room/user" "${@:2}" "-DCMAKE_PREFIX_PATH=$1" &&
+        cmake --build "$room/user"
+}
+
+# Does the same, and runs it.
+by_cmake() {
+    compile_by_cmake "$1" && "$room/user/user_shared" && "$room/user/user_static"
+}
+
+# Runs a program on a processor. qemu warns of features that no program here uses.
+on_processor() {
+    qemu-x86_64 -cpu "$@" 2> "$room/warnings"
+    local status=$?
+    grep -v 'warning: TCG doesn' "$room/warnings" >&2
+    return $status
 }
 
 # Installs Debian packages.

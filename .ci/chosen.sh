@@ -5,10 +5,7 @@
 # processors. If a copy of it is named, it tests that, up to the first failure: examples/slips does.
 # The last line is 'N passed, M failed'.
 set -uo pipefail
-top=$(cd "$(dirname "$0")/.." && pwd)
-room=$(mktemp -d)
-trap 'rm -rf "$room"' EXIT
-. "$top/.ci/checks.sh"
+. "$(dirname "$0")/checks.sh"
 dist=$top/dist
 source=${1-$dist/src/choose.S}
 chosen=$room/chosen
@@ -34,11 +31,6 @@ compile() {
     gcc -O1 -Wall -Wextra -Werror -pthread "-I$dist/include" "${@:2}" -o "$1"
 }
 
-# Runs a program on a processor. qemu warns of features that no program here uses.
-on() {
-    qemu-x86_64 -cpu "$@" 2> "$room/warnings"
-}
-
 # Tests that a program prints that it takes the code for a level.
 takes() {
     diff <(echo "x86-64-$1") <("${@:2}")
@@ -49,7 +41,7 @@ takes_with_state() {
     sed "s/xgetbv/movl \$$2, %eax/" "$source" > "$room/state.S" &&
         ! cmp -s "$source" "$room/state.S" &&
         compile "$room/state" "-I$dist/src" "$top/packaging/test/chosen.c" "$room"/{state.S,v{2,3}.o} &&
-        takes "$1" on Haswell "$room/state"
+        takes "$1" on_processor Haswell "$room/state"
 }
 
 # Runs a debugger from the first instruction of the first call on.
@@ -116,7 +108,7 @@ threads_take_one() {
     local time
     compile "$room/one" "$top/packaging/test/chosen.c" "$room"/{choose,ends-v2,v3}.o || return
     for time in {1..10}; do
-        on Haswell "$room/one" threads || return
+        on_processor Haswell "$room/one" threads || return
     done
 }
 
@@ -140,32 +132,32 @@ count 'the library with choose.S' build || finish
 try 'registers' keeps_registers
 try 'a debugger' shows_callers
 try 'the marks' is_marked
-try 'Nehalem' takes v2 on Nehalem "$chosen"
-try 'Haswell' takes v3 on Haswell "$chosen"
-try 'the newest processor of qemu' takes v3 on max "$chosen"
+try 'Nehalem' takes v2 on_processor Nehalem "$chosen"
+try 'Haswell' takes v3 on_processor Haswell "$chosen"
+try 'the newest processor of qemu' takes v3 on_processor max "$chosen"
 for feature in avx2 bmi1 bmi2 fma f16c movbe abm avx xsave; do
-    try "Haswell without $feature" takes v2 on "Haswell,-$feature" "$chosen"
+    try "Haswell without $feature" takes v2 on_processor "Haswell,-$feature" "$chosen"
 done
 try 'a system without AVX' takes_with_state v2 3
 try 'a system without SSE' takes_with_state v2 5
 try 'a system with both' takes_with_state v3 7
 # qemu gives a signal handler a stack that is not aligned.
-try 'threads, Nehalem' takes v2 on Nehalem "$chosen" threads
+try 'threads, Nehalem' takes v2 on_processor Nehalem "$chosen" threads
 try 'threads, Haswell' threads_take_one
 for where in threads handler child; do
     try "$where" diff <("$chosen") <("$chosen" $where)
 done
 try 'before main' takes_before_main
-try 'the tables, Nehalem' runs_only 2 on Nehalem
-try 'the tables, Haswell' runs_only 3 on Haswell
+try 'the tables, Nehalem' runs_only 2 on_processor Nehalem
+try 'the tables, Haswell' runs_only 3 on_processor Haswell
 if [ "$source" = "$dist/src/choose.S" ]; then
-    try 'the tables, Haswell without xsave' runs_only 2 on Haswell,-xsave
-    try 'the tables, the newest processor of qemu' runs_only 3 on max
+    try 'the tables, Haswell without xsave' runs_only 2 on_processor Haswell,-xsave
+    try 'the tables, the newest processor of qemu' runs_only 3 on_processor max
     for feature in avx2 bmi1 bmi2 fma f16c movbe abm avx xsave; do
-        try "a program, Haswell without $feature" program_takes 2 on "Haswell,-$feature"
+        try "a program, Haswell without $feature" program_takes 2 on_processor "Haswell,-$feature"
     done
-    try 'a program, Nehalem' program_takes 2 on Nehalem
-    try 'a program, Haswell' program_takes 3 on Haswell
+    try 'a program, Nehalem' program_takes 2 on_processor Nehalem
+    try 'a program, Haswell' program_takes 3 on_processor Haswell
     try 'a program for which glibc has no AVX2' \
         program_takes 2 env GLIBC_TUNABLES=glibc.cpu.hwcaps=-AVX2
 fi

@@ -7,10 +7,7 @@
 # .ci/arm.sh, .ci/windows.sh and .ci/macos.sh. If this runs as root, apt-get installs missing tools;
 # a tool that is still missing is a failure. The last line is 'N passed, M failed'.
 set -uo pipefail
-top=$(cd "$(dirname "$0")/.." && pwd)
-room=$(mktemp -d)
-trap 'rm -rf "$room"' EXIT
-. "$top/.ci/checks.sh"
+. "$(dirname "$0")/checks.sh"
 tools=(aarch64-linux-gnu-gcc:gcc-aarch64-linux-gnu cmake:cmake clang:clang)
 tools+=(x86_64-w64-mingw32-gcc:gcc-mingw-w64-x86-64 qemu-x86_64:qemu-user gdb:gdb)
 tools+=(llvm-objdump:llvm)
@@ -74,19 +71,11 @@ with_cmake() {
     local built=$room/cmake
     cmake -S "$clone/dist" -B "$built" -DCMAKE_INSTALL_PREFIX="$room/prefix" &&
         cmake --build "$built" && (cd "$built" && ctest --output-on-failure --no-tests=error) &&
-        cmake --install "$built" && cmake -S "$top/packaging/test" -B "$room/user" \
-        -DCMAKE_PREFIX_PATH="$room/prefix" && cmake --build "$room/user" &&
-        "$room/user/user_shared" && "$room/user/user_static" &&
+        cmake --install "$built" && by_cmake "$room/prefix" &&
         make -s -C "$clone/dist" BUILD="$room/make-gcc" stage STAGE="$room/stage" &&
         diff <(cd "$room/prefix" && find lib | sort) <(cd "$room/stage" && find lib | sort) &&
         has_marks readelf "$marks" "$room/prefix/lib"/*.so.?.? &&
         readelf -d "$room/prefix/lib"/*.so.?.? | grep BIND_NOW
-}
-
-# Tests that a program refuses a processor without AVX2.
-is_refused() {
-    ! qemu-x86_64 -cpu Nehalem "$1" le < /dev/null > "$room/line" 2>&1 &&
-        grep -F 'this machine lacks a feature of x86-64-v3' "$room/line"
 }
 
 # Tests that a library for one level names it.
@@ -95,18 +84,11 @@ names_level() {
         diff <(echo "x86-64-$1") <(qemu-x86_64 -cpu max "$room/kernel")
 }
 
-# Tests that make refuses words with this line.
-refuses() {
-    local line=$1
-    shift
-    ! make -s -C "$clone/dist" "$@" 2> "$room/line" && grep -F "$line" "$room/line"
-}
-
 # Tests that a processor or a system without assembly is refused.
 refuses_target() {
     local systems='x86_64 and aarch64 Linux, x86_64 Windows, and macOS'
     printf '#!/bin/sh\necho %s\n' "$1" > "$room/other" && chmod +x "$room/other" &&
-        refuses "there is no assembly for $1: only for $systems" CC="$room/other"
+        refuses "there is no assembly for $1: only for $systems" "${make[@]}" CC="$room/other"
 }
 
 need "${tools[@]}" || finish
@@ -114,6 +96,7 @@ count 'packaging/calls' "$top/packaging/calls" --test
 count 'what packaging/calls writes' "$top/packaging/calls" --check
 count 'dist/ is what packaging/assembly writes' "$top/packaging/assembly" --check "$@"
 clone="$room/a clone"
+make=(make -s -C "$clone/dist")
 user=("-I$clone/dist/include" "$top/packaging/test/user.c")
 marks='x86 feature: IBT, SHSTK'
 count 'a clone' git clone -q "$top" "$clone"
@@ -130,7 +113,8 @@ done
 count 'which code is taken' "$top/.ci/chosen.sh"
 count 'make for x86-64-v2' with_make v2 LEVEL=x86-64-v2
 count 'make for x86-64-v3' with_make v3 LEVEL=x86-64-v3 RUN='qemu-x86_64 -cpu max'
-count 'a program for x86-64-v3 below it' is_refused "$room/make-v3/utf16_cat"
+count 'a program for x86-64-v3 below it' refuses 'this machine lacks a feature of x86-64-v3' \
+    on_processor Nehalem "$room/make-v3/utf16_cat" le < /dev/null
 write_kernel
 for level in v2 v3; do
     count "the library for only x86-64-$level" names_level $level
@@ -140,6 +124,7 @@ for target in i686-linux-gnu x86_64-linux-gnux32 riscv64-linux-gnu x86_64-unknow
     count "a compiler for $target" refuses_target "$target"
 done
 for level in x86-64-v4 v3 'x86-64-v2 x86-64-v3'; do
-    count "LEVEL=$level" refuses "LEVEL=$level: take x86-64-v2 or x86-64-v3" "LEVEL=$level"
+    count "LEVEL=$level" refuses "LEVEL=$level: take x86-64-v2 or x86-64-v3" \
+        "${make[@]}" "LEVEL=$level"
 done
 finish

@@ -5,13 +5,12 @@
 # call rt. If this runs as root, apt-get installs missing tools; a tool that is still missing is a
 # failure. Prints each check that fails; the last line is 'N passed, M failed'.
 set -uo pipefail
-top=$(cd "$(dirname "$0")/.." && pwd)
+. "$(dirname "$0")/checks.sh"
 sources=$top/packaging/test
 version=$(< "$top/VERSION")
 soname=libdethrux.so.${version%.*}
 packages=(libdethrux0.2 libdethrux-dev dethrux-tools dethrux-iconv)
 sanitizers=(address undefined leak thread)
-room=$(mktemp -d)
 purge=false
 
 # Removes what this made, and also the packages if they are installed on this system.
@@ -20,8 +19,6 @@ clean() {
     rm -rf "$room"
 }
 trap clean EXIT
-
-. "$top/.ci/checks.sh"
 
 # Tests that a command ends with this status and prints one line that contains these words.
 says() {
@@ -70,20 +67,13 @@ all_static() {
 is_page_sanitized() {
     local compiler=$1 source=$2 page=$3 sanitizer words
     eval "words=($(config "$prefix" --cflags --libs))"
-    sed -n '/^```text$/,/^```$/p' "$top/docs/$page.md" | sed '/^```/d' > "$room/page"
+    page_text "$page" > "$room/page"
     for sanitizer in '' "${@:4}"; do
         $compiler -g ${sanitizer:+"-fsanitize=$sanitizer"} "$top/examples/$source" \
             "${words[@]}" -o "$room/program" &&
             LD_LIBRARY_PATH=$prefix/lib "$room/program" > "$room/found" &&
             diff "$room/page" "$room/found" || return
     done
-}
-
-# Compiles a program with each library, using CMake, and runs it.
-by_cmake() {
-    rm -rf "$room/cmake"
-    cmake -S "$sources" -B "$room/cmake" -DCMAKE_PREFIX_PATH="$1" &&
-        cmake --build "$room/cmake" && "$room/cmake/user_shared" && "$room/cmake/user_static"
 }
 
 # Tests that CMake finds the package, but not in this version.
@@ -93,12 +83,6 @@ cmake_refuses() {
         "find_package(dethrux $1 REQUIRED)" > "$room/refused/CMakeLists.txt"
     ! cmake -S "$room/refused" -B "$room/refused/out" -DCMAKE_PREFIX_PATH="$prefix" \
         > "$room/log" 2>&1 && grep -F "version: $version" "$room/log"
-}
-
-# Runs a program on a processor. qemu warns of features that no program here uses.
-on_processor() {
-    qemu-x86_64 -cpu "$@" 2>&1 < /dev/null | grep -v 'warning: TCG doesn'
-    return "${PIPESTATUS[0]}"
 }
 
 # Tests that a program ends with these words on a processor below x86-64-v2, but runs on one that has
@@ -207,10 +191,9 @@ installs_for_arm64() {
 # Tests that make builds the libraries and the programs from the archive of the assembly, runs their
 # tables, and installs them.
 builds_sources() {
-    local make=(make -C "$room/dethrux-$version-dist/dist")
-    unpacks dist && "${make[@]}" check > "$room/checked" &&
-        [ "$(grep -cE '^[1-9][0-9]* passed, 0 failed$' "$room/checked")" = 6 ] &&
-        "${make[@]}" install PREFIX="$room/built" && diff -r "$room/built" "$prefix"
+    local dist=$room/dethrux-$version-dist/dist
+    unpacks dist && runs_tables "$dist" && make -C "$dist" install PREFIX="$room/built" &&
+        diff -r "$room/built" "$prefix"
 }
 
 # Tests that iconv takes the module: from this folder, or without one from the system.
@@ -297,7 +280,7 @@ check 'another major version by CMake' cmake_refuses $((${version%%.*} + 1)).0
 check 'the programs' programs_run "$prefix/bin"
 for file in "$prefix"/bin/*; do
     check "${file##*/} below its level" \
-        is_refused_below 'this machine lacks a feature of x86-64-v2' "$file" le
+        is_refused_below 'this machine lacks a feature of x86-64-v2' "$file" le < /dev/null
 done
 
 check 'an unknown option' says 2 'usage: install.sh' "$top/install.sh" --help

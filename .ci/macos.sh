@@ -5,11 +5,8 @@
 # runs as root, apt-get installs missing tools; a tool that is still missing is a failure. The last
 # line is 'N passed, M failed'.
 set -uo pipefail
-top=$(cd "$(dirname "$0")/.." && pwd)
+. "$(dirname "$0")/checks.sh"
 version=$(< "$top/VERSION")
-room=$(mktemp -d)
-trap 'rm -rf "$room"' EXIT
-. "$top/.ci/checks.sh"
 clang=$(dirname "$(readlink -f "$(command -v clang)")")
 tools=(clang:clang "$clang/ld64.lld:lld" llvm-nm:llvm cmake:cmake qemu-aarch64:qemu-user qemu-x86_64:qemu-user)
 linker="-fuse-ld=lld -nostdlib -mlinker-version=700 $room/system.tbd"

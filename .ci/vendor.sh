@@ -3,8 +3,6 @@
 # fails; the last line is 'N passed, M failed'.
 set -uo pipefail
 cd "$(dirname "$0")/.." || exit 1
-room=$(mktemp -d)
-trap 'rm -rf "$room"' EXIT
 . .ci/checks.sh
 
 # Tests that each crate on which a line depends has a line above it, or is a library of the kit.

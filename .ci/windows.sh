@@ -7,15 +7,13 @@
 # that is still missing is a failure. Only MSVC itself is left out, and a line says so. Prints each
 # check that fails; the last line is 'N passed, M failed'.
 set -uo pipefail
-top=$(cd "$(dirname "$0")/.." && pwd)
+. "$(dirname "$0")/checks.sh"
 dist=$top/dist
 examples=$top/examples
 assembly=("$dist"/src/{choose.S,windows-x86-64-v{2,3}.s})
 version=$(< "$top/VERSION")
 archive=dethrux-$version-x86_64-windows
 gcc=x86_64-w64-mingw32-gcc
-room=$(mktemp -d)
-. "$top/.ci/checks.sh"
 
 # Wine keeps its files in the room, prints nothing of its own, and looks for neither .NET nor menus.
 # Without its debugger, a program that ends by a fault has a status other than 0.
@@ -28,13 +26,6 @@ clean() {
     rm -rf "$room"
 }
 trap clean EXIT
-
-# Tests that a command fails, and that its output has these words.
-refuses() {
-    local words=$1
-    shift
-    ! "$@" > "$room/refused" 2>&1 && grep -F -- "$words" "$room/refused"
-}
 
 # == tools
 
@@ -84,12 +75,7 @@ run() {
 # Builds both libraries and the programs with a compiler, and runs the tables with each and the
 # check of code units.
 build_and_check() {
-    local folder=$room/$1
-    shift
-    make -C "$dist" "BUILD=$folder" "RUN=$wine" "$@" check | tr -d '\r' > "$room/tables"
-    local status=${PIPESTATUS[0]}
-    cat "$room/tables"
-    [ "$status" = 0 ] && [ "$(grep -cxE '[0-9]{3,} passed, 0 failed' "$room/tables")" = 6 ]
+    runs_tables "$dist" "BUILD=$room/$1" "RUN=$wine" "${@:2}"
 }
 
 # Tests that libraries and a program take the code that the library for Linux takes on this machine,
@@ -116,7 +102,7 @@ takes_code() {
 # lines with CR LF.
 prints_page() {
     compile "$1" "$2" || return
-    sed -n '/^```text$/,/^```$/p' "$top/docs/$3.md" | sed '/^```/d; s/$/\r/' > "$room/page"
+    page_text "$3" | sed 's/$/\r/' > "$room/page"
     [ -s "$room/page" ] && run "$room/program.exe" > "$room/found" && cmp "$room/page" "$room/found"
 }
 
@@ -373,10 +359,7 @@ by_pkg_config() {
 
 # Compiles a program with each library below a prefix, using CMake, and runs it.
 by_cmake() {
-    rm -rf "$room/user"
-    cmake -S "$top/packaging/test" -B "$room/user" "${for_windows[@]}" \
-        "-DCMAKE_PREFIX_PATH=$1" && cmake --build "$room/user" &&
-        run "$room/user/user_static.exe" &&
+    compile_by_cmake "$1" "${for_windows[@]}" && run "$room/user/user_static.exe" &&
         WINEPATH="Z:${1//\//\\}\\bin" run "$room/user/user_shared.exe" &&
         x86_64-w64-mingw32-objdump -p "$room/user/user_shared.exe" | grep 'DLL Name: dethrux.dll'
 }

@@ -4,8 +4,6 @@
 # The last line is 'N passed, M failed'.
 set -uo pipefail
 cd "$(dirname "$0")/.." || exit 1
-room=$(mktemp -d)
-trap 'rm -rf "$room"' EXIT
 . .ci/checks.sh
 
 # Tests that the program prints its first time.

@@ -5,10 +5,7 @@
 # tools; a tool that is still missing is a failure. The last line is 'N passed, M failed'.
 set -uo pipefail
 here=$(cd "$(dirname "$0")" && pwd)
-top=$(cd "$here/../.." && pwd)
-room=$(mktemp -d)
-trap 'rm -rf "$room"' EXIT
-. "$top/.ci/checks.sh"
+. "$here/../../.ci/checks.sh"
 export LC_ALL=C.UTF-8
 unset GCONV_PATH
 

@@ -8,8 +8,6 @@
 set -uo pipefail
 here=$(cd "$(dirname "${BASH_SOURCE[0]}")" && pwd)
 top=$(cd "$here/../.." && pwd)
-room=$(mktemp -d)
-trap 'rm -rf "$room"' EXIT
 . "$top/.ci/checks.sh"
 export DETHRUX_TOP=$top
 

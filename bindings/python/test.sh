@@ -10,8 +10,6 @@
 set -uo pipefail
 here=$(cd "$(dirname "${BASH_SOURCE[0]}")" && pwd)
 top=$(cd "$here/../.." && pwd)
-room=$(mktemp -d)
-trap 'rm -rf "$room"' EXIT
 export PYTHONDONTWRITEBYTECODE=1
 unset PYTHONPATH PYTHONHOME CC
 . "$top/.ci/checks.sh"

@@ -9,9 +9,7 @@
 # stays, and JOBS how many jobs make has. The status is 1 if a build fails or tests differ, and 2 if
 # something is missing.
 set -uo pipefail
-here=$(cd "$(dirname "${BASH_SOURCE[0]}")" && pwd)
-top=$(cd "$here/../.." && pwd)
-. "$top/.ci/checks.sh"
+. "$(dirname "$0")/../../.ci/checks.sh"
 export LC_ALL=C.UTF-8 MAKEFLAGS=-j${JOBS:-1}
 unset GCONV_PATH LD_PRELOAD
 
@@ -127,9 +125,8 @@ done
 if [ -n "${WORK:-}" ]; then
     mkdir -p "$WORK" && work=$(cd "$WORK" && pwd) || exit 2
 else
-    work=$(mktemp -d) && trap 'rm -rf "$work"' EXIT || exit 2
+    work=$room
 fi
-room=$work
 client=dethrux
 need make:make cc:gcc >&2 || exit 2
 step 1 'the module' make -C "$top/bindings/iconv"

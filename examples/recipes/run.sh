@@ -3,13 +3,9 @@
 # they print. It needs crates/dethrux/out/libdethrux.a. The last line is 'N passed, M failed'.
 set -uo pipefail
 here=$(cd "$(dirname "$0")" && pwd)
-top=$here/../..
+. "$here/../../.ci/checks.sh"
 archive=$top/crates/dethrux/out/libdethrux.a
-room=$(mktemp -d)
-trap 'rm -rf "$room"' EXIT
 cd "$room" || exit 1
-passed=0
-failed=0
 
 export PYTHONDONTWRITEBYTECODE=1 PYTHONUTF8=1 PYTHONPATH=$room/package LC_ALL=C.UTF-8
 "$top/bindings/python/build.sh" package || exit 1
@@ -25,37 +21,34 @@ for source in "$here"/*.{c,cpp,py}; do
 done
 chmod +x -- *.py
 
-# Counts a test by the status of the command before it.
-count() {
-    if [ $? = 0 ]; then
-        passed=$((passed + 1))
-    else
-        failed=$((failed + 1))
-        echo "failed: $1"
-    fi
+# Runs a program on `input`, and compares its output. It must fail if the device is full.
+prints_this() {
+    "./$1" "${@:3}" < input > found 2> line || echo "status $?" >> found
+    # shellcheck disable=SC2059
+    printf "$2" | cmp - found && { [ ! -s found ] || ! "./$1" "${@:3}" < input > /dev/full; }
 }
 
-# Runs the programs of a recipe on `input`, and compares their output with the second argument. Each
-# must fail if the device is full.
+# Does this with the programs of a recipe, whose output is the second argument.
 prints() {
-    local name=$1 wanted=$2 program
-    shift 2
-    for program in "$name".*; do
-        "./$program" "$@" < input > found 2> said || echo "status $?" >> found
-        # shellcheck disable=SC2059
-        printf "$wanted" | cmp - found &&
-            { [ ! -s found ] || ! "./$program" "$@" < input > /dev/full 2> said; }
-        count "$program"
+    local program
+    for program in "$1".*; do
+        check "$program" prints_this "$program" "${@:2}"
     done
 }
 
-# Tests that a program refuses `input`: it prints nothing, and a line on standard error.
+# Runs a program that must refuse `input`: it prints nothing, and a line on standard error.
+refuses_this() {
+    "./$1" "${@:3}" < input > found 2> line
+    [[ $? == [12] ]] && [ ! -s found ] && diff line <(echo "${1%.*}: $2")
+}
+
 refuses() {
-    local program=$1 line=$2
-    shift 2
-    "./$program" "$@" < input > found 2> said
-    [[ $? == [12] ]] && [ ! -s found ] && [ "$(cat said)" = "${program%.*}: $line" ]
-    count "$program: $line"
+    check "$1: $2" refuses_this "$@"
+}
+
+# Runs a program that must fail on an input.
+fails_on() {
+    ! "./$2" < "$1"
 }
 
 # UTF-8 on standard input becomes UTF-16 in `input`.
@@ -136,12 +129,10 @@ for name in file_name lines properties record sheet wide; do
     prints $name ''
 done
 for program in {byte_order,errors,file_name,lines,properties,record,sheet,wide}.*; do
-    ! "./$program" < . > found 2> said
-    count "$program: an input that cannot be read"
+    check "$program: an input that cannot be read" fails_on . "$program"
 done
 head -c 1048576 /dev/zero > input
 refuses reg_value.c 'the file cannot be read or is not smaller than 1 MiB' input Path
 refuses reg_value.c 'the file cannot be read or is not smaller than 1 MiB' . Path
 refuses errors.c 'the input is not smaller than 64 KiB'
-echo "$passed passed, $failed failed"
-[ $failed = 0 ]
+finish

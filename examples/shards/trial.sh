@@ -4,10 +4,7 @@
 # failed'.
 set -uo pipefail
 here=$(cd "$(dirname "${BASH_SOURCE[0]}")" && pwd)
-top=$(cd "$here/../.." && pwd)
-room=$(mktemp -d)
-trap 'rm -rf "$room"' EXIT
-. "$top/.ci/checks.sh"
+. "$here/../../.ci/checks.sh"
 export PYTHONDONTWRITEBYTECODE=1 PYTHONPATH=$room/package:$here
 
 build() {
