@@ -3,10 +3,11 @@
 # versions of planted.c: fuzz/run.sh [--seconds N] [--seed N] [--library FILE] [--arm64]. FILE is a
 # static library to use instead of the library in crates/dethrux. With --arm64 it is a library for
 # ARM64, and the harness runs under qemu-aarch64, without the peers. Each call of the library, each
-# peer and each planted version counts as one in the last line, 'N passed, M failed'.
+# peer and each planted version counts as one. The last line is 'N passed, M failed'.
 set -uo pipefail
 from=$PWD
 cd "$(dirname "$0")" || exit 1
+. ../.ci/checks.sh
 built=out
 seconds=60
 seed=1
@@ -16,8 +17,6 @@ start=()
 planting=10
 planted=(dethrux_from_utf8_len dethrux_from_utf8_lossy dethrux_to_utf8 dethrux_encoder_feed
     dethrux_validate)
-passed=0
-failed=0
 
 refuse() {
     echo "fuzz/run.sh: $1" >&2
@@ -55,53 +54,25 @@ if [ $compiler != gcc ]; then
     built=out/arm64
 fi
 
-# Runs a program on random inputs, and writes its output to standard output and to the file `said`.
+# Runs a program on random inputs.
 random() {
-    timeout $(($2 + 60)) "${start[@]}" "$1" --random "$seed" "$2" 2>&1 | tee "$room/said"
+    timeout $(($2 + 60)) "${start[@]}" "$1" --random "$seed" "$2"
 }
 
-# Adds the counts in the last line of the harness, or one failure if there is no such line.
-check_library() {
-    random $built/harness "$seconds" | grep -v ' passed, '
-    if [[ $(tail -n 1 "$room/said") =~ ^([0-9]+)\ passed,\ ([0-9]+)\ failed$ ]]; then
-        passed=$((passed + BASH_REMATCH[1]))
-        failed=$((failed + BASH_REMATCH[2]))
-    else
-        echo 'the harness did not finish'
-        failed=$((failed + 1))
-    fi
+# Tests that only the calls with a planted version are reported.
+are_all() {
+    grep -E '^[^ ]+: ' "$room/found"
+    tail -n 1 "$room/found" | grep " passed, ${#planted[@]} failed$"
 }
 
-# Counts each planted version that is found, and one failure if another call is reported.
-check_planted() {
-    local call
-    random $built/planted $planting > /dev/null
+check 'the harness' ./build.sh $compiler $built/harness &&
+    counts 'random inputs' random $built/harness "$seconds"
+if COUNTS=no check 'the planted versions' \
+    ./build.sh $compiler $built/planted planted.c "${planted[@]/#/-Wl,--wrap=}"; then
+    random $built/planted $planting > "$room/found" 2>&1
     for call in "${planted[@]}"; do
-        if grep -q "^$call: " "$room/said"; then
-            passed=$((passed + 1))
-        else
-            echo "not found: the planted version of $call"
-            failed=$((failed + 1))
-        fi
+        check "the planted version of $call" grep "^$call: " "$room/found"
     done
-    if [[ $(tail -n 1 "$room/said") != *" passed, ${#planted[@]} failed" ]]; then
-        echo 'the planted versions also make other calls differ:'
-        grep -E '^[^ ]+: ' "$room/said"
-        failed=$((failed + 1))
-    fi
-}
-
-room=$(mktemp -d)
-trap 'rm -rf "$room"' EXIT
-if ./build.sh $compiler $built/harness; then
-    check_library
-else
-    failed=$((failed + 1))
+    check 'what differs with the planted versions' are_all
 fi
-if COUNTS=no ./build.sh $compiler $built/planted planted.c "${planted[@]/#/-Wl,--wrap=}"; then
-    check_planted
-else
-    failed=$((failed + 1))
-fi
-echo "$passed passed, $failed failed"
-[ "$failed" = 0 ]
+finish
