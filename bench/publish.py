@@ -1,10 +1,14 @@
 #!/usr/bin/env python3
-# Publishes what the scripts left in bench/out: fills in the rows of results/results.csv, and draws
-# results/chart.svg from them. The table has rows of run.sh, worst.sh and walks.sh; the ratios of
-# the other scripts stand in the documents. The rows of a script that was not run stay, with their
-# commit. To publish another row, add a line with its script, call, order, text, size, library and
-# competitor. With --behind it writes nothing, and prints the rows of all scripts in which a
-# competitor is faster. A ratio above 1 means that Dethrux is faster.
+# Compares what the programs of a script printed, and publishes it. A ratio above 1 means that Dethrux
+# is faster.
+#
+#     publish.py SCRIPT FILE   reads run, real, walks or worst: writes bench/out/SCRIPT.csv, and prints
+#                              the ratios of each call, and each row in which a competitor is faster
+#     publish.py               fills in the rows of results/results.csv from bench/out, and draws
+#                              results/chart.svg
+#
+# The rows of a script that was not run stay, with their commit. To publish another row, add a line
+# with its script, call, order, text, size, library and competitor.
 import csv
 import os
 import re
@@ -41,101 +45,115 @@ BARS = {
     "iconv": ("iconv", "#c9a227"),
 }
 SAME = {"encoding_rs mem": "encoding_rs"}
+# What real.sh compares. A copy is what dd takes, and `before` is another checkout.
+AGAINST = {
+    "v2": ("simdutf westmere", "simdutf haswell", "copy", "before"),
+    "v3": ("simdutf haswell", "simdutf icelake"),
+    "chosen": ("v3",),
+}
 WITHOUT_AVX512 = (
     "This processor has no AVX-512 VBMI2. With it, simdutf takes another kernel (bench/README.md)."
 )
 
 
-def tables(name):
-    """Yields each row of the tables in out/NAME.md, as the names of its columns and its cells."""
-    columns = []
-    for line in open(f"out/{name}.md", encoding="utf-8"):
-        cells = [it.strip().replace("`", "") for it in line.split("|")[1:-1]]
-        if cells and not set(line) <= set("|-: \n"):
-            if columns:
-                yield columns, cells
-            columns = columns or cells
-        elif not cells:
-            columns = []
+# Each function yields the rows of a script: call, order, text, size, unit, library, ours, competitor
+# and theirs. What a script does not print is empty.
 
 
-def ratio(ours, theirs, is_time):
-    first, second = (theirs, ours) if is_time else (ours, theirs)
-    return f"{float(first) / float(second):.2f}"
+def best_of(lines, better):
+    """Returns for each call, text, size and order the best value of each decoder."""
+    best = {}
+    for line in lines:
+        *key, decoder, value = line.rstrip("\n").split("\t")
+        its = best.setdefault(tuple(key), {})
+        its[decoder] = better(float(value), its.get(decoder, float(value)))
+    return best.items()
 
 
-# Each function yields the rows of a script: call, order, text, size, unit, library, ours,
-# competitor, theirs and ratio. What a script does not print is empty.
-
-
-def run():
-    values = {}
-    for line in open("out/lines.tsv", encoding="utf-8"):
-        call, text, order, decoder, value = (line.rstrip("\n").split("\t") + [""] * 4)[:5]
-        if value:
-            values.setdefault((call, text, order), {})[decoder] = value
-    for (call, text, order), its in values.items():
-        is_short = call.startswith("short ")
+def run(lines):
+    for (call, text, order), its in best_of(lines, min):
         text, _, size = text.partition(", ")
-        unit = "ns" if is_short else "GB/s"
+        unit = "ns" if call.startswith("short ") else "GB/s"
+        what = call.removeprefix("short "), order, text, size or "64 KiB", unit
         for library, name in (("v2", "here"), ("v3", "here v3")):
             for other in [it for it in its if name in its and not it.startswith("here")]:
-                by = ratio(its[name], its[other], is_short)
-                what = call.removeprefix("short "), order, text, size or "64 KiB", unit
-                yield *what, library, its[name], other, its[other], by
+                yield *what, library, f"{its[name]:.3f}", other, f"{its[other]:.3f}"
 
 
-def real():
-    for columns, cells in tables("real"):
-        half = (len(columns) - 3) // 2
-        for order, start in (("le", 3), ("be", 3 + half)):
-            speeds, library = {}, ""
-            for column, cell in zip(columns[start : start + half], cells[start : start + half]):
-                if column.endswith("GB/s"):
-                    library = column[:2]
-                    speeds[library] = cell
-                elif cell != "–":
-                    its = "v2" if column in ("to a copy", "to before") else library
-                    other = column.removeprefix("to ").removeprefix("a ")
-                    other = f"simdutf, {other}" if other.endswith("bits") else other
-                    yield cells[0], order, *cells[1:3], "GB/s", its, speeds[its], other, "", cell
+def real(lines):
+    for (call, text, size, order), its in best_of(lines, max):
+        for library, others in AGAINST.items():
+            for other in [it for it in others if library in its and it in its]:
+                speeds = f"{its[library]:.3f}", other, f"{its[other]:.3f}"
+                yield call, order, text, size, "GB/s", library, *speeds
 
 
-def walks():
-    for columns, cells in tables("walks"):
-        for order, at in (("le", 3), ("be", 4)) if len(columns) == 8 else ():
-            by = ratio(cells[at], cells[5], is_time=True)
-            what = cells[0], order, cells[1], f"{cells[2]} bytes", "ns", ""
-            yield *what, cells[at], "std", cells[5], by
+def walks(lines):
+    best, found = {}, {}
+    for line in lines:
+        call, text, size, order, result, time, times = line.split()
+        its = best.setdefault((call.replace(",", ", "), text, size), {})
+        its[order] = min(int(time) / int(times), its.get(order, float("inf")))
+        # Offsets and hashes depend on the encoding.
+        kind = order if call == "hash" else call == "char_indices" and order == "std"
+        if found.setdefault((call, text, size, kind), result) != result:
+            sys.exit(f"walks: a call and std differ: {line}")
+    for (call, text, size), its in best.items():
+        for order in ("LE", "BE"):
+            times = f"{its[order]:.1f}", "std", f"{its['std']:.1f}"
+            yield call, order.lower(), text, f"{size} bytes", "ns", "", *times
 
 
-def worst():
-    for columns, cells in tables("worst"):
-        if columns[1] == "Capacity":
-            by = ratio(cells[2], cells[4], is_time=True)
-            what = cells[0], "", cells[3], f"buffer of {cells[1]}", "ns a byte", "v2"
-            yield *what, cells[2], "ICU", cells[4], by
+def worst(lines):
+    """Of each call and capacity, the text that costs most."""
+    most = {}
+    for line in lines:
+        call, kind, text, every, capacity, time = line.rstrip("\n").split("\t")
+        text += {"0": "", "1": ", no other"}.get(every, f", one in {every} bytes")
+        key = call, kind, capacity
+        most[key] = max((float(time), text), most.get(key, (0, "")))
+    for (call, kind, capacity), (time, text) in most.items():
+        if kind != "ICU":
+            times = f"{time:.1f}", "ICU", f"{most[call, 'ICU', capacity][0]:.1f}"
+            yield f"{call}, {kind}", "", text, f"buffer of {capacity}", "ns a byte", "v2", *times
 
 
-def python():
-    for columns, cells in tables("python"):
-        theirs = ""
-        for column, cell in zip(columns[3:], cells[3:]):
-            if column.endswith(": CPython"):
-                theirs = cell
-            else:
-                yield column, cells[2], *cells[:2], "µs", "", "", "CPython", theirs, cell
+SCRIPTS = {it.__name__: it for it in (run, real, walks, worst)}
 
 
-def measured():
-    """The rows of all scripts that were run, by their keys."""
-    found = {}
-    for it in (run, real, walks, worst, python):
-        name = "lines.tsv" if it is run else f"{it.__name__}.md"
-        for row in it() if os.path.exists(f"out/{name}") else ():
-            row = {"script": it.__name__, **dict(zip(COLUMNS[4:], row))}
-            found[tuple(row[column] for column in KEY)] = row
-    return found
+def compared(script, lines):
+    """Returns the rows of a script by the names of the columns."""
+    rows = []
+    for it in SCRIPTS[script](lines):
+        unit, ours, theirs = it[4], float(it[6]), float(it[8])
+        ratio = theirs / ours if unit.startswith("ns") else ours / theirs
+        rows.append(dict(zip(COLUMNS[3:], (script, *it, f"{ratio:.2f}"))))
+    return rows
+
+
+def report(rows):
+    """Prints the ratios of each call, and the rows in which a competitor is faster."""
+    ratios, behind = {}, []
+    for it in rows:
+        group = it["call"], it["size"], it["library"], it["competitor"]
+        ratios.setdefault(group, []).append(float(it["ratio"]))
+        behind += [it] * (float(it["ratio"]) < 1)
+    print("| Call | Size | Code | Compared with | Rows | Least | Mean | Greatest |")
+    print("|---|---|---|---|---:|---:|---:|---:|")
+    for group, its in ratios.items():
+        mean = sum(its) / len(its)
+        numbers = f"{min(its):.2f} | {mean:.2f} | {max(its):.2f}"
+        print(f"| {' | '.join(group)} | {len(its)} | {numbers} |")
+    print()
+    table(sys.stdout, COLUMNS[3:], behind, delimiter="\t")
+    print(f"The other one is faster in {len(behind)} of {len(rows)} rows.")
+
+
+def table(file, columns, rows, **how):
+    """Writes rows with the names of their columns."""
+    made = csv.DictWriter(file, columns, lineterminator="\n", **how)
+    made.writeheader()
+    made.writerows(rows)
 
 
 def chart(rows):
@@ -180,19 +198,13 @@ def chart(rows):
     return "\n".join([head, style + ground, title, *drawn, "</svg>\n"])
 
 
-def main(words):
-    os.chdir(os.path.dirname(os.path.abspath(__file__)))
-    found = measured()
-    if words == ["--behind"]:
-        peers = [it for it in found.values() if it["competitor"] not in ("copy", "before")]
-        behind = [it for it in peers if float(it["ratio"]) < 1]
-        table = csv.DictWriter(sys.stdout, COLUMNS[3:], delimiter="\t", lineterminator="\n")
-        table.writerows(behind)
-        print(f"A competitor is faster in {len(behind)} of {len(peers)} rows.")
-        return 0
-    if words:
-        print("usage: bench/publish.py [--behind]", file=sys.stderr)
-        return 2
+def publish():
+    """Fills in the rows of the published table, and draws the chart."""
+    found = {}
+    for script in SCRIPTS:
+        if os.path.exists(f"out/{script}.csv"):
+            with open(f"out/{script}.csv", encoding="utf-8", newline="") as it:
+                found |= {tuple(row[name] for name in KEY): row for row in csv.DictReader(it)}
     commit = subprocess.check_output(["git", "describe", "--always", "--dirty"], text=True).strip()
     cpu = re.search(r"model name\t: (.*)", open("/proc/cpuinfo").read())
     day = f"{datetime.now(timezone.utc):%Y-%m-%d}"
@@ -203,15 +215,26 @@ def main(words):
         key = tuple(row[it] for it in KEY)
         row.update({**made, **found[key]} if key in found else {})
     with open(RESULTS, "w", encoding="utf-8", newline="") as it:
-        table = csv.DictWriter(it, COLUMNS, lineterminator="\n")
-        table.writeheader()
-        table.writerows(rows)
+        table(it, COLUMNS, rows)
     with open(CHART, "w", encoding="utf-8") as it:
         it.write(chart(rows))
     old = {it["commit"] for it in rows} - {commit}
     print(f"bench/{RESULTS}: rows of other commits: {', '.join(sorted(old)) or 'none'}")
-    return 0
+
+
+def main(words):
+    os.chdir(os.path.dirname(os.path.abspath(__file__)))
+    if not words:
+        return publish()
+    if len(words) != 2 or words[0] not in SCRIPTS:
+        sys.exit(f"usage: bench/publish.py [{'|'.join(SCRIPTS)} FILE]")
+    with open(words[1], encoding="utf-8") as it:
+        rows = compared(words[0], it)
+    os.makedirs("out", exist_ok=True)
+    with open(f"out/{words[0]}.csv", "w", encoding="utf-8", newline="") as it:
+        table(it, COLUMNS[3:], rows)
+    report(rows)
 
 
 if __name__ == "__main__":
-    sys.exit(main(sys.argv[1:]))
+    main(sys.argv[1:])

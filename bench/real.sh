@@ -7,7 +7,7 @@
 # the library as it is installed, which chooses one of them. BEFORE may name another checkout of this
 # repository: its programs and its code for x86-64-v2 are timed in the same run. Everything is linked
 # at two places, 16 bytes apart, and the better time counts, since a branch may cross a 32-byte
-# boundary at only one of them. The table is written to bench/out/real.md.
+# boundary at only one of them. publish.py prints the ratios.
 set -eu
 usage() { echo "usage: SIMDUTF=FOLDER [BEFORE=CHECKOUT] real.sh TEXTS" >&2; exit 2; }
 [ $# = 1 ] && [ -n "${SIMDUTF:-}" ] || usage
@@ -18,7 +18,6 @@ before=${BEFORE:+$(cd "$BEFORE" && pwd)}
 cd "$(dirname "$0")"
 room=$(mktemp -d)
 trap 'rm -rf "$room"' EXIT
-mkdir -p out
 
 # Builds the library of a checkout, and sets `dist` to its folder.
 build() {
@@ -68,36 +67,4 @@ for space in 16 32 16 32 16 32; do
     "$room/real_programs" "$texts" "$room" "$room" "${programs[@]}" >> "$room/lines"
 done
 
-awk -F '\t' '
-{
-    row = $1 FS $2 FS $3
-    if (!(row in seen)) { seen[row] = 1; rows[++n] = row }
-    if ($6 > speed[row, $4, $5]) speed[row, $4, $5] = $6
-}
-# Returns the speed of a decoder in a byte order, or its ratio to another one.
-function cell(row, order, decoder, other,    own, others) {
-    own = speed[row, order, decoder]
-    if (other == "") return own == "" ? "–" : own
-    others = speed[row, order, other]
-    return own == "" || others == "" ? "–" : sprintf("%.2f", own / others)
-}
-function cells(row, order) {
-    return cell(row, order, "v2") " | " cell(row, order, "v2", "simdutf westmere") \
-        " | " cell(row, order, "v2", "simdutf haswell") " | " cell(row, order, "v3") \
-        " | " cell(row, order, "v3", "simdutf haswell") " | " cell(row, order, "v3", "simdutf icelake") \
-        " | " cell(row, order, "chosen", "v3") \
-        " | " cell(row, order, "v2", "copy") \
-        " | " cell(row, order, "v2", "before")
-}
-END {
-    columns = "v2, GB/s | to 128 bits | to 256 bits | v3, GB/s | to 256 bits | to 512 bits"
-    columns = columns " | the library to v3 | v2 to a copy | v2 to before |"
-    print "Little endian first, then big endian. v2 and v3 are the code for x86-64-v2 and for x86-64-v3."
-    print "\n| Call | Text | Form | " columns " " columns
-    print "|---|---|---|---:|---:|---:|---:|---:|---:|---:|---:|---:|---:|---:|---:|---:|---:|---:|---:|---:|---:|"
-    for (i = 1; i <= n; i++) {
-        split(rows[i], name, FS)
-        printf "| `%s` | %s | %s | %s | %s |\n", name[1], name[2], name[3], cells(rows[i], "le"), cells(rows[i], "be")
-    }
-}' "$room/lines" > out/real.md
-cat out/real.md
+./publish.py real "$room/lines"

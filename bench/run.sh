@@ -1,9 +1,8 @@
 #!/bin/sh
-# Builds the library and its competitors, times the calls, writes what they measured to
-# bench/out/lines.tsv, and prints the rows in which a competitor is faster. The library is built
-# from dist/; `here v3` is its code for processors with AVX2. If SIMDUTF names a folder with
-# simdutf.cpp and simdutf.h, simdutf's kernels are also timed: westmere, haswell if the processor
-# has AVX2, and icelake if it has AVX-512 VBMI2.
+# Builds the library and its competitors, and times the calls. publish.py prints the ratios. The
+# library is built from dist/; `here v3` is its code for processors with AVX2. If SIMDUTF names a
+# folder with simdutf.cpp and simdutf.h, simdutf's kernels are also timed: westmere, haswell if the
+# processor has AVX2, and icelake if it has AVX-512 VBMI2.
 set -eu
 [ -z "${SIMDUTF:-}" ] || SIMDUTF=$(cd "$SIMDUTF" && pwd)
 cd "$(dirname "$0")"
@@ -49,4 +48,4 @@ rust --edition 2024 calls.rs ${simdutf:+--cfg simdutf} --extern encoding_rs=out/
     -C link-args="out/icu.o $simdutf $dist/libdethrux.a"
 
 out/calls > out/lines.tsv
-./publish.py --behind
+./publish.py run out/lines.tsv
