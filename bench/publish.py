@@ -1,9 +1,10 @@
 #!/usr/bin/env python3
-# Compares what the programs of a script printed, and publishes it. A ratio above 1 means that Dethrux
-# is faster.
+# Compares what the programs of a script printed, and publishes it. A ratio above 1 means that
+# Dethrux is faster.
 #
-#     publish.py SCRIPT FILE   reads run, real, walks or worst: writes bench/out/SCRIPT.csv, and prints
-#                              the ratios of each call, and each row in which a competitor is faster
+#     publish.py SCRIPT FILE   reads what run, real, walks or worst printed: writes
+#                              bench/out/SCRIPT.csv, and prints the ratios of each call, and each
+#                              row in which a competitor is faster
 #     publish.py               fills in the rows of results/results.csv from bench/out, and draws
 #                              results/chart.svg
 #
@@ -56,8 +57,8 @@ WITHOUT_AVX512 = (
 )
 
 
-# Each function yields the rows of a script: call, order, text, size, unit, library, ours, competitor
-# and theirs. What a script does not print is empty.
+# Each function yields the rows of a script: call, order, text, size, unit, library, ours,
+# competitor and theirs. What a script does not print is empty.
 
 
 def best_of(lines, better):

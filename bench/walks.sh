@@ -1,8 +1,8 @@
 #!/bin/sh
 # Times walks over strings, and edits of them, next to Rust's `str` and `String` with the same
 # characters in UTF-8, in one run. For each call, text and size (bytes of UTF-16) the best of twelve
-# times counts, and publish.py prints the ratios of either byte order to std. The two programs run in
-# turn, four times, so that other work of the machine affects both. It is an error if a call and
+# times counts, and publish.py prints the ratios of either byte order to std. The two programs run
+# in turn, four times, so that other work of the machine affects both. It is an error if a call and
 # std's return different results.
 set -eu
 top=$(cd "$(dirname "$0")/.." && pwd)

@@ -1,7 +1,7 @@
 #!/bin/sh
 # Times the calls of the C library on the bytes that cost most, in buffers of each capacity, and
-# ICU's converters on the same bytes, in one run. Of each call and capacity publish.py takes the text
-# that costs most nanoseconds per byte of input, and of ICU the one that costs it most.
+# ICU's converters on the same bytes, in one run. Of each call and capacity publish.py takes the
+# text that costs most nanoseconds per byte of input, and of ICU the one that costs it most.
 set -eu
 top=$(cd "$(dirname "$0")/.." && pwd)
 mkdir -p "$top/bench/out"

@@ -27,6 +27,9 @@ typedef struct {
 
 void make_call(call *made);
 
+/* Writes a line for each of the vectors, whose number is `v` in it. */
+#define EACH_VECTOR(line) ".irp v, 6, 7, 8, 9, 10, 11, 12, 13, 14, 15\n    " line "\n.endr\n"
+
 /* Four arguments are in registers, and the others follow 32 bytes that the function may use. */
 __asm__(".text\n"
         ".globl make_call\n"
@@ -35,15 +38,9 @@ __asm__(".text\n"
         "    pushq %r12\n    pushq %r13\n    pushq %r14\n    pushq %r15\n"
         "    subq $248, %rsp\n"
         "    movq %rcx, 224(%rsp)\n"
-        "    movaps %xmm6, 64(%rsp)\n    movaps %xmm7, 80(%rsp)\n    movaps %xmm8, 96(%rsp)\n"
-        "    movaps %xmm9, 112(%rsp)\n    movaps %xmm10, 128(%rsp)\n    movaps %xmm11, 144(%rsp)\n"
-        "    movaps %xmm12, 160(%rsp)\n    movaps %xmm13, 176(%rsp)\n"
-        "    movaps %xmm14, 192(%rsp)\n    movaps %xmm15, 208(%rsp)\n"
+        EACH_VECTOR("movaps %xmm\\v, 16*\\v-32(%rsp)")
         "    movq %rcx, %rax\n"
-        "    movups 128(%rax), %xmm6\n    movups 144(%rax), %xmm7\n    movups 160(%rax), %xmm8\n"
-        "    movups 176(%rax), %xmm9\n    movups 192(%rax), %xmm10\n    movups 208(%rax), %xmm11\n"
-        "    movups 224(%rax), %xmm12\n    movups 240(%rax), %xmm13\n"
-        "    movups 256(%rax), %xmm14\n    movups 272(%rax), %xmm15\n"
+        EACH_VECTOR("movups 16*\\v+32(%rax), %xmm\\v")
         "    movq 40(%rax), %r10\n    movq %r10, 32(%rsp)\n"
         "    movq 48(%rax), %r10\n    movq %r10, 40(%rsp)\n"
         "    movq 56(%rax), %r10\n    movq %r10, 48(%rsp)\n"
@@ -57,14 +54,8 @@ __asm__(".text\n"
         "    movq %rbx, 288(%rax)\n    movq %rbp, 296(%rax)\n    movq %rdi, 304(%rax)\n"
         "    movq %rsi, 312(%rax)\n    movq %r12, 320(%rax)\n    movq %r13, 328(%rax)\n"
         "    movq %r14, 336(%rax)\n    movq %r15, 344(%rax)\n"
-        "    movups %xmm6, 352(%rax)\n    movups %xmm7, 368(%rax)\n    movups %xmm8, 384(%rax)\n"
-        "    movups %xmm9, 400(%rax)\n    movups %xmm10, 416(%rax)\n    movups %xmm11, 432(%rax)\n"
-        "    movups %xmm12, 448(%rax)\n    movups %xmm13, 464(%rax)\n"
-        "    movups %xmm14, 480(%rax)\n    movups %xmm15, 496(%rax)\n"
-        "    movaps 64(%rsp), %xmm6\n    movaps 80(%rsp), %xmm7\n    movaps 96(%rsp), %xmm8\n"
-        "    movaps 112(%rsp), %xmm9\n    movaps 128(%rsp), %xmm10\n    movaps 144(%rsp), %xmm11\n"
-        "    movaps 160(%rsp), %xmm12\n    movaps 176(%rsp), %xmm13\n"
-        "    movaps 192(%rsp), %xmm14\n    movaps 208(%rsp), %xmm15\n"
+        EACH_VECTOR("movups %xmm\\v, 16*\\v+256(%rax)")
+        EACH_VECTOR("movaps 16*\\v-32(%rsp), %xmm\\v")
         "    addq $248, %rsp\n"
         "    popq %r15\n    popq %r14\n    popq %r13\n    popq %r12\n"
         "    popq %rsi\n    popq %rdi\n    popq %rbp\n    popq %rbx\n"
