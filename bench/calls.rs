@@ -6,9 +6,16 @@ mod library;
 mod plain;
 #[cfg(simdutf)]
 mod simdutf;
+#[cfg(not(simdutf))]
+mod simdutf {
+    pub fn kernels() -> Vec<(&'static str, crate::library::Calls)> {
+        Vec::new()
+    }
+}
 mod texts;
 
 use encoding_rs::{DecoderResult, Encoding, UTF_8, UTF_16BE, UTF_16LE, mem};
+use library::{Call, Calls};
 use std::cell::RefCell;
 use std::ffi::CStr;
 use std::hint::black_box;
@@ -17,9 +24,6 @@ use std::time::Instant;
 const ROUNDS: usize = 15;
 const SIZE: usize = 1 << 16;
 const CLASSES: [&str; 4] = ["ascii", "latin_cyrillic", "cjk", "emoji"];
-
-// The last argument is a buffer that is long enough for the text that the call makes.
-type Call = fn(bool, &[u8], &mut [u8]) -> usize;
 
 library!(here, "", "_v2");
 library!(v3, "", "_v3");
@@ -98,27 +102,18 @@ fn icu_units(units: &[u16]) -> usize {
     unsafe { icu_valid_up_to(units.as_ptr(), units.len()) }
 }
 
-// `plain loop` has the structure of the Rust crate `utf16string`. v3 is last and clears the upper
-// halves of the vectors. simdutf's kernels for 256 and 512 bits do not, and after them code for 128
-// bits takes up to twice as long.
+// The decoders of a call next to the library and simdutf. `plain loop` has the structure of the Rust
+// crate `utf16string`.
 const VALIDATE: &[(&str, Call)] = &[
-    ("here", |big, raw, _| here::valid_up_to(big, raw)),
     ("plain loop", |big, raw, _| plain!(valid_up_to, big, raw)),
     ("encoding_rs mem", |big, raw, _| 2 * units(big, raw, mem::utf16_valid_up_to)),
     ("ICU", |big, raw, _| 2 * units(big, raw, icu_units)),
-    #[cfg(simdutf)]
-    ("simdutf westmere", |big, raw, _| 2 * simdutf::westmere::valid_up_to(big, aligned(raw))),
-    #[cfg(simdutf)]
-    ("simdutf haswell", |big, raw, _| 2 * simdutf::haswell::valid_up_to(big, aligned(raw))),
-    #[cfg(simdutf)]
-    ("simdutf icelake", |big, raw, _| 2 * simdutf::icelake::valid_up_to(big, aligned(raw))),
-    ("here v3", |big, raw, _| v3::valid_up_to(big, raw)),
 ];
 
 // Returns the number of ill-formed sequences in random bytes. Each call starts after the sequence
 // found before.
 const FAULTS: &[(&str, Call)] = &[
-    ("here", |big, raw, _| faults(raw, 2, |rest| here::valid_up_to(big, rest))),
+    ("here", |big, raw, _| faults(raw, 2, |rest| (here::CALLS.validate)(big, rest, &mut []))),
     ("plain loop", |big, raw, _| faults(raw, 2, |rest| plain!(valid_up_to, big, rest))),
     ("encoding_rs mem", |big, raw, _| units(big, raw, |units| faults(units, 1, mem::utf16_valid_up_to))),
     ("ICU", |big, raw, _| units(big, raw, |units| faults(units, 1, icu_units))),
@@ -128,7 +123,7 @@ const FAULTS: &[(&str, Call)] = &[
     ("simdutf haswell", |big, raw, _| faults(aligned(raw), 1, |rest| simdutf::haswell::valid_up_to(big, rest))),
     #[cfg(simdutf)]
     ("simdutf icelake", |big, raw, _| faults(aligned(raw), 1, |rest| simdutf::icelake::valid_up_to(big, rest))),
-    ("here v3", |big, raw, _| faults(raw, 2, |rest| v3::valid_up_to(big, rest))),
+    ("here v3", |big, raw, _| faults(raw, 2, |rest| (v3::CALLS.validate)(big, rest, &mut []))),
 ];
 
 fn faults<T>(mut rest: &[T], unit: usize, valid_up_to: impl Fn(&[T]) -> usize) -> usize {
@@ -143,16 +138,8 @@ fn faults<T>(mut rest: &[T], unit: usize, valid_up_to: impl Fn(&[T]) -> usize) -
 }
 
 const COUNT: &[(&str, Call)] = &[
-    ("here", here::count),
     ("plain loop", |big, raw, _| plain!(count, big, raw)),
     ("ICU", |big, raw, _| units(big, raw, |units| unsafe { icu_count(units.as_ptr(), units.len()) })),
-    #[cfg(simdutf)]
-    ("simdutf westmere", |big, raw, _| simdutf::westmere::count(big, aligned(raw))),
-    #[cfg(simdutf)]
-    ("simdutf haswell", |big, raw, _| simdutf::haswell::count(big, aligned(raw))),
-    #[cfg(simdutf)]
-    ("simdutf icelake", |big, raw, _| simdutf::icelake::count(big, aligned(raw))),
-    ("here v3", v3::count),
 ];
 
 // Reads all bytes, as a measure of the memory's speed.
@@ -160,8 +147,8 @@ const READ: &[(&str, Call)] =
     &[("plain loop", |_, raw, _| unsafe { raw.align_to::<u64>().1 }.iter().fold(0, |all, word| all ^ word).min(1) as usize)];
 
 const IS_ASCII: &[(&str, Call)] = &[
-    ("here", here::is_ascii),
-    ("here v3", v3::is_ascii),
+    ("here", here::IS_ASCII),
+    ("here v3", v3::IS_ASCII),
     ("plain loop", |big, raw, _| plain!(is_ascii, big, raw).into()),
     ("encoding_rs mem", |big, raw, _| units(big, raw, mem::is_basic_latin).into()),
 ];
@@ -169,7 +156,6 @@ const IS_ASCII: &[(&str, Call)] = &[
 // `encoding_rs` is its decoder of bytes; `encoding_rs mem` is its call on code units in the
 // machine's byte order.
 const TO_UTF8: &[(&str, Call)] = &[
-    ("here", here::to_utf8),
     ("plain loop", |big, raw, to| plain!(to_utf8, big, raw, to)),
     ("encoding_rs", |big, raw, to| {
         let mut decoder = encoding(big).new_decoder_without_bom_handling();
@@ -180,17 +166,9 @@ const TO_UTF8: &[(&str, Call)] = &[
         units(big, raw, |units| unsafe { icu_to_utf8(units.as_ptr(), units.len(), to.as_mut_ptr(), to.len()) })
     }),
     ("iconv", |big, raw, to| by_iconv(name(big), c"UTF-8", raw, to)),
-    #[cfg(simdutf)]
-    ("simdutf westmere", |big, raw, to| simdutf::westmere::to_utf8(big, aligned(raw), to)),
-    #[cfg(simdutf)]
-    ("simdutf haswell", |big, raw, to| simdutf::haswell::to_utf8(big, aligned(raw), to)),
-    #[cfg(simdutf)]
-    ("simdutf icelake", |big, raw, to| simdutf::icelake::to_utf8(big, aligned(raw), to)),
-    ("here v3", v3::to_utf8),
 ];
 
 const FROM_UTF8: &[(&str, Call)] = &[
-    ("here", here::from_utf8),
     ("plain loop", |big, text, to| plain!(from_utf8, big, text, to)),
     ("encoding_rs", |big, text, to| {
         let mut decoder = UTF_8.new_decoder_without_bom_handling();
@@ -204,14 +182,18 @@ const FROM_UTF8: &[(&str, Call)] = &[
         made_units(big, to, |to| unsafe { icu_from_utf8(text.as_ptr(), text.len(), to.as_mut_ptr(), to.len()) })
     }),
     ("iconv", |big, text, to| by_iconv(c"UTF-8", name(big), text, to)),
-    #[cfg(simdutf)]
-    ("simdutf westmere", |big, text, to| 2 * simdutf::westmere::from_utf8(big, text, to)),
-    #[cfg(simdutf)]
-    ("simdutf haswell", |big, text, to| 2 * simdutf::haswell::from_utf8(big, text, to)),
-    #[cfg(simdutf)]
-    ("simdutf icelake", |big, text, to| 2 * simdutf::icelake::from_utf8(big, text, to)),
-    ("here v3", v3::from_utf8),
 ];
+
+// Returns all decoders of a call. v3 is last and clears the upper halves of
+// the vectors. simdutf's kernels for 256 and 512 bits do not, and after them code for 128 bits takes
+// up to twice as long.
+fn all_of(others: &[(&'static str, Call)], of: fn(&Calls) -> Call) -> Vec<(&'static str, Call)> {
+    let mut all = vec![("here", of(&here::CALLS))];
+    all.extend(others);
+    all.extend(simdutf::kernels().iter().map(|(name, calls)| (*name, of(calls))));
+    all.push(("here v3", of(&v3::CALLS)));
+    all
+}
 
 struct Case {
     name: String,
@@ -246,10 +228,12 @@ fn cases(call: &str, text: &str, big: bool, raw: &'static [u8], size: f64, field
         let run = move || black_box(raw).chunks_exact(field).map(|field| f(big, field, &mut to)).sum();
         Case { name, run: Box::new(run), size, times: 1, best: f64::MAX }
     };
-    #[cfg(simdutf)]
-    let decoders: Vec<_> = decoders.iter().filter(|(decoder, _)| simdutf::runs(decoder)).copied().collect();
-    let runs = |decoder| decoder != "here v3" || is_x86_feature_detected!("avx2");
-    decoders.iter().filter(|(decoder, _)| runs(*decoder)).map(case).collect()
+    let kernels = simdutf::kernels();
+    let runs = |decoder: &str| match decoder {
+        "here v3" => is_x86_feature_detected!("avx2"),
+        _ => !decoder.starts_with("simdutf") || kernels.iter().any(|it| it.0 == decoder),
+    };
+    decoders.iter().filter(|(decoder, _)| runs(decoder)).map(case).collect()
 }
 
 fn main() {
@@ -271,10 +255,12 @@ fn main() {
                 all.extend(cases(call, class, big, of, raw.len() as f64 / 1e9, of.len(), decoders));
             };
             let of = utf8(raw);
-            add("validate", raw, VALIDATE);
-            add("count", raw, COUNT);
-            add("to_utf8", raw, TO_UTF8);
-            add("from_utf8", of, FROM_UTF8);
+            let validate = all_of(VALIDATE, |it| it.validate);
+            let (to_utf8, from_utf8) = (all_of(TO_UTF8, |it| it.to_utf8), all_of(FROM_UTF8, |it| it.from_utf8));
+            add("validate", raw, &validate);
+            add("count", raw, &all_of(COUNT, |it| it.count));
+            add("to_utf8", raw, &to_utf8);
+            add("from_utf8", of, &from_utf8);
             if class == "ascii" {
                 add("is_ascii", raw, IS_ASCII);
                 add("read", raw, READ);
@@ -290,9 +276,9 @@ fn main() {
                 let mut add = |call, of: &'static [u8], decoders: &[(&str, Call)]| {
                     all.extend(cases(call, &text, big, of, count, size * of.len() / raw.len(), decoders));
                 };
-                add("short validate", raw, VALIDATE);
-                add("short to_utf8", raw, &stateless(TO_UTF8));
-                add("short from_utf8", of, &stateless(FROM_UTF8));
+                add("short validate", raw, &validate);
+                add("short to_utf8", raw, &stateless(&to_utf8));
+                add("short from_utf8", of, &stateless(&from_utf8));
             }
         }
         let random = texts::utf16("random", big, SIZE).leak();

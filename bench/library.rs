@@ -1,5 +1,17 @@
 //! The calls of `dethrux.h`, in a build of the library, or its code for a level, whose names have more.
 
+/// A call in a byte order. It returns the number of bytes that are valid or written, or what it
+/// counts. The last argument is a buffer that is long enough.
+pub type Call = fn(bool, &[u8], &mut [u8]) -> usize;
+
+/// The calls that are compared.
+pub struct Calls {
+    pub validate: Call,
+    pub count: Call,
+    pub to_utf8: Call,
+    pub from_utf8: Call,
+}
+
 #[repr(C)]
 pub struct Progress {
     read: usize,
@@ -37,42 +49,32 @@ macro_rules! library {
     ($name:ident, $before:literal, $after:literal) => {
         #[allow(dead_code)]
         mod $name {
-            mod calls {
-                use crate::library::{Progress, Validity};
+            use crate::library::{Call, Calls, Progress, Validity};
 
-                unsafe extern "C" {
-                    #[link_name = concat!($before, "dethrux_validate", $after)]
-                    pub fn validate(order: u32, utf16: *const u8, len: usize) -> Validity;
-                    #[link_name = concat!($before, "dethrux_count_chars", $after)]
-                    pub fn count_chars(order: u32, utf16: *const u8, len: usize) -> usize;
-                    #[link_name = concat!($before, "dethrux_is_ascii", $after)]
-                    pub fn is_ascii(order: u32, utf16: *const u8, len: usize) -> bool;
-                    #[link_name = concat!($before, "dethrux_to_utf8", $after)]
-                    pub fn to_utf8(order: u32, utf16: *const u8, len: usize, to: *mut u8, capacity: usize) -> Progress;
-                    #[link_name = concat!($before, "dethrux_from_utf8", $after)]
-                    pub fn from_utf8(order: u32, utf8: *const u8, len: usize, to: *mut u8, capacity: usize) -> Progress;
-                }
+            unsafe extern "C" {
+                #[link_name = concat!($before, "dethrux_validate", $after)]
+                fn validate(order: u32, utf16: *const u8, len: usize) -> Validity;
+                #[link_name = concat!($before, "dethrux_count_chars", $after)]
+                fn count_chars(order: u32, utf16: *const u8, len: usize) -> usize;
+                #[link_name = concat!($before, "dethrux_is_ascii", $after)]
+                fn is_ascii(order: u32, utf16: *const u8, len: usize) -> bool;
+                #[link_name = concat!($before, "dethrux_to_utf8", $after)]
+                fn to_utf8(order: u32, utf16: *const u8, len: usize, to: *mut u8, capacity: usize) -> Progress;
+                #[link_name = concat!($before, "dethrux_from_utf8", $after)]
+                fn from_utf8(order: u32, utf8: *const u8, len: usize, to: *mut u8, capacity: usize) -> Progress;
             }
 
-            pub fn valid_up_to(big: bool, raw: &[u8]) -> usize {
-                unsafe { calls::validate(big.into(), raw.as_ptr(), raw.len()) }.valid_up_to()
-            }
-
-            pub fn count(big: bool, raw: &[u8], _: &mut [u8]) -> usize {
-                unsafe { calls::count_chars(big.into(), raw.as_ptr(), raw.len()) }
-            }
-
-            pub fn is_ascii(big: bool, raw: &[u8], _: &mut [u8]) -> usize {
-                unsafe { calls::is_ascii(big.into(), raw.as_ptr(), raw.len()) }.into()
-            }
-
-            pub fn to_utf8(big: bool, raw: &[u8], to: &mut [u8]) -> usize {
-                unsafe { calls::to_utf8(big.into(), raw.as_ptr(), raw.len(), to.as_mut_ptr(), to.len()) }.done(raw.len())
-            }
-
-            pub fn from_utf8(big: bool, text: &[u8], to: &mut [u8]) -> usize {
-                unsafe { calls::from_utf8(big.into(), text.as_ptr(), text.len(), to.as_mut_ptr(), to.len()) }.done(text.len())
-            }
+            pub const CALLS: Calls = Calls {
+                validate: |big, raw, _| unsafe { validate(big.into(), raw.as_ptr(), raw.len()) }.valid_up_to(),
+                count: |big, raw, _| unsafe { count_chars(big.into(), raw.as_ptr(), raw.len()) },
+                to_utf8: |big, raw, to| {
+                    unsafe { to_utf8(big.into(), raw.as_ptr(), raw.len(), to.as_mut_ptr(), to.len()) }.done(raw.len())
+                },
+                from_utf8: |big, text, to| {
+                    unsafe { from_utf8(big.into(), text.as_ptr(), text.len(), to.as_mut_ptr(), to.len()) }.done(text.len())
+                },
+            };
+            pub const IS_ASCII: Call = |big, raw, _| unsafe { is_ascii(big.into(), raw.as_ptr(), raw.len()) }.into();
         }
     };
 }

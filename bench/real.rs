@@ -3,10 +3,12 @@
 //! with the throughput in GB/s of UTF-16. The forms are the lines of a text, one call each, and
 //! pieces of 4 KiB and of 64 KiB of UTF-16. It first compares all results.
 #[macro_use]
+#[allow(dead_code)]
 mod library;
 #[allow(dead_code)]
 mod simdutf;
 
+use library::{Call, Calls};
 use std::hint::black_box;
 use std::ops::Range;
 use std::time::Instant;
@@ -18,55 +20,26 @@ const MOST: usize = 1 << 20;
 
 const FORMS: [(&str, usize); 3] = [("lines", 0), ("4 KiB", 4096), ("64 KiB", 65536)];
 
-// Converts or tests an input, and returns a number that must be the same for all decoders.
-type Call = fn(bool, &[u8], &mut [u8]) -> usize;
-
 library!(v2, "", "_v2");
 library!(v3, "", "_v3");
 library!(chosen, "", "");
 #[cfg(before)]
 library!(before, "before_", "_v2");
 
-fn units(raw: &[u8]) -> &[u16] {
-    let (start, units, end) = unsafe { raw.align_to() };
-    assert!(start.is_empty() && end.is_empty());
-    units
+// Returns the decoders that this machine can run. v3 is late and clears the upper halves of the
+// vectors. simdutf's kernels for 256 and 512 bits do not, and after them code for 128 bits takes up
+// to twice as long.
+fn decoders() -> Vec<(&'static str, Calls)> {
+    let mut all = vec![("v2", v2::CALLS)];
+    #[cfg(before)]
+    all.push(("before", before::CALLS));
+    all.extend(simdutf::kernels());
+    if is_x86_feature_detected!("avx2") {
+        all.push(("v3", v3::CALLS));
+    }
+    all.push(("chosen", chosen::CALLS));
+    all
 }
-
-// v3 is late and clears the upper halves of the vectors. simdutf's kernels for 256 and 512 bits do
-// not, and after them code for 128 bits takes up to twice as long.
-const VALIDATE: &[(&str, Call)] = &[
-    ("v2", |big, raw, _| v2::valid_up_to(big, raw)),
-    #[cfg(before)]
-    ("before", |big, raw, _| before::valid_up_to(big, raw)),
-    ("simdutf westmere", |big, raw, _| 2 * simdutf::westmere::valid_up_to(big, units(raw))),
-    ("simdutf haswell", |big, raw, _| 2 * simdutf::haswell::valid_up_to(big, units(raw))),
-    ("simdutf icelake", |big, raw, _| 2 * simdutf::icelake::valid_up_to(big, units(raw))),
-    ("v3", |big, raw, _| v3::valid_up_to(big, raw)),
-    ("chosen", |big, raw, _| chosen::valid_up_to(big, raw)),
-];
-
-const TO_UTF8: &[(&str, Call)] = &[
-    ("v2", v2::to_utf8),
-    #[cfg(before)]
-    ("before", before::to_utf8),
-    ("simdutf westmere", |big, raw, to| simdutf::westmere::to_utf8(big, units(raw), to)),
-    ("simdutf haswell", |big, raw, to| simdutf::haswell::to_utf8(big, units(raw), to)),
-    ("simdutf icelake", |big, raw, to| simdutf::icelake::to_utf8(big, units(raw), to)),
-    ("v3", v3::to_utf8),
-    ("chosen", chosen::to_utf8),
-];
-
-const FROM_UTF8: &[(&str, Call)] = &[
-    ("v2", v2::from_utf8),
-    #[cfg(before)]
-    ("before", before::from_utf8),
-    ("simdutf westmere", |big, text, to| 2 * simdutf::westmere::from_utf8(big, text, to)),
-    ("simdutf haswell", |big, text, to| 2 * simdutf::haswell::from_utf8(big, text, to)),
-    ("simdutf icelake", |big, text, to| 2 * simdutf::icelake::from_utf8(big, text, to)),
-    ("v3", v3::from_utf8),
-    ("chosen", chosen::from_utf8),
-];
 
 // Returns the text of a file in UTF-8, cut to at most `MOST` bytes of UTF-16.
 fn text_of(path: &std::path::Path) -> String {
@@ -134,16 +107,12 @@ impl Case {
     }
 }
 
-// Adds a case for each decoder that this machine can run, after testing that all decoders return
-// and write the same.
-fn add(all: &mut Vec<Case>, name: &str, big: bool, inputs: &[&'static [u8]], size: usize, decoders: &[(&str, Call)]) {
+// Adds a case for each decoder, after testing that all return and write the same.
+fn add(all: &mut Vec<Case>, name: &str, big: bool, inputs: &[&'static [u8]], size: usize, of: fn(&Calls) -> Call) {
     let longest = inputs.iter().map(|input| input.len()).max().unwrap_or(0);
     let mut wanted = None;
-    for (decoder, call) in decoders {
-        if !simdutf::runs(decoder) || *decoder == "v3" && !is_x86_feature_detected!("avx2") {
-            continue;
-        }
-        let mut to = vec![0; 4 * longest + 64];
+    for (decoder, calls) in decoders() {
+        let (call, mut to) = (of(&calls), vec![0; 4 * longest + 64]);
         let found: Vec<_> = inputs
             .iter()
             .map(|input| {
@@ -153,7 +122,7 @@ fn add(all: &mut Vec<Case>, name: &str, big: bool, inputs: &[&'static [u8]], siz
             .collect();
         assert!(*wanted.get_or_insert_with(|| found.clone()) == found, "{name}: {decoder} differs");
         let name = format!("{name}\t{}\t{decoder}", if big { "be" } else { "le" });
-        all.push(Case { name, inputs: inputs.to_vec(), to, big, call: *call, size: size as f64 / 1e9, times: 1, best: f64::MAX });
+        all.push(Case { name, inputs: inputs.to_vec(), to, big, call, size: size as f64 / 1e9, times: 1, best: f64::MAX });
     }
 }
 
@@ -178,11 +147,10 @@ fn main() {
             for big in [false, true] {
                 let raw: Vec<&'static [u8]> = utf8.iter().map(|part| utf16(part, big)).collect();
                 let size = raw.iter().map(|part| part.len()).sum();
-                for (call, inputs, decoders) in
-                    [("validate", &raw, VALIDATE), ("to_utf8", &raw, TO_UTF8), ("from_utf8", &bytes, FROM_UTF8)]
-                {
-                    add(&mut all, &format!("{call}\t{name}\t{form}"), big, inputs, size, decoders);
-                }
+                let mut add = |call, inputs, of| add(&mut all, &format!("{call}\t{name}\t{form}"), big, inputs, size, of);
+                add("validate", &raw, |it| it.validate);
+                add("to_utf8", &raw, |it| it.to_utf8);
+                add("from_utf8", &bytes, |it| it.from_utf8);
             }
         }
     }

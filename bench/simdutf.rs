@@ -1,5 +1,6 @@
 //! The calls of `simdutf_calls.cc`, for each kernel of simdutf on x86-64: westmere has lanes of 128
 //! bits, haswell of 256 (AVX2), and icelake of 512 (AVX-512).
+use crate::library::Calls;
 use std::ffi::c_char;
 
 /// A kernel, which is an object of C++.
@@ -22,10 +23,16 @@ mod calls {
     }
 }
 
+fn units(raw: &[u8]) -> &[u16] {
+    let (start, units, end) = unsafe { raw.align_to() };
+    assert!(start.is_empty() && end.is_empty());
+    units
+}
+
 macro_rules! kernel {
     ($kernel:ident) => {
         pub mod $kernel {
-            use super::{Kernel, calls};
+            use super::{Calls, Kernel, calls, units};
             use std::ptr::null_mut;
             use std::sync::atomic::{AtomicPtr, Ordering::Relaxed};
 
@@ -46,18 +53,17 @@ macro_rules! kernel {
                 unsafe { calls::valid_up_to(chosen(), big, units.as_ptr(), units.len()) }
             }
 
-            pub fn count(big: bool, units: &[u16]) -> usize {
-                unsafe { calls::count(chosen(), big, units.as_ptr(), units.len()) }
-            }
-
             // The buffer must be long enough, and its address even.
-            pub fn to_utf8(big: bool, units: &[u16], to: &mut [u8]) -> usize {
-                unsafe { calls::to_utf8(chosen(), big, units.as_ptr(), units.len(), to.as_mut_ptr()) }
-            }
-
-            pub fn from_utf8(big: bool, text: &[u8], to: &mut [u8]) -> usize {
-                unsafe { calls::from_utf8(chosen(), big, text.as_ptr(), text.len(), to.as_mut_ptr().cast()) }
-            }
+            pub const CALLS: Calls = Calls {
+                validate: |big, raw, _| 2 * valid_up_to(big, units(raw)),
+                count: |big, raw, _| unsafe { calls::count(chosen(), big, units(raw).as_ptr(), raw.len() / 2) },
+                to_utf8: |big, raw, to| unsafe {
+                    calls::to_utf8(chosen(), big, units(raw).as_ptr(), raw.len() / 2, to.as_mut_ptr())
+                },
+                from_utf8: |big, text, to| unsafe {
+                    2 * calls::from_utf8(chosen(), big, text.as_ptr(), text.len(), to.as_mut_ptr().cast())
+                },
+            };
         }
     };
 }
@@ -66,13 +72,12 @@ kernel!(westmere);
 kernel!(haswell);
 kernel!(icelake);
 
-// Whether this processor can run the decoder of this name. It chooses the kernel if the name has
-// one, so it comes before the calls.
-pub fn runs(decoder: &str) -> bool {
-    match decoder.strip_prefix("simdutf ") {
-        Some("westmere") => westmere::choose(),
-        Some("haswell") => haswell::choose(),
-        Some("icelake") => icelake::choose(),
-        _ => true,
-    }
+/// Returns the kernels that this processor can run.
+pub fn kernels() -> Vec<(&'static str, Calls)> {
+    let all: [(_, fn() -> bool, Calls); 3] = [
+        ("simdutf westmere", westmere::choose, westmere::CALLS),
+        ("simdutf haswell", haswell::choose, haswell::CALLS),
+        ("simdutf icelake", icelake::choose, icelake::CALLS),
+    ];
+    all.into_iter().filter(|(_, runs, _)| runs()).map(|(name, _, calls)| (name, calls)).collect()
 }
