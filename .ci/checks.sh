@@ -121,15 +121,23 @@ look_for() {
     done
 }
 
+# Installs the packages in `wanted`: all at once, or if that fails one by one.
+install_wanted() {
+    local package
+    install_packages "${wanted[@]}" && return
+    apt-get update -q && install_packages "${wanted[@]}" && return
+    for package in "${wanted[@]}"; do
+        install_packages "$package"
+    done
+}
+
 # Takes the same pairs, and installs the packages of what is missing if this runs as root. If
 # something is still missing, that is a failure, which names the packages.
 need() {
     look_for "$@"
     if [ ${#wanted[@]} != 0 ] && [ $EUID = 0 ]; then
         echo "installing ${wanted[*]}"
-        install_packages "${wanted[@]}" > "$room/said" 2>&1 < /dev/null ||
-            { apt-get update -q && install_packages "${wanted[@]}"; } > "$room/said" 2>&1 \
-                < /dev/null
+        install_wanted > "$room/said" 2>&1 < /dev/null
         look_for "$@"
     fi
     [ ${#missing[@]} != 0 ] || return 0

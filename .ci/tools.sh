@@ -48,23 +48,7 @@ is_there() {
     fi
 }
 
-# Installs the packages in `wanted`: all at once, or if that fails one by one.
-install_wanted() {
-    local package
-    echo "installing ${wanted[*]}" >&2
-    install_packages "${wanted[@]}" && return
-    apt-get update -q && install_packages "${wanted[@]}" && return
-    for package in "${wanted[@]}"; do
-        install_packages "$package"
-    done
-}
-
-look_for "${tools[@]}"
-if [ ${#wanted[@]} != 0 ] && [ $EUID = 0 ]; then
-    install_wanted > /dev/null < /dev/null
-    look_for "${tools[@]}"
-fi
+need "${tools[@]}"
 passed=$((${#tools[@]} - ${#missing[@]}))
 failed=${#missing[@]}
-[ $failed = 0 ] || echo "failed: there is no ${missing[*]}: apt-get install ${wanted[*]}"
 finish
