@@ -42,5 +42,5 @@ else
     done
 fi
 "$compiler" -std=gnu11 -O2 -g -Wall -Wextra -Werror -I../dist/include -o "$program" \
-    checks.c coverage.c guarded.c harness.c input.c reference.c "$@" "${counts[@]}" "$archive" \
+    checks.c guarded.c harness.c input.c reference.c "$@" "${counts[@]}" "$archive" \
     "${peers[@]}"
