@@ -31,26 +31,15 @@ needs_libc() {
 
 # Compiles a program for ARM64 with this compiler and with either library, and runs it.
 runs() {
-    local compiler=$1 source=$2 library=(-L "$folder" -ldethrux)
-    shift 2
-    [ "$1" = shared ] || library=("$folder/libdethrux.a")
-    shift
-    $compiler "${warnings[@]}" -I "$top/dist/include" "$top/$source" "${library[@]}" \
-        -o "$room/program" &&
-        LD_LIBRARY_PATH=$folder qemu-aarch64 "$room/program" "$@"
+    local library=(-L "$folder" -ldethrux)
+    [ "$3" = shared ] || library=("$folder/libdethrux.a")
+    $1 "${warnings[@]}" -I "$top/dist/include" "$2" "${library[@]}" -o "$room/program" &&
+        LD_LIBRARY_PATH=$folder qemu-aarch64 "$room/program"
 }
 
 # Tests that the program prints what a page shows.
 prints_page() {
     page_text "$1" > "$room/page" && "${@:2}" > "$room/found" && cmp "$room/page" "$room/found"
-}
-
-# Prints which code either library runs.
-runs_kernel() {
-    local library=(-L "$folder" -ldethrux)
-    [ "$1" = shared ] || library=("$folder/libdethrux.a")
-    $triplet-gcc -I "$top/dist/include" "$room/kernel.c" "${library[@]}" -o "$room/kernel" &&
-        LD_LIBRARY_PATH=$folder qemu-aarch64 "$room/kernel"
 }
 
 # == fuzzing
@@ -107,21 +96,21 @@ check 'what the shared library needs' needs_libc "$folder/libdethrux.so"
 check 'the marks' has_marks $triplet-readelf 'AArch64 feature: BTI' "$folder"/{*.o,libdethrux.so}
 for library in static shared; do
     check "the first program in C, $library" \
-        prints_page C runs "$triplet-gcc -std=c99" examples/c/first.c $library
+        prints_page C runs "$triplet-gcc -std=c99" "$top/examples/c/first.c" $library
     check "the first program in C++, $library" \
-        prints_page CPP runs "$triplet-g++ -std=c++17" examples/cpp/first.cpp $library
-    check "17 MiB, $library" runs "$triplet-gcc -std=gnu11" packaging/test/big.c $library
+        prints_page CPP runs "$triplet-g++ -std=c++17" "$top/examples/cpp/first.cpp" $library
+    check "17 MiB, $library" runs "$triplet-gcc -std=gnu11" "$top/packaging/test/big.c" $library
 done
 write_kernel
 for library in static shared; do
     # This processor has BTI.
     QEMU_CPU=max check "the name of the code, $library" \
-        diff <(echo aarch64) <(runs_kernel $library)
+        diff <(echo aarch64) <(runs $triplet-gcc "$room/kernel.c" $library)
 done
-check 'the check in C++' runs "$triplet-g++ -std=c++17" examples/cpp/check.cpp static
+check 'the check in C++' runs "$triplet-g++ -std=c++17" "$top/examples/cpp/check.cpp" static
 # A kernel for ARM64 may have such pages.
 QEMU_PAGESIZE=65536 check '17 MiB with pages of 64 KiB' \
-    runs "$triplet-gcc -std=gnu11" packaging/test/big.c static
+    runs "$triplet-gcc -std=gnu11" "$top/packaging/test/big.c" static
 if check 'the Debian packages' "$top/packaging/release.sh" "$room/debs" deb-arm64; then
     check 'lintian' lintian --allow-root --fail-on error,warning "$room"/debs/*.deb
     check 'the packages unpacked' runs_unpacked

@@ -91,35 +91,19 @@ def each_text():
 
 
 def to_and_from_str():
-    for name, size, text, number in each_text():
-        for order, codec in ORDERS.items():
-            raw, mine = text.encode(codec), f"dethrux-{codec}"
-            assert raw.decode(mine) == dethrux.decode(raw, order) == text
-            assert text.encode(mine) == dethrux.encode(text, order) == raw
-            calls = [
-                "raw.decode(codec)",
-                "raw.decode(mine)",
-                "dethrux.decode(raw, order)",
-                "text.encode(codec)",
-                "text.encode(mine)",
-                "dethrux.encode(text, order)",
-            ]
-            yield name, size, order, *ratios(best(calls, locals(), number), 3)
     # CPython decodes "utf-16" without a search for the codec. The functions are those of the codec.
     decoder, encoder = codecs.getdecoder("dethrux-utf-16"), codecs.getencoder("dethrux-utf-16")
     for name, size, text, number in each_text():
-        raw, mine = text.encode("utf-16"), "dethrux-utf-16"
-        assert raw.decode(mine) == decoder(raw)[0] == text
-        assert text.encode(mine) == encoder(text)[0] == raw
-        calls = [
-            'raw.decode("utf-16")',
-            "raw.decode(mine)",
-            "decoder(raw)[0]",
-            'text.encode("utf-16")',
-            "text.encode(mine)",
-            "encoder(text)[0]",
-        ]
-        yield name, size, "BOM", *ratios(best(calls, locals(), number), 3)
+        for order, codec in (*ORDERS.items(), ("BOM", "utf-16")):
+            raw, mine = text.encode(codec), f"dethrux-{codec}"
+            ways = ["dethrux.decode(raw, order)", "dethrux.encode(text, order)"]
+            if order == "BOM":
+                ways = ["decoder(raw)[0]", "encoder(text)[0]"]
+            calls = ["raw.decode(codec)", "raw.decode(mine)", ways[0]]
+            calls += ["text.encode(codec)", "text.encode(mine)", ways[1]]
+            assert raw.decode(mine) == eval(ways[0]) == text
+            assert text.encode(mine) == eval(ways[1]) == raw
+            yield name, size, order, *ratios(best(calls, locals(), number), 3)
 
 
 def to_and_from_utf8():
