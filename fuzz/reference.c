@@ -287,56 +287,31 @@ void decode_wtf8(dethrux_byte_order order, const uint8_t *bytes, size_t len, dec
     }
 }
 
-/* The offsets at which a text may be cut: where its items begin, and its end. */
-typedef struct {
-    size_t count;
-    size_t at[TEXT_MAX + 1];
-    bool is[TEXT_MAX + 1];
-} boundaries;
-
-static void add_boundary(boundaries *to, size_t at) {
-    to->at[to->count++] = at;
-    to->is[at] = true;
-}
-
-static const boundaries *boundaries_of(const decoded *text) {
-    static boundaries found;
-    size_t at = 0;
-    found.count = 0;
+/* Returns the first or the last place of a pattern. It begins and ends where items do. */
+static size_t find(const decoded *text, const uint8_t *bytes, const uint8_t *pattern, size_t len,
+                   bool is_last) {
+    static bool begins[TEXT_MAX + 1];
+    size_t end = 0, found = DETHRUX_NOT_FOUND;
     for (size_t i = 0; i < text->item_count; i++) {
-        memset(found.is + at, false, text->items[i].len);
-        add_boundary(&found, at);
-        at += text->items[i].len;
+        memset(begins + end, false, text->items[i].len);
+        begins[end] = true;
+        end += text->items[i].len;
     }
-    add_boundary(&found, at);
-    return &found;
-}
-
-static bool occurs(const boundaries *cuts, const uint8_t *bytes, size_t at, const uint8_t *pattern,
-                   size_t len) {
-    size_t end = cuts->at[cuts->count - 1];
-    return len <= end - at && cuts->is[at + len]
-           && (len == 0 || memcmp(bytes + at, pattern, len) == 0);
+    begins[end] = true;
+    for (size_t at = 0; at + len <= end && (is_last || found == DETHRUX_NOT_FOUND); at++) {
+        if (begins[at] && begins[at + len] && (len == 0 || memcmp(bytes + at, pattern, len) == 0)) {
+            found = at;
+        }
+    }
+    return found;
 }
 
 size_t find_first(const decoded *text, const uint8_t *bytes, const uint8_t *pattern, size_t len) {
-    const boundaries *cuts = boundaries_of(text);
-    for (size_t i = 0; i < cuts->count; i++) {
-        if (occurs(cuts, bytes, cuts->at[i], pattern, len)) {
-            return cuts->at[i];
-        }
-    }
-    return DETHRUX_NOT_FOUND;
+    return find(text, bytes, pattern, len, false);
 }
 
 size_t find_last(const decoded *text, const uint8_t *bytes, const uint8_t *pattern, size_t len) {
-    const boundaries *cuts = boundaries_of(text);
-    for (size_t i = cuts->count; i > 0; i--) {
-        if (occurs(cuts, bytes, cuts->at[i - 1], pattern, len)) {
-            return cuts->at[i - 1];
-        }
-    }
-    return DETHRUX_NOT_FOUND;
+    return find(text, bytes, pattern, len, true);
 }
 
 static bool stops(conversion_mode mode, item_kind kind) {
