@@ -5,7 +5,6 @@
  *   harness --hex DIGITS            reads one input from hexadecimal digits
  *   harness --random SEED SECONDS   makes inputs; the last line is 'N passed, M failed'
  *   harness --seeds DIR SEED COUNT  writes inputs to files that begin a corpus
- *   harness --counts                prints the counts in the file that FUZZ_COUNTS names
  *
  * A difference, or an access outside of a buffer, is printed with the input as digits for --hex.
  * Then the process aborts; with --random it continues with the other checks.
@@ -13,7 +12,6 @@
  * With --random a call that was never made is a failure. WITHOUT_PEERS leaves ICU and iconv out,
  * and WITHOUT_COUNTS the counts of calls, which a cross compiler may not have. */
 #include "checks.h"
-#include "counts.h"
 #include "guarded.h"
 #include "peers.h"
 
@@ -189,9 +187,6 @@ static int run_afl(void) {
 int main(int argc, char **argv) {
     program = argv[0];
     guarded_init();
-#ifndef WITHOUT_COUNTS
-    counts_init();
-#endif
 #ifndef WITHOUT_PEERS
     peers_init();
 #endif
@@ -205,11 +200,6 @@ int main(int argc, char **argv) {
     if (argc == 4 && strcmp(argv[1], "--random") == 0) {
         return run_random(strtoull(argv[2], NULL, 0), (time_t)strtoull(argv[3], NULL, 0));
     }
-#ifndef WITHOUT_COUNTS
-    if (argc == 2 && strcmp(argv[1], "--counts") == 0) {
-        return counts_print() != 0;
-    }
-#endif
     if (argc == 5 && strcmp(argv[1], "--seeds") == 0) {
         return write_seeds(argv[2], strtoull(argv[3], NULL, 0),
                            (unsigned)strtoul(argv[4], NULL, 0));
