@@ -108,29 +108,19 @@ static void put_ill_formed(uint64_t *seed, writer *to) {
     }
 }
 
+/* The first character of each kind before OF_LIMITS, and how many there are. */
+static const uint32_t CHARACTERS[][2] = {
+    {0, 0x80}, {0x80, 0x780}, {0x800, 0xD000}, {0x10000, 0x100000}};
+
 static void put_kind(uint64_t *seed, writer *to, uint32_t kind) {
-    uint8_t noise;
-    switch (kind) {
-    case OF_ASCII:
-        put_scalar(to, below(seed, 0x80));
-        break;
-    case OF_LATIN:
-        put_scalar(to, 0x80 + below(seed, 0x780));
-        break;
-    case OF_CJK:
-        put_scalar(to, 0x800 + below(seed, 0xD000));
-        break;
-    case OF_EMOJI:
-        put_scalar(to, 0x10000 + below(seed, 0x100000));
-        break;
-    case OF_LIMITS:
+    if (kind < OF_LIMITS) {
+        put_scalar(to, CHARACTERS[kind][0] + below(seed, CHARACTERS[kind][1]));
+    } else if (kind == OF_LIMITS) {
         put_scalar(to, LIMITS[below(seed, sizeof LIMITS / sizeof LIMITS[0])]);
-        break;
-    case OF_ILL_FORMED:
+    } else if (kind == OF_ILL_FORMED) {
         put_ill_formed(seed, to);
-        break;
-    default:
-        noise = (uint8_t)below(seed, 256);
+    } else {
+        uint8_t noise = (uint8_t)below(seed, 256);
         put(to, &noise, 1);
     }
 }
