@@ -92,7 +92,7 @@ refuses_target() {
 }
 
 need "${tools[@]}" || finish
-count 'packaging/calls' "$top/packaging/calls" --test
+count 'packaging/calls' "$top/packaging/test/calls.py"
 count 'what packaging/calls writes' "$top/packaging/calls" --check
 count 'dist/ is what packaging/assembly writes' "$top/packaging/assembly" --check "$@"
 clone="$room/a clone"

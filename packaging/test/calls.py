@@ -1,0 +1,66 @@
+#!/usr/bin/env python3
+"""Tests packaging/calls on declarations. The last line is 'N passed, M failed'."""
+
+import pathlib
+import re
+import runpy
+import sys
+import types
+
+PACKAGING = pathlib.Path(__file__).resolve().parent.parent
+sys.path.insert(0, str(PACKAGING))
+script = types.SimpleNamespace(**runpy.run_path(str(PACKAGING / "calls")))
+
+import header  # noqa: E402
+
+
+def results():
+    """Returns whether each result is what is expected of its kind of declaration."""
+    made = lambda *words: header.Call("", "", *words)
+    one = made("dethrux_progress", "dethrux_from_utf32_lossy", "dethrux_byte_order byte_order, "
+               "const uint32_t *utf32,\n    size_t len, void *to, size_t capacity")
+    place = made("bool", "dethrux_is_char_boundary", "dethrux_byte_order o, const void *utf16, "
+                 "size_t len, size_t at")
+    state = made("dethrux_progress", "dethrux_decoder_feed", "dethrux_decoder *decoder, "
+                 "dethrux_byte_order o, const void *chunk, size_t len, void *to, size_t capacity")
+    swap = made("void ", "dethrux_swap_byte_order", "void *utf16, size_t len")
+    pair = made("size_t ", "dethrux_find", "dethrux_byte_order o, const void *utf16, size_t len, "
+                "const void *pattern, size_t pattern_len")
+    flat = lambda text: " ".join(text.split()).replace("( ", "(")
+    return {
+        "code units are written": "DETHRUX_U16_BYTES(to), capacity * 2); found.written /= 2; return"
+        in flat(header.form(one)),
+        "UTF-32 is counted in its code units": "(utf32, len * 4); DETHRUX_WRITES(to, capacity)"
+        in flat(header.check(one)),
+        "the capacity of a form": "@param capacity `len * 2` suffices; a loop needs 2"
+        in header.form(one),
+        "an offset": "return at <= len && dethrux_is_char_boundary(DETHRUX_NATIVE_ENDIAN, "
+        "DETHRUX_U16_BYTES(utf16), len * 2, at * 2);" in flat(header.form(place)),
+        "a chunk is UTF-16": "const dethrux_unit *chunk" in header.form(state)
+        and "found.read /= 2; return" in flat(header.form(state)),
+        "a state": "DETHRUX_READS(&decoder->pending_len, 1)" in flat(header.check(state)),
+        "an encoder's chunk is bytes": not made("dethrux_progress", "dethrux_encoder_feed",
+        "dethrux_encoder *encoder, const void *chunk, size_t len").reads_utf16,
+        "nothing is returned": "DETHRUX_U16 void dethrux_u16_swap_byte_order(dethrux_unit *utf16"
+        in flat(header.form(swap))
+        and "DETHRUX_DEFINE(void, swap_byte_order" in flat(header.check(swap)),
+        "two texts": flat(header.form(pair)).count("DETHRUX_U16_BYTES") == 2
+        and "DETHRUX_READS(pattern, pattern_len)" in flat(header.check(pair)),
+        "no parameters": not made("uint32_t ", "dethrux_version", "void").parameters,
+        "each form has a capacity": all(
+            header.looked_up(header.CAPACITIES, it.name) for it in header.calls()
+            if it.has_form() and it.result == "dethrux_progress"
+        ),
+        "no line is too long": all(len(it) <= header.WIDTH for it in header.header().splitlines()),
+        "each call has its lines": all(
+            header.header().count(f" dethrux_u16_{it.name}(") == it.has_form()
+            for it in header.calls()
+        ),
+        "each call of the header": len(header.calls()) == len(re.findall(
+            r"(?m)^[\w *]*\bdethrux_\w+\([^;{]*\);", (header.TOP / "include/dethrux.h").read_text()
+            .partition("/** @cond */")[0])),
+    }
+
+
+if __name__ == "__main__":
+    sys.exit(script.counted(results()))
