@@ -1,6 +1,7 @@
 /* Reads tables of cases/, the named files or standard input, and makes the calls that the library
  * has. Prints each case whose result differs, with both results, and finally how many passed. Cases
- * of other calls, and cases with a condition on memory or devices, are not run. */
+ * of other calls, and cases with a condition on memory or devices, are not run. A call that follows
+ * the rule of its shape, in dist/src/shapes.inc, has its row from there. */
 #include "dethrux.h"
 
 #include <ctype.h>
@@ -277,42 +278,65 @@ static void add_progress(text *answer, dethrux_progress found) {
     add_stop(answer, found.status, found.error_len);
 }
 
-typedef dethrux_progress convert(dethrux_byte_order order, const void *from, size_t len, void *to, size_t room);
+/* A value that is a number, or `max`. */
+static size_t number_of(const char *word) {
+    return strcmp(word, "max") == 0 ? SIZE_MAX : (size_t)strtoull(word, NULL, 0);
+}
+
+/* The types of the calls that have cases of one shape. */
+typedef dethrux_progress convert(
+    dethrux_byte_order order, const void *from, size_t len, void *to, size_t room);
+typedef dethrux_progress widen(
+    dethrux_byte_order order, const void *from, size_t len, uint32_t *to, size_t room);
+typedef dethrux_progress narrow(
+    dethrux_byte_order order, const uint32_t *from, size_t len, void *to, size_t room);
+typedef size_t measure(dethrux_byte_order order, const void *utf16, size_t len);
+typedef size_t measure_bytes(const void *bytes, size_t len);
+typedef bool test(dethrux_byte_order order, const void *utf16, size_t len);
+typedef size_t search(dethrux_byte_order order, const void *utf16, size_t len,
+    const void *pattern, size_t pattern_len);
 
 typedef enum { TO_UTF8, FROM_UTF8, TO_WTF8, FROM_WTF8 } way;
+typedef enum { STRICT, LOSSY, PARTIAL } mode;
 
 static bool is_back(way by) {
     return by == FROM_UTF8 || by == FROM_WTF8;
 }
 
+/* A case that is run: its call, its byte order, its first value as bytes, and all its values; and
+ * what is answered. */
+typedef struct call call;
 typedef struct {
-    const char *name;
-    convert *make;
-    way way;
-} conversion;
+    const call *by;
+    dethrux_byte_order order;
+    text raw;
+    char **values;
+    size_t count;
+    text *answer;
+} task;
 
-static const conversion conversions[] = {
-    {"to_utf8", dethrux_to_utf8, TO_UTF8},
-    {"to_utf8_partial", dethrux_to_utf8_partial, TO_UTF8},
-    {"to_utf8_lossy", dethrux_to_utf8_lossy, TO_UTF8},
-    {"from_utf8", dethrux_from_utf8, FROM_UTF8},
-    {"from_utf8_lossy", dethrux_from_utf8_lossy, FROM_UTF8},
-    {"to_wtf8", dethrux_to_wtf8, TO_WTF8},
-    {"to_wtf8_partial", dethrux_to_wtf8_partial, TO_WTF8},
-    {"from_wtf8", dethrux_from_wtf8, FROM_WTF8},
-    {"from_wtf8_partial", dethrux_from_wtf8_partial, FROM_WTF8},
+/* A call of the tables: its name; how a case of it is run, on values, of which it returns whether
+ * they are well spelled, on bytes and a value, or on bytes only; and the call of the library, if
+ * others have the same shape. */
+struct call {
+    const char *name;
+    bool (*make)(const task *it);
+    void (*with)(const task *it);
+    void (*ask)(const task *it);
+    convert *convert;
+    way way;
+    mode mode;
+    widen *widen;
+    narrow *narrow;
+    measure *measure;
+    measure_bytes *measure_bytes;
+    test *test;
+    search *search;
 };
 
-static const conversion *conversion_of(const char *name) {
-    for (size_t i = 0; i < sizeof conversions / sizeof *conversions; i++) {
-        if (strcmp(conversions[i].name, name) == 0) {
-            return &conversions[i];
-        }
-    }
-    return NULL;
-}
+static const call *call_of(const char *name);
 
-static size_t size_of(const conversion *by, dethrux_byte_order order, const text *from) {
+static size_t size_of(const call *by, dethrux_byte_order order, const text *from) {
     switch (by->way) {
     case TO_UTF8: return dethrux_to_utf8_lossy_len(order, from->bytes, from->len);
     case FROM_UTF8: return dethrux_from_utf8_lossy_len(from->bytes, from->len);
@@ -323,9 +347,11 @@ static size_t size_of(const conversion *by, dethrux_byte_order order, const text
 }
 
 /* The capacity that the header says suffices. */
-static size_t most(const conversion *by, size_t len) {
-    return is_back(by->way) ? DETHRUX_UTF16_MAX(len) : by->make == dethrux_to_utf8_lossy ? DETHRUX_UTF8_MAX(len)
-        : by->way == TO_WTF8 ? DETHRUX_WTF8_MAX(len) : len / 2 * 3;
+static size_t most(const call *by, size_t len) {
+    return is_back(by->way)      ? DETHRUX_UTF16_MAX(len)
+        : by->way == TO_WTF8     ? DETHRUX_WTF8_MAX(len)
+        : by->mode == LOSSY      ? DETHRUX_UTF8_MAX(len)
+                                 : len / 2 * 3;
 }
 
 /* A decoder, of UTF-16, of UTF-8 or of WTF-8, and its byte order. */
@@ -461,26 +487,50 @@ static bool is_ascii(const text *utf8) {
     return true;
 }
 
-/* Returns a word for what a conversion that came to its end contradicts, or NULL. */
-static const char *contradicted(const conversion *by, dethrux_byte_order order, const text *from, dethrux_progress found, const text *to) {
-    text written = {to->bytes, found.written, 0};
-    bool wtf8 = by->make == dethrux_to_wtf8 || by->make == dethrux_from_wtf8;
-    bool strict = by->make == dethrux_to_utf8 || by->make == dethrux_from_utf8 || wtf8;
-    if (by->make == dethrux_to_utf8 && found.status == DETHRUX_DONE
-        && (dethrux_count_chars(order, from->bytes, from->len) != characters(&written)
-            || dethrux_is_ascii(order, from->bytes, from->len) != is_ascii(&written))) {
+/* What a strict conversion contradicts, or NULL. */
+static const char *contradicted_strict(const call *by, dethrux_byte_order order, const text *from,
+    dethrux_progress found, const text *written) {
+    const bool to_utf8 = by->way == TO_UTF8;
+    if (to_utf8 && found.status == DETHRUX_DONE
+        && (dethrux_count_chars(order, from->bytes, from->len) != characters(written)
+            || dethrux_is_ascii(order, from->bytes, from->len) != is_ascii(written))) {
         return "characters";
     }
-    if (by->make == dethrux_to_utf8) {
+    if (to_utf8) {
         dethrux_validity valid = dethrux_validate(order, from->bytes, from->len);
-        if (valid.valid_up_to != found.read || valid.status != found.status || valid.error_len != found.error_len) {
+        if (valid.valid_up_to != found.read || valid.status != found.status
+            || valid.error_len != found.error_len) {
             return "validate";
         }
     }
-    if ((by->make == dethrux_from_utf8 && dethrux_from_utf8_len(from->bytes, from->len) != found.written)
-        || (by->make == dethrux_to_wtf8 && dethrux_to_wtf8_len(order, from->bytes, from->len) != found.written)
-        || (by->make == dethrux_from_wtf8 && dethrux_from_wtf8_len(from->bytes, from->len) != found.written)) {
-        return "size";
+    size_t len = by->way == FROM_UTF8 ? dethrux_from_utf8_len(from->bytes, from->len)
+                                      : size_of(by, order, from);
+    return !to_utf8 && len != found.written ? "size" : NULL;
+}
+
+/* Whether the conversion back of what was written is the input. */
+static bool is_back_again(
+    const call *by, dethrux_byte_order order, const text *from, const text *written) {
+    static convert *const back[] = {
+        dethrux_from_utf8, dethrux_to_utf8, dethrux_from_wtf8, dethrux_to_wtf8};
+    text again = blank(from->len);
+    dethrux_progress end =
+        back[by->way](order, written->bytes, written->len, again.bytes, from->len);
+    again.len = end.written;
+    bool is = end.status == DETHRUX_DONE && same(&again, from);
+    free(again.bytes);
+    return is;
+}
+
+/* Returns a word for what a conversion that came to its end contradicts, or NULL. */
+static const char *contradicted(const call *by, dethrux_byte_order order, const text *from,
+    dethrux_progress found, const text *to) {
+    text written = {to->bytes, found.written, 0};
+    const bool done = found.status == DETHRUX_DONE;
+    const bool strict = by->mode == STRICT;
+    const char *but = strict ? contradicted_strict(by, order, from, found, &written) : NULL;
+    if (but != NULL) {
+        return but;
     }
     if (found.written > most(by, from->len)) {
         return "bound";
@@ -488,82 +538,68 @@ static const char *contradicted(const conversion *by, dethrux_byte_order order, 
     if (from->len > SHORT) {
         return NULL;
     }
-    bool lossy = by->make == dethrux_to_utf8_lossy || by->make == dethrux_from_utf8_lossy;
-    bool whole = lossy || (by->make == dethrux_to_wtf8 && found.status == DETHRUX_DONE);
+    /* What any stream of these bytes gives. */
+    const bool whole = by->mode == LOSSY || (by->way == TO_WTF8 && strict && done);
     if (whole && !is_cut_anywhere(by->way, order, from, &written)) {
         return "pieces";
     }
-    if (strict && found.status == DETHRUX_DONE) {
-        text again = blank(from->len);
-        convert *back = by->way == TO_UTF8 ? dethrux_from_utf8 : by->way == FROM_UTF8 ? dethrux_to_utf8
-            : by->way == TO_WTF8 ? dethrux_from_wtf8 : dethrux_to_wtf8;
-        dethrux_progress end = back(order, to->bytes, found.written, again.bytes, from->len);
-        again.len = end.written;
-        bool is = end.status == DETHRUX_DONE && same(&again, from);
-        free(again.bytes);
-        return is ? NULL : "back";
-    }
-    return NULL;
+    return strict && done && !is_back_again(by, order, from, &written) ? "back" : NULL;
 }
 
-static void call_convert(const conversion *by, dethrux_byte_order order, const text *from, const char *value, text *answer) {
-    size_t room = strcmp(value, "size") == 0 ? size_of(by, order, from) : strtoul(value, NULL, 10);
+static void call_convert(const task *it) {
+    bool sized = strcmp(it->values[1], "size") == 0;
+    size_t room = sized ? size_of(it->by, it->order, &it->raw) : number_of(it->values[1]);
     text to = blank(room);
-    dethrux_progress found = by->make(order, from->bytes, from->len, to.bytes, room);
+    dethrux_progress found =
+        it->by->convert(it->order, it->raw.bytes, it->raw.len, to.bytes, room);
     const char *but = !is_blank(&to, room) ? "written after the buffer"
         : found.status == DETHRUX_NO_SPACE ? NULL
-                                           : contradicted(by, order, from, found, &to);
-    add_progress(answer, found);
-    add_found(answer, by->way == TO_UTF8, to.bytes, found.written);
+                                           : contradicted(it->by, it->order, &it->raw, found, &to);
+    add_progress(it->answer, found);
+    add_found(it->answer, it->by->way == TO_UTF8, to.bytes, found.written);
     if (but != NULL) {
-        add_word(answer, but);
+        add_word(it->answer, but);
     }
     free(to.bytes);
 }
 
-static bool call_every_room(dethrux_byte_order order, char **values, size_t count, text *answer) {
+static bool call_every_room(const task *it) {
     text from = {0};
-    const conversion *by = count == 2 ? conversion_of(values[0]) : NULL;
-    bool is = by != NULL && bytes_of(values[1], order, &from);
+    const call *by = it->count == 2 ? call_of(it->values[0]) : NULL;
+    bool is = by != NULL && by->convert != NULL && bytes_of(it->values[1], it->order, &from);
     if (is) {
-        size_t size = size_of(by, order, &from);
+        size_t size = size_of(by, it->order, &from);
         text all = blank(size);
-        dethrux_progress last = by->make(order, from.bytes, from.len, all.bytes, size);
+        dethrux_progress last = by->convert(it->order, from.bytes, from.len, all.bytes, size);
         for (size_t room = 0; room <= size; room++) {
             text to = blank(room);
-            dethrux_progress found = by->make(order, from.bytes, from.len, to.bytes, room);
-            add_number(answer, found.written);
+            dethrux_progress found = by->convert(it->order, from.bytes, from.len, to.bytes, room);
+            add_number(it->answer, found.written);
             if (memcmp(to.bytes, all.bytes, found.written) != 0 || !is_blank(&to, room)) {
-                add_word(answer, "differs");
+                add_word(it->answer, "differs");
             }
             free(to.bytes);
         }
-        add_found(answer, by->way == TO_UTF8, all.bytes, last.written);
+        add_found(it->answer, by->way == TO_UTF8, all.bytes, last.written);
         free(all.bytes);
     }
     free(from.bytes);
     return is;
 }
 
-/* Calls that read bytes, and functions of the library that return a number for UTF-16. */
-typedef void question(dethrux_byte_order order, const text *raw, text *answer);
-typedef size_t measure(dethrux_byte_order order, const void *utf16, size_t len);
+/* What calls return for bytes. */
 
-static void ask_is_ascii(dethrux_byte_order order, const text *raw, text *answer) {
-    add_word(answer, dethrux_is_ascii(order, raw->bytes, raw->len) ? "true" : "false");
+static void ask_test(const task *it) {
+    add_word(it->answer, it->by->test(it->order, it->raw.bytes, it->raw.len) ? "true" : "false");
 }
 
-/* A number that bytes have in either byte order. */
-#define NUMBER_OF_BYTES(name, call) \
-    static void name(dethrux_byte_order order, const text *raw, text *answer) { \
-        (void)order; \
-        add_number(answer, call(raw->bytes, raw->len)); \
-    }
-NUMBER_OF_BYTES(ask_utf16_size, dethrux_from_utf8_len)
-NUMBER_OF_BYTES(ask_utf16_marked_size, dethrux_from_utf8_lossy_len)
-NUMBER_OF_BYTES(ask_utf8_replacements, dethrux_from_utf8_replacements)
-NUMBER_OF_BYTES(ask_nul_offset, dethrux_nul_offset)
-NUMBER_OF_BYTES(ask_size_from_wtf8, dethrux_from_wtf8_len)
+static void ask_measure(const task *it) {
+    add_number(it->answer, it->by->measure(it->order, it->raw.bytes, it->raw.len));
+}
+
+static void ask_measure_bytes(const task *it) {
+    add_number(it->answer, it->by->measure_bytes(it->raw.bytes, it->raw.len));
+}
 
 /* The error's fields, or what is written if there is no error. */
 static void add_validity(dethrux_byte_order order, const text *raw, const char *none, text *answer) {
@@ -585,12 +621,12 @@ static void add_validity(dethrux_byte_order order, const text *raw, const char *
     }
 }
 
-static void ask_validate(dethrux_byte_order order, const text *raw, text *answer) {
-    add_validity(order, raw, "done", answer);
+static void ask_validate(const task *it) {
+    add_validity(it->order, &it->raw, "done", it->answer);
 }
 
-static void ask_from_utf16(dethrux_byte_order order, const text *raw, text *answer) {
-    add_validity(order, raw, NULL, answer);
+static void ask_from_utf16(const task *it) {
+    add_validity(it->order, &it->raw, NULL, it->answer);
 }
 
 /* The text of a stream, which every chunking of it has. */
@@ -608,19 +644,18 @@ static void add_decoded(dethrux_byte_order order, const uint8_t *raw, size_t len
     free(utf8.bytes);
 }
 
-static void ask_every_chunking(dethrux_byte_order order, const text *raw, text *answer) {
-    add_decoded(order, raw->bytes, raw->len, answer);
+static void ask_every_chunking(const task *it) {
+    add_decoded(it->order, it->raw.bytes, it->raw.len, it->answer);
 }
 
-static void ask_every_any_chunking(dethrux_byte_order order, const text *raw, text *answer) {
-    dethrux_bom bom = dethrux_detect_bom(DETHRUX_BIG_ENDIAN, raw->bytes, raw->len);
-    (void)order;
-    if (bom.len > raw->len || (bom.status == DETHRUX_BOM_UNDECIDED) != (raw->len < 2)) {
-        add_word(answer, "BOM");
+static void ask_every_any_chunking(const task *it) {
+    dethrux_bom bom = dethrux_detect_bom(DETHRUX_BIG_ENDIAN, it->raw.bytes, it->raw.len);
+    if (bom.len > it->raw.len || (bom.status == DETHRUX_BOM_UNDECIDED) != (it->raw.len < 2)) {
+        add_word(it->answer, "BOM");
         return;
     }
-    const uint8_t *after = raw->len > 0 ? raw->bytes + bom.len : NULL;
-    add_decoded(bom.byte_order, after, raw->len - bom.len, answer);
+    const uint8_t *after = it->raw.len > 0 ? it->raw.bytes + bom.len : NULL;
+    add_decoded(bom.byte_order, after, it->raw.len - bom.len, it->answer);
 }
 
 /* Calls over chunks. */
@@ -678,72 +713,72 @@ static bool feed_pieces(const char *word, over_pieces *feed_one, decoder *by, si
     return true;
 }
 
-static bool feed_to_buffers(decoder by, char **values, size_t count, text *answer) {
-    size_t room = count == 2 ? strtoul(values[1], NULL, 10) : 0;
-    if (count != 2 || !feed_pieces(values[0], feed_to_buffer, &by, room, answer, NULL)) {
+static bool feed_to_buffers(way way, const task *it) {
+    decoder by = new_decoder(way, it->order);
+    size_t room = it->count == 2 ? strtoul(it->values[1], NULL, 10) : 0;
+    if (it->count != 2
+        || !feed_pieces(it->values[0], feed_to_buffer, &by, room, it->answer, NULL)) {
         return false;
     }
     text to = blank(room);
     dethrux_progress end = finish(&by, to.bytes, room);
-    add_progress(answer, end);
-    add_found(answer, by.way == TO_UTF8, to.bytes, end.written);
-    add_bytes(answer, pending_of(&by).bytes, pending_of(&by).len);
-    if (!is_blank(&to, by.way == FROM_WTF8 ? room : end.written)) {
-        add_word(answer, "changed");
+    add_progress(it->answer, end);
+    add_found(it->answer, way == TO_UTF8, to.bytes, end.written);
+    add_bytes(it->answer, pending_of(&by).bytes, pending_of(&by).len);
+    if (!is_blank(&to, way == FROM_WTF8 ? room : end.written)) {
+        add_word(it->answer, "changed");
     }
     free(to.bytes);
     return true;
 }
 
 #define FED(name, way) \
-    static bool name(dethrux_byte_order order, char **values, size_t count, text *answer) { \
-        return feed_to_buffers(new_decoder(way, order), values, count, answer); \
+    static bool name(const task *it) { \
+        return feed_to_buffers(way, it); \
     }
 FED(call_stream_feed, TO_UTF8)
 FED(call_utf8_stream_feed, FROM_UTF8)
 FED(call_wtf8_feed, TO_WTF8)
 FED(call_wtf8_stream_feed, FROM_WTF8)
 
-static bool call_lossy_feed(dethrux_byte_order order, char **values, size_t count, text *answer) {
-    decoder by = new_decoder(TO_UTF8, order);
+static bool call_lossy_feed(const task *it) {
+    decoder by = new_decoder(TO_UTF8, it->order);
     text end = {0};
-    if (count > 1 || (count == 1 && !feed_pieces(values[0], feed_and_show, &by, 0, answer, NULL))) {
+    if (it->count > 1) {
         return false;
     }
+    bool is = it->count == 0 || feed_pieces(it->values[0], feed_and_show, &by, 0, it->answer, NULL);
     if (!finish_all(&by, &end)) {
-        add_word(answer, "finish");
+        add_word(it->answer, "finish");
     }
-    add_word(answer, end.len > 0 ? "'\\u{FFFD}'" : "none");
+    add_word(it->answer, end.len > 0 ? "'\\u{FFFD}'" : "none");
     free(end.bytes);
-    return true;
+    return is;
 }
 
-static bool call_decode_pieces(dethrux_byte_order order, char **values, size_t count, text *answer) {
-    decoder by = new_decoder(TO_UTF8, order);
+static bool call_decode_pieces(const task *it) {
+    decoder by = new_decoder(TO_UTF8, it->order);
     text all = {0};
-    bool is = count == 0 || (count == 1 && feed_pieces(values[0], feed_only, &by, 0, answer, &all));
-    if (!finish_all(&by, &all)) {
-        add_word(answer, "finish");
+    if (it->count > 1) {
+        return false;
     }
-    add_text(answer, all.bytes, all.len);
+    bool is = it->count == 0 || feed_pieces(it->values[0], feed_only, &by, 0, it->answer, &all);
+    if (!finish_all(&by, &all)) {
+        add_word(it->answer, "finish");
+    }
+    add_text(it->answer, all.bytes, all.len);
     free(all.bytes);
     return is;
 }
 
-/* A value that is a number, or `max`. */
-static size_t number_of(const char *word) {
-    return strcmp(word, "max") == 0 ? SIZE_MAX : (size_t)strtoull(word, NULL, 0);
+static void ask_swap_byte_order(const task *it) {
+    dethrux_swap_byte_order(it->raw.bytes, it->raw.len);
+    add_bytes(it->answer, it->raw.bytes, it->raw.len);
 }
 
-static void ask_swap(dethrux_byte_order order, const text *raw, text *answer) {
-    (void)order;
-    dethrux_swap_byte_order(raw->bytes, raw->len);
-    add_bytes(answer, raw->bytes, raw->len);
-}
-
-static void ask_make_well_formed(dethrux_byte_order order, const text *raw, text *answer) {
-    add_number(answer, dethrux_make_well_formed(order, raw->bytes, raw->len));
-    add_bytes(answer, raw->bytes, raw->len);
+static void ask_make_well_formed(const task *it) {
+    add_number(it->answer, dethrux_make_well_formed(it->order, it->raw.bytes, it->raw.len));
+    add_bytes(it->answer, it->raw.bytes, it->raw.len);
 }
 
 /* The bytes that a value spells. Another value gets a word that no result has. */
@@ -756,22 +791,26 @@ static text other_of(const char *value, dethrux_byte_order order, text *answer) 
 }
 
 /* The second text in the other byte order must compare in the same way. */
-static void call_compare(dethrux_byte_order order, const text *raw, const char *value, text *answer) {
+static void call_compare(const task *it) {
     dethrux_byte_order other =
-        order == DETHRUX_BIG_ENDIAN ? DETHRUX_LITTLE_ENDIAN : DETHRUX_BIG_ENDIAN;
-    text second = other_of(value, order, answer);
-    int32_t found = dethrux_compare(order, raw->bytes, raw->len, order, second.bytes, second.len);
-    add_word(answer, found < 0 ? "less" : found > 0 ? "greater" : "equal");
+        it->order == DETHRUX_BIG_ENDIAN ? DETHRUX_LITTLE_ENDIAN : DETHRUX_BIG_ENDIAN;
+    text second = other_of(it->values[1], it->order, it->answer);
+    int32_t found = dethrux_compare(
+        it->order, it->raw.bytes, it->raw.len, it->order, second.bytes, second.len);
+    add_word(it->answer, found < 0 ? "less" : found > 0 ? "greater" : "equal");
     dethrux_swap_byte_order(second.bytes, second.len);
-    if (dethrux_compare(order, raw->bytes, raw->len, other, second.bytes, second.len) != found) {
-        add_word(answer, "differs");
+    int32_t swapped = dethrux_compare(
+        it->order, it->raw.bytes, it->raw.len, other, second.bytes, second.len);
+    if (swapped != found) {
+        add_word(it->answer, "differs");
     }
     free(second.bytes);
 }
 
-static void call_is_boundary(dethrux_byte_order order, const text *raw, const char *value, text *answer) {
-    bool found = dethrux_is_char_boundary(order, raw->bytes, raw->len, number_of(value));
-    add_word(answer, found ? "true" : "false");
+static void call_is_char_boundary(const task *it) {
+    size_t at = number_of(it->values[1]);
+    bool found = dethrux_is_char_boundary(it->order, it->raw.bytes, it->raw.len, at);
+    add_word(it->answer, found ? "true" : "false");
 }
 
 /* The same with the call that takes a few bytes of a file. */
@@ -781,49 +820,40 @@ static size_t floor_in_file(dethrux_byte_order order, const text *file, size_t a
     return (size_t)dethrux_floor_char_boundary_around(order, around, left < 4 ? left : 4, at);
 }
 
-static void call_floor(dethrux_byte_order order, const text *raw, const char *value, text *answer) {
-    size_t at = number_of(value);
-    size_t found = dethrux_floor_char_boundary(order, raw->bytes, raw->len, at);
-    add_number(answer, found);
-    if (at <= raw->len && floor_in_file(order, raw, at) != found) {
-        add_word(answer, "around");
+static void call_floor_char_boundary(const task *it) {
+    size_t at = number_of(it->values[1]);
+    size_t found = dethrux_floor_char_boundary(it->order, it->raw.bytes, it->raw.len, at);
+    add_number(it->answer, found);
+    if (at <= it->raw.len && floor_in_file(it->order, &it->raw, at) != found) {
+        add_word(it->answer, "around");
     }
 }
 
-static void call_floor_around(dethrux_byte_order order, const text *raw, const char *value, text *answer) {
-    add_number(answer, dethrux_floor_char_boundary_around(order, raw->bytes, raw->len, number_of(value)));
+static void call_floor_char_boundary_around(const task *it) {
+    size_t at = number_of(it->values[1]);
+    add_number(it->answer,
+        dethrux_floor_char_boundary_around(it->order, it->raw.bytes, it->raw.len, at));
 }
 
-static bool call_shard(dethrux_byte_order order, char **values, size_t count, text *answer) {
-    (void)order;
-    if (count == 3) {
-        add_number(answer, dethrux_shard_offset(
-                               number_of(values[0]), number_of(values[1]), number_of(values[2])));
+static bool call_shard_offset(const task *it) {
+    if (it->count == 3) {
+        add_number(it->answer, dethrux_shard_offset(number_of(it->values[0]),
+                                   number_of(it->values[1]), number_of(it->values[2])));
     }
-    return count == 3;
+    return it->count == 3;
 }
 
-/* A call of the tables that shares its body with others. */
-#define CALLED(name, by, call) \
-    static void name(dethrux_byte_order order, const text *raw, const char *value, text *answer) { \
-        by(call, order, raw, value, answer); \
-    }
-
-typedef size_t search(dethrux_byte_order order, const void *utf16, size_t len, const void *pattern, size_t pattern_len);
-
-static void search_by(search *make, dethrux_byte_order order, const text *raw, const char *value, text *answer) {
-    text pattern = other_of(value, order, answer);
-    size_t found = make(order, raw->bytes, raw->len, pattern.bytes, pattern.len);
+static void call_search(const task *it) {
+    text pattern = other_of(it->values[1], it->order, it->answer);
+    size_t found =
+        it->by->search(it->order, it->raw.bytes, it->raw.len, pattern.bytes, pattern.len);
     if (found == DETHRUX_NOT_FOUND) {
-        add_word(answer, "none");
+        add_word(it->answer, "none");
     } else {
-        add_number(answer, found);
+        add_number(it->answer, found);
     }
     free(pattern.bytes);
 }
-
-CALLED(call_find, search_by, dethrux_find)
-CALLED(call_rfind, search_by, dethrux_rfind)
 
 /* UTF-32 is spelled by its bytes in big endian. Returns its code units, and makes `count` their
  * number. */
@@ -837,162 +867,159 @@ static uint32_t *code_points(const text *spelled, size_t *count) {
     return found;
 }
 
-typedef dethrux_progress widen(dethrux_byte_order order, const void *from, size_t len, uint32_t *to, size_t room);
-
-static void to_utf32_by(widen *make, dethrux_byte_order order, const text *from, const char *value, text *answer) {
-    bool sized = strcmp(value, "size") == 0;
-    size_t room = sized ? dethrux_to_utf32_lossy_len(order, from->bytes, from->len) : number_of(value);
+static void call_widen(const task *it) {
+    bool sized = strcmp(it->values[1], "size") == 0;
+    size_t room = sized ? dethrux_to_utf32_lossy_len(it->order, it->raw.bytes, it->raw.len)
+                        : number_of(it->values[1]);
     text to = blank(4 * room), big = {0};
     uint32_t *points = malloc(to.len);
     memcpy(points, to.bytes, to.len);
-    dethrux_progress found = make(order, from->bytes, from->len, points, room);
+    dethrux_progress found = it->by->widen(it->order, it->raw.bytes, it->raw.len, points, room);
     memcpy(to.bytes, points, to.len);
-    add_progress(answer, found);
+    add_progress(it->answer, found);
     for (size_t i = 0; i < 4 * found.written; i++) {
         append_byte(&big, points[i / 4] >> (24 - i % 4 * 8) & 0xFF);
     }
-    add_bytes(answer, big.bytes, big.len);
+    add_bytes(it->answer, big.bytes, big.len);
     if (!is_blank(&to, 4 * room)) {
-        add_word(answer, "written after the buffer");
+        add_word(it->answer, "written after the buffer");
     }
     free(points);
     free(to.bytes);
     free(big.bytes);
 }
 
-CALLED(call_to_utf32, to_utf32_by, dethrux_to_utf32)
-CALLED(call_to_utf32_lossy, to_utf32_by, dethrux_to_utf32_lossy)
-
-typedef dethrux_progress narrow(dethrux_byte_order order, const uint32_t *from, size_t len, void *to, size_t room);
-
-static void from_utf32_by(narrow *make, dethrux_byte_order order, const text *from, const char *value, text *answer) {
+static void call_narrow(const task *it) {
     size_t len;
-    uint32_t *points = code_points(from, &len);
-    bool sized = strcmp(value, "size") == 0;
-    size_t room = sized ? dethrux_from_utf32_lossy_len(points, len) : number_of(value);
+    uint32_t *points = code_points(&it->raw, &len);
+    bool sized = strcmp(it->values[1], "size") == 0;
+    size_t room = sized ? dethrux_from_utf32_lossy_len(points, len) : number_of(it->values[1]);
     text to = blank(room);
-    dethrux_progress found = make(order, points, len, to.bytes, room);
-    add_progress(answer, found);
-    add_bytes(answer, to.bytes, found.written);
+    dethrux_progress found = it->by->narrow(it->order, points, len, to.bytes, room);
+    add_progress(it->answer, found);
+    add_bytes(it->answer, to.bytes, found.written);
     if (!is_blank(&to, room)) {
-        add_word(answer, "written after the buffer");
+        add_word(it->answer, "written after the buffer");
     }
     free(to.bytes);
     free(points);
 }
 
-CALLED(call_from_utf32, from_utf32_by, dethrux_from_utf32)
-CALLED(call_from_utf32_lossy, from_utf32_by, dethrux_from_utf32_lossy)
-
-static void latin1_by(convert *make, dethrux_byte_order order, const text *from, const char *value, text *answer) {
-    size_t room = number_of(value);
+static void call_latin1(const task *it) {
+    size_t room = number_of(it->values[1]);
     text to = blank(room);
-    dethrux_progress found = make(order, from->bytes, from->len, to.bytes, room);
-    add_progress(answer, found);
-    add_bytes(answer, to.bytes, found.written);
+    dethrux_progress found =
+        it->by->convert(it->order, it->raw.bytes, it->raw.len, to.bytes, room);
+    add_progress(it->answer, found);
+    add_bytes(it->answer, to.bytes, found.written);
     if (!is_blank(&to, found.written)) {
-        add_word(answer, "changed");
+        add_word(it->answer, "changed");
     }
     free(to.bytes);
 }
 
-CALLED(call_to_latin1, latin1_by, dethrux_to_latin1)
-CALLED(call_from_latin1, latin1_by, dethrux_from_latin1)
-
-static void ask_from_utf32_len(dethrux_byte_order order, const text *raw, text *answer) {
+static void ask_from_utf32_lossy_len(const task *it) {
     size_t len;
-    uint32_t *points = code_points(raw, &len);
-    (void)order;
-    add_number(answer, dethrux_from_utf32_lossy_len(points, len));
+    uint32_t *points = code_points(&it->raw, &len);
+    add_number(it->answer, dethrux_from_utf32_lossy_len(points, len));
     free(points);
 }
 
-static void ask_validate_utf32(dethrux_byte_order order, const text *raw, text *answer) {
+static void ask_validate_utf32(const task *it) {
     size_t len;
-    uint32_t *points = code_points(raw, &len);
+    uint32_t *points = code_points(&it->raw, &len);
     dethrux_validity found = dethrux_validate_utf32(points, len);
-    (void)order;
     if (found.status == DETHRUX_DONE && found.valid_up_to == len && found.error_len == 0) {
-        add_word(answer, "done");
+        add_word(it->answer, "done");
     } else {
-        add_number(answer, found.valid_up_to);
+        add_number(it->answer, found.valid_up_to);
         if (found.status != DETHRUX_ILL_FORMED || found.error_len != 1) {
-            add_word(answer, "no status");
+            add_word(it->answer, "no status");
         }
     }
     free(points);
 }
 
-static void ask_inspect(dethrux_byte_order order, const text *raw, text *answer) {
+static void ask_inspect(const task *it) {
     static const char *const names[] = {"ascii", "latin1", "bmp", "unicode"};
-    dethrux_inspection found = dethrux_inspect(order, raw->bytes, raw->len);
-    add_number(answer, found.valid_up_to);
-    add_number(answer, found.chars);
-    add_word(answer, found.repertoire <= DETHRUX_UNICODE ? names[found.repertoire] : "no repertoire");
-    add_stop(answer, found.status, found.error_len);
+    dethrux_inspection found = dethrux_inspect(it->order, it->raw.bytes, it->raw.len);
+    add_number(it->answer, found.valid_up_to);
+    add_number(it->answer, found.chars);
+    bool is = found.repertoire <= DETHRUX_UNICODE;
+    add_word(it->answer, is ? names[found.repertoire] : "no repertoire");
+    add_stop(it->answer, found.status, found.error_len);
 }
 
-/* The call of a name: on values, on bytes and a value, on bytes only, or a number for UTF-16. The
- * conversions have a separate table. */
-static struct {
-    const char *name;
-    bool (*make)(dethrux_byte_order order, char **values, size_t count, text *answer);
-    void (*with)(dethrux_byte_order order, const text *raw, const char *value, text *answer);
-    question *ask;
-    measure *size;
-    unsigned made;
-} calls[] = {
-    {.name = "count_chars", .size = dethrux_count_chars},
-    {.name = "to_utf8_lossy_len", .size = dethrux_to_utf8_lossy_len},
-    {.name = "to_utf8_replacements", .size = dethrux_to_utf8_replacements},
-    {.name = "to_utf32_lossy_len", .size = dethrux_to_utf32_lossy_len},
-    {.name = "to_wtf8_len", .size = dethrux_to_wtf8_len},
-    {.name = "every_room", .make = call_every_room},
-    {.name = "Stream::feed", .make = call_stream_feed},
-    {.name = "feed_utf8", .make = call_utf8_stream_feed},
-    {.name = "feed_wtf8", .make = call_wtf8_feed},
-    {.name = "Wtf8Stream::feed", .make = call_wtf8_stream_feed},
-    {.name = "Lossy::feed", .make = call_lossy_feed},
-    {.name = "decode_pieces", .make = call_decode_pieces},
-    {.name = "swap_byte_order", .ask = ask_swap},
-    {.name = "make_well_formed", .ask = ask_make_well_formed},
-    {.name = "bytes::compare", .with = call_compare},
-    {.name = "bytes::is_char_boundary", .with = call_is_boundary},
-    {.name = "bytes::floor_char_boundary", .with = call_floor},
-    {.name = "bytes::floor_char_boundary_around", .with = call_floor_around},
-    {.name = "shard_offset", .make = call_shard},
-    {.name = "search::find", .with = call_find},
-    {.name = "search::rfind", .with = call_rfind},
-    {.name = "to_utf32", .with = call_to_utf32},
-    {.name = "to_utf32_lossy", .with = call_to_utf32_lossy},
-    {.name = "from_utf32", .with = call_from_utf32},
-    {.name = "from_utf32_lossy", .with = call_from_utf32_lossy},
-    {.name = "to_latin1", .with = call_to_latin1},
-    {.name = "from_latin1", .with = call_from_latin1},
-    {.name = "from_utf32_lossy_len", .ask = ask_from_utf32_len},
-    {.name = "validate_utf32", .ask = ask_validate_utf32},
-    {.name = "inspect", .ask = ask_inspect},
-    {.name = "is_ascii", .ask = ask_is_ascii},
-    {.name = "nul_offset", .ask = ask_nul_offset},
-    {.name = "from_utf8_len", .ask = ask_utf16_size},
-    {.name = "from_utf8_lossy_len", .ask = ask_utf16_marked_size},
-    {.name = "from_utf8_replacements", .ask = ask_utf8_replacements},
-    {.name = "from_wtf8_len", .ask = ask_size_from_wtf8},
-    {.name = "validate_raw_utf16", .ask = ask_validate},
-    {.name = "WStr::from_utf16", .ask = ask_from_utf16},
-    {.name = "every_chunking", .ask = ask_every_chunking},
-    {.name = "AnyLossy::every_chunking", .ask = ask_every_any_chunking},
+/* The rows of the conversions. */
+#define CONVERSION(name, way, mode) ROW_##way(name, way, mode)
+#define ROW_TO_UTF8(name, to, kind) \
+    {#name, .with = call_convert, .convert = dethrux_##name, .way = to, .mode = kind},
+#define ROW_FROM_UTF8(name, to, kind) ROW_TO_UTF8(name, to, kind)
+#define ROW_TO_WTF8(name, to, kind) ROW_TO_UTF8(name, to, kind)
+#define ROW_FROM_WTF8(name, to, kind) ROW_TO_UTF8(name, to, kind)
+#define ROW_TO_UTF32(name, to, kind) {#name, .with = call_widen, .widen = dethrux_##name},
+#define ROW_FROM_UTF32(name, to, kind) {#name, .with = call_narrow, .narrow = dethrux_##name},
+#define ROW_TO_LATIN1(name, to, kind) {#name, .with = call_latin1, .convert = dethrux_##name},
+#define ROW_FROM_LATIN1(name, to, kind) ROW_TO_LATIN1(name, to, kind)
+/* Cases with other names make the calls of streams. */
+#define STREAM(name, step, state)
+/* The rows of questions about UTF-16. */
+#define QUESTION(name, kind) ROW_##kind(name)
+#define ROW_size(name) {#name, .ask = ask_measure, .measure = dethrux_##name},
+#define ROW_truth(name) {#name, .ask = ask_test, .test = dethrux_##name},
+#define ROW_inspection(name) ROW_ASKED(name)
+/* The rows of the other calls that share a function, by shape. */
+#define CALL(name, shape, kind) ROW_##shape(name, kind)
+#define ROW_UTF16_SEARCH(name, kind) \
+    {"search::" #name, .with = call_search, .search = dethrux_##name},
+#define ROW_BYTES(name, kind) \
+    {#name, .ask = ask_measure_bytes, .measure_bytes = dethrux_##name},
+#define ROW_BYTES_FOR_UTF16(name, kind) ROW_BYTES(name, kind)
+#define ROW_IN_ANY_ORDER(name, kind) ROW_BYTES(name, kind)
+/* The calls of which each has a function here. */
+#define ROW_ASKED(name) {#name, .ask = ask_##name},
+#define ROW_UTF32(name, kind) ROW_ASKED(name)
+#define ROW_UTF32_FOR_UTF16(name, kind) ROW_ASKED(name)
+#define ROW_SWAPPED(name, kind) ROW_ASKED(name)
+#define ROW_REPAIRED(name, kind) ROW_ASKED(name)
+#define ROW_OFFSETS(name, kind) {#name, .make = call_##name},
+#define ROW_WITH(name) {"bytes::" #name, .with = call_##name},
+#define ROW_UTF16_AT(name, kind) ROW_WITH(name)
+#define ROW_AROUND(name, kind) ROW_WITH(name)
+#define ROW_UTF16_PAIR(name, kind) ROW_WITH(name)
+/* The calls of which no case has the name: other cases make them, or a test below. */
+#define ROW_validity(name)
+#define ROW_START(name, kind)
+#define ROW_NOTHING(name, kind)
+
+static const call calls[] = {
+#include "../../dist/src/shapes.inc"
+    {"validate_raw_utf16", .ask = ask_validate},
+    {"WStr::from_utf16", .ask = ask_from_utf16},
+    {"every_room", .make = call_every_room},
+    {"every_chunking", .ask = ask_every_chunking},
+    {"AnyLossy::every_chunking", .ask = ask_every_any_chunking},
+    {"Stream::feed", .make = call_stream_feed},
+    {"feed_utf8", .make = call_utf8_stream_feed},
+    {"feed_wtf8", .make = call_wtf8_feed},
+    {"Wtf8Stream::feed", .make = call_wtf8_stream_feed},
+    {"Lossy::feed", .make = call_lossy_feed},
+    {"decode_pieces", .make = call_decode_pieces},
 };
 
 enum { CALLS = sizeof calls / sizeof *calls };
 
-/* The index of a name, or CALLS. */
-static size_t call_of(const char *name) {
-    size_t at = 0;
-    while (at < CALLS && strcmp(calls[at].name, name) != 0) {
-        at++;
+/* How many cases were made of each. */
+static unsigned made[CALLS];
+
+/* The row of a name, or NULL. */
+static const call *call_of(const char *name) {
+    for (size_t i = 0; i < CALLS; i++) {
+        if (strcmp(calls[i].name, name) == 0) {
+            return &calls[i];
+        }
     }
-    return at;
+    return NULL;
 }
 
 static unsigned passed, failed;
@@ -1006,35 +1033,31 @@ static void count(bool passes, const char *name) {
     }
 }
 
-/* Makes a call in a byte order and compares. */
+/* Makes the call of a case. Returns whether its values are well spelled. */
+static bool make(task *it) {
+    if (it->by->make != NULL) {
+        return it->by->make(it);
+    }
+    bool takes_more = it->by->with != NULL;
+    bool is = it->count == 1U + takes_more && bytes_of(it->values[0], it->order, &it->raw);
+    if (is) {
+        (takes_more ? it->by->with : it->by->ask)(it);
+    }
+    free(it->raw.bytes);
+    return is;
+}
+
+/* Runs a case in a byte order and compares. */
 static void run(dethrux_byte_order order, const char *line, char **words, size_t said, size_t all) {
     text found = {0}, should = {0};
-    const conversion *by = conversion_of(words[2]);
-    text raw = {0};
-    bool is = by != NULL && said == 5 && bytes_of(words[3], order, &raw);
-    if (is) {
-        call_convert(by, order, &raw, words[4], &found);
-    }
-    size_t i = by != NULL ? CALLS : call_of(words[2]);
-    if (i < CALLS) {
-        calls[i].made++;
-        if (calls[i].make != NULL) {
-            is = calls[i].make(order, words + 3, said - 3, &found);
-        } else if ((is = said == (calls[i].with != NULL ? 5 : 4) && bytes_of(words[3], order, &raw))) {
-            if (calls[i].with != NULL) {
-                calls[i].with(order, &raw, words[4], &found);
-            } else if (calls[i].size != NULL) {
-                add_number(&found, calls[i].size(order, raw.bytes, raw.len));
-            } else {
-                calls[i].ask(order, &raw, &found);
-            }
-        }
-    }
-    free(raw.bytes);
+    task it = {call_of(words[2]), order, {0}, words + 3, said - 3, &found};
+    bool is = make(&it);
+    made[it.by - calls]++;
     is = wanted(words + said + 1, all - said - 1, order, &should) && is && same(&found, &should);
     count(is, line);
     if (!is) {
-        printf("   found in %s: %.*s\n", order == DETHRUX_BIG_ENDIAN ? "be" : "le", (int)found.len, (const char *)found.bytes);
+        printf("   found in %s: %.*s\n", order == DETHRUX_BIG_ENDIAN ? "be" : "le", (int)found.len,
+            (const char *)found.bytes);
     }
     free(found.bytes);
     free(should.bytes);
@@ -1050,7 +1073,8 @@ static void run_line(const char *line) {
         said = said == 0 && strcmp(word, "=") == 0 ? all : said;
         words[all++] = word;
     }
-    if (all == 0 || *line == '#' || (all > 2 && (strchr(words[1], ';') != NULL || (conversion_of(words[2]) == NULL && call_of(words[2]) == CALLS)))) {
+    bool is_other = all > 2 && (strchr(words[1], ';') != NULL || call_of(words[2]) == NULL);
+    if (all == 0 || *line == '#' || is_other) {
         return;
     }
     bool little = all > 2 && strcmp(words[1], "be") != 0, big = all > 2 && strcmp(words[1], "le") != 0;
@@ -1275,7 +1299,7 @@ int main(int words, char **names) {
         fclose(table);
     }
     for (size_t i = 0; i < CALLS; i++) {
-        if (calls[i].made == 0) {
+        if (made[i] == 0) {
             count(false, calls[i].name);
         }
     }

@@ -206,11 +206,16 @@ is_silent() {
     ! reports "$@" && [ -x "$room/wrong" ]
 }
 
+# The code of a program in C that is not from the headers, with its macros expanded.
+expanded() {
+    cc -E "-I$top/dist/include" "$here/$1.c" | awk '/^# [0-9]/ { own = $3 ~ /\.(c|inc)"$/ } own'
+}
+
 # Whether the checks in C name each function of the header.
 checks_all() {
     grep -oE 'dethrux_[a-z0-9_]+\(' "$top/dist/include/dethrux.h" | tr -d '(' | grep -vE 'kernel|u16_bytes|checked_' |
         sort -u > "$room/declared"
-    cat "$here"/{check,units,fixed}.c | grep -oE 'dethrux_[a-z0-9_]+' | sort -u |
+    { expanded check; expanded units; expanded fixed; } | grep -oE 'dethrux_[a-z0-9_]+' | sort -u |
         comm -23 "$room/declared" - > "$room/missing"
     [ -s "$room/declared" ] && diff /dev/null "$room/missing"
 }

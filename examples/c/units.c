@@ -68,25 +68,25 @@ static const uint16_t *units_of(const text *from) {
     return from->len == 0 ? NULL : from->units;
 }
 
-/* Whether a call on code units did what a call on bytes did, which counts `read` and `written`
- * times as much: 2 for UTF-16, and 1 for the other form. */
-static bool is_same(dethrux_progress found, dethrux_progress bytes, size_t read, size_t written) {
-    return found.read * read == bytes.read && found.written * written == bytes.written
-           && found.status == bytes.status && found.error_len * read == bytes.error_len;
-}
-
-#define NUMBER(of_units, of_bytes) \
-    check(#of_units, from->name, of_units(units, len) == of_bytes(native(), units, len * 2))
+/* The questions that have a number as their answer, or a truth. */
+#define CONVERSION(name, way, mode)
+#define STREAM(name, step, state)
+#define CALL(name, shape, kind)
+#define QUESTION(name, kind) ASK_##kind(name)
+#define ASK_validity(call)
+#define ASK_inspection(call)
+#define ASK_truth(call) ASK_size(call)
+#define ASK_size(call) \
+    check(#call, from->name, \
+        dethrux_u16_##call(units, len) == dethrux_##call(native(), units, len * 2));
 
 static void look(const text *from) {
     const uint16_t *units = units_of(from);
     const size_t len = from->len;
-    NUMBER(dethrux_u16_count_chars, dethrux_count_chars);
-    NUMBER(dethrux_u16_is_ascii, dethrux_is_ascii);
-    NUMBER(dethrux_u16_to_utf8_lossy_len, dethrux_to_utf8_lossy_len);
-    NUMBER(dethrux_u16_to_utf8_replacements, dethrux_to_utf8_replacements);
-    NUMBER(dethrux_u16_to_utf32_lossy_len, dethrux_to_utf32_lossy_len);
-    NUMBER(dethrux_u16_to_wtf8_len, dethrux_to_wtf8_len);
+#include "../../dist/src/shapes.inc"
+#undef CONVERSION
+#undef STREAM
+#undef QUESTION
     check("nul_offset", from->name,
         dethrux_u16_nul_offset(units, len) * 2 == dethrux_nul_offset(units, len * 2));
     dethrux_validity found = dethrux_u16_validate(units, len);
@@ -141,119 +141,84 @@ static void change(const text *from) {
     check("swap_byte_order", from->name, memcmp(units, bytes, sizeof units) == 0);
 }
 
-/* The states of streams for the calls on code units, and for those on bytes. */
+/* What the calls on code units write, and the calls on bytes, and the states of their streams. */
 static struct {
+    uint32_t to[ROOM];
     dethrux_decoder decoder;
     dethrux_encoder encoder;
     dethrux_wtf8_encoder wtf8_encoder;
-} states[2];
+} made[2];
 
 /* Begins streams in which this many bytes of a character are pending. */
 static void begin(uint8_t pending) {
     const dethrux_decoder decoder = {{0x3D, 0xD8, 0x00}, pending};
     const dethrux_encoder encoder = {{0xF0, 0x9F, 0x98}, pending};
     const dethrux_wtf8_encoder wtf8_encoder = {{0xED, 0xA0, 0xBD, 0, 0, 0}, pending};
+    memset(made, BLANK, sizeof made);
     for (size_t i = 0; i < 2; i++) {
-        states[i].decoder = decoder;
-        states[i].encoder = encoder;
-        states[i].wtf8_encoder = wtf8_encoder;
+        made[i].decoder = decoder;
+        made[i].encoder = encoder;
+        made[i].wtf8_encoder = wtf8_encoder;
     }
 }
 
-/* A call on code units, and the same call on bytes. */
-typedef struct {
-    const char *name;
-    dethrux_progress (*units)(const void *from, size_t len, void *to, size_t capacity);
-    dethrux_progress (*bytes)(const void *from, size_t len, void *to, size_t capacity);
-} call;
+/* Whether a call on code units did what a call on bytes did, which counts `read` times as much of
+ * what is read: 2 for UTF-16, and 1 for the other form, of which UTF-16 is written. */
+static bool is_same(dethrux_progress found, dethrux_progress bytes, size_t read) {
+    return found.read * read == bytes.read && found.written * (3 - read) == bytes.written
+           && found.status == bytes.status && found.error_len * read == bytes.error_len
+           && memcmp(&made[0], &made[1], sizeof made[0]) == 0;
+}
 
-#define CALL(name, of_units, of_bytes) \
-    static dethrux_progress units_##name( \
-        const void *from, size_t len, void *to, size_t capacity) { \
-        return of_units; \
-    } \
-    static dethrux_progress bytes_##name( \
-        const void *from, size_t len, void *to, size_t capacity) { \
-        return of_bytes; \
+/* What is converted: code units of UTF-16, bytes, or code units of UTF-32. */
+typedef enum { UTF16, BYTES, UTF32 } form;
+
+/* Checks each conversion of a form, and each call of a stream of it. */
+static void convert(const char *of, form from_form, const void *from, size_t len, size_t capacity,
+    uint8_t pending) {
+    void *to = capacity == 0 ? NULL : made[0].to, *bytes_to = made[1].to;
+#define CONVERSION(name, way, mode) way(name)
+#define TO_UTF8(name) READS(name, void)
+#define TO_WTF8(name) READS(name, void)
+#define TO_LATIN1(name) READS(name, void)
+#define TO_UTF32(name) READS(name, uint32_t)
+#define FROM_UTF8(name) WRITES(name, BYTES, void)
+#define FROM_WTF8(name) WRITES(name, BYTES, void)
+#define FROM_LATIN1(name) WRITES(name, BYTES, void)
+#define FROM_UTF32(name) WRITES(name, UTF32, uint32_t)
+#define READS(name, To) \
+    AGREE(name, UTF16, 2, ((const uint16_t *)from, len, (To *)to, capacity), \
+        (native(), from, len * 2, (To *)bytes_to, capacity))
+#define WRITES(name, form, From) \
+    AGREE(name, form, 1, ((const From *)from, len, (uint16_t *)to, capacity), \
+        (native(), (const From *)from, len, bytes_to, capacity * 2))
+#define STREAM(name, step, state) step##_##state(name, state)
+#define FEED_decoder(name, state) \
+    AGREE(name, UTF16, 2, (&made[0].state, (const uint16_t *)from, len, to, capacity), \
+        (&made[1].state, native(), from, len * 2, bytes_to, capacity))
+#define FEED_encoder(name, state) \
+    AGREE(name, BYTES, 1, (&made[0].state, from, len, (uint16_t *)to, capacity), \
+        (&made[1].state, native(), from, len, bytes_to, capacity * 2))
+#define FEED_wtf8_encoder(name, state) FEED_encoder(name, state)
+#define FINISH_encoder(name, state) \
+    AGREE(name, BYTES, 1, (&made[0].state, (uint16_t *)to, capacity), \
+        (&made[1].state, native(), bytes_to, capacity * 2))
+#define FINISH_wtf8_encoder(name, state) FINISH_encoder(name, state)
+#define FINISH_decoder(name, state)
+#define QUESTION(name, kind)
+#define AGREE(name, form, read, of_units, of_bytes) \
+    if (from_form == form) { \
+        begin(pending); \
+        check(#name, of, is_same(dethrux_u16_##name of_units, dethrux_##name of_bytes, read)); \
     }
-#define READS(of_units, of_bytes, To) \
-    CALL(of_units, of_units((const uint16_t *)from, len, (To *)to, capacity), \
-        of_bytes(native(), from, len, (To *)to, capacity))
-#define WRITES(of_units, of_bytes, From) \
-    CALL(of_units, of_units((const From *)from, len, (uint16_t *)to, capacity), \
-        of_bytes(native(), (const From *)from, len, to, capacity))
-#define DECODES(of_units, of_bytes) \
-    CALL(of_units, of_units(&states[0].decoder, (const uint16_t *)from, len, to, capacity), \
-        of_bytes(&states[1].decoder, native(), from, len, to, capacity))
-#define ENCODES(of_units, of_bytes, state) \
-    CALL(of_units, of_units(&states[0].state, from, len, (uint16_t *)to, capacity), \
-        of_bytes(&states[1].state, native(), from, len, to, capacity))
-#define FINISHES(of_units, of_bytes, state) \
-    CALL(of_units, \
-        ((void)from, (void)len, of_units(&states[0].state, (uint16_t *)to, capacity)), \
-        ((void)from, (void)len, of_bytes(&states[1].state, native(), to, capacity)))
-#define NAMED(of_units) {#of_units, units_##of_units, bytes_##of_units}
+#include "../../dist/src/shapes.inc"
+}
 
-READS(dethrux_u16_to_utf8, dethrux_to_utf8, void)
-READS(dethrux_u16_to_utf8_lossy, dethrux_to_utf8_lossy, void)
-READS(dethrux_u16_to_utf8_partial, dethrux_to_utf8_partial, void)
-READS(dethrux_u16_to_wtf8, dethrux_to_wtf8, void)
-READS(dethrux_u16_to_wtf8_partial, dethrux_to_wtf8_partial, void)
-READS(dethrux_u16_to_latin1, dethrux_to_latin1, void)
-READS(dethrux_u16_to_utf32, dethrux_to_utf32, uint32_t)
-READS(dethrux_u16_to_utf32_lossy, dethrux_to_utf32_lossy, uint32_t)
-DECODES(dethrux_u16_decoder_feed, dethrux_decoder_feed)
-DECODES(dethrux_u16_wtf8_decoder_feed, dethrux_wtf8_decoder_feed)
-static const call reading[] = {NAMED(dethrux_u16_to_utf8), NAMED(dethrux_u16_to_utf8_lossy),
-    NAMED(dethrux_u16_to_utf8_partial), NAMED(dethrux_u16_to_wtf8),
-    NAMED(dethrux_u16_to_wtf8_partial), NAMED(dethrux_u16_to_latin1), NAMED(dethrux_u16_to_utf32),
-    NAMED(dethrux_u16_to_utf32_lossy), NAMED(dethrux_u16_decoder_feed),
-    NAMED(dethrux_u16_wtf8_decoder_feed)};
-
-WRITES(dethrux_u16_from_utf8, dethrux_from_utf8, void)
-WRITES(dethrux_u16_from_utf8_lossy, dethrux_from_utf8_lossy, void)
-WRITES(dethrux_u16_from_wtf8, dethrux_from_wtf8, void)
-WRITES(dethrux_u16_from_wtf8_partial, dethrux_from_wtf8_partial, void)
-WRITES(dethrux_u16_from_latin1, dethrux_from_latin1, void)
-ENCODES(dethrux_u16_encoder_feed, dethrux_encoder_feed, encoder)
-ENCODES(dethrux_u16_wtf8_encoder_feed, dethrux_wtf8_encoder_feed, wtf8_encoder)
-FINISHES(dethrux_u16_encoder_finish, dethrux_encoder_finish, encoder)
-FINISHES(dethrux_u16_wtf8_encoder_finish, dethrux_wtf8_encoder_finish, wtf8_encoder)
-static const call writing[] = {NAMED(dethrux_u16_from_utf8), NAMED(dethrux_u16_from_utf8_lossy),
-    NAMED(dethrux_u16_from_wtf8), NAMED(dethrux_u16_from_wtf8_partial),
-    NAMED(dethrux_u16_from_latin1), NAMED(dethrux_u16_encoder_feed),
-    NAMED(dethrux_u16_wtf8_encoder_feed), NAMED(dethrux_u16_encoder_finish),
-    NAMED(dethrux_u16_wtf8_encoder_finish)};
-
-WRITES(dethrux_u16_from_utf32, dethrux_from_utf32, uint32_t)
-WRITES(dethrux_u16_from_utf32_lossy, dethrux_from_utf32_lossy, uint32_t)
-static const call writing_utf32[] = {NAMED(dethrux_u16_from_utf32),
-    NAMED(dethrux_u16_from_utf32_lossy)};
-
-/* Whether both calls do the same, into buffers of each capacity up to `most`, and if a stream has
- * pending bytes: of UTF-16 a code unit. */
-static bool agree(const call *by, const void *from, size_t len, size_t most, size_t read) {
-    const size_t written = 3 - read;
-    bool is = true;
+/* Into buffers of each capacity up to `most`, and if a stream has pending bytes: of UTF-16 a code
+ * unit. */
+static void convert_all(const char *of, form form, const void *from, size_t len, size_t most) {
     for (size_t i = 0; i <= most * 4; i++) {
-        size_t capacity = i / 4;
-        uint32_t to[2][ROOM];
-        begin((uint8_t)(read == 2 ? i % 2 * 2 : i % 4));
-        memset(to, BLANK, sizeof to);
-        void *at = capacity == 0 ? NULL : to[0];
-        dethrux_progress found = by->units(from, len, at, capacity);
-        dethrux_progress bytes = by->bytes(from, len * read, to[1], capacity * written);
-        is = is && is_same(found, bytes, read, written)
-             && memcmp(to[0], to[1], sizeof to[0]) == 0
-             && memcmp(&states[0], &states[1], sizeof states[0]) == 0;
-    }
-    return is;
-}
-
-static void read_units(const text *from) {
-    for (size_t i = 0; i < sizeof reading / sizeof *reading; i++) {
-        check(reading[i].name, from->name,
-            agree(&reading[i], units_of(from), from->len, from->len * 3 + 3, 2));
+        convert(of, form, from, len, i / 4, (uint8_t)(form == UTF16 ? i % 2 * 2 : i % 4));
     }
 }
 
@@ -270,18 +235,11 @@ enum { POINTS = sizeof points / sizeof *points };
 static void write_units(void) {
     for (size_t i = 0; i < sizeof bytes8 / sizeof *bytes8; i++) {
         size_t len = strlen(bytes8[i]);
-        const char *from = len == 0 ? NULL : bytes8[i];
-        for (size_t j = 0; j < sizeof writing / sizeof *writing; j++) {
-            check(writing[j].name, bytes8[i], agree(&writing[j], from, len, len + 3, 1));
-        }
+        convert_all(bytes8[i], BYTES, len == 0 ? NULL : bytes8[i], len, len + 3);
     }
     for (size_t len = 0; len <= POINTS; len++) {
-        const uint32_t *from = len == 0 ? NULL : points;
-        for (size_t j = 0; j < sizeof writing_utf32 / sizeof *writing_utf32; j++) {
-            check(writing_utf32[j].name, "code points",
-                agree(&writing_utf32[j], from, len, len * 2 + 1, 1)
-                    && agree(&writing_utf32[j], points + len, POINTS - len, 2 * POINTS, 1));
-        }
+        convert_all("code points", UTF32, len == 0 ? NULL : points, len, len * 2 + 1);
+        convert_all("code points", UTF32, points + len, POINTS - len, 2 * POINTS);
     }
 }
 
@@ -355,7 +313,7 @@ int main(void) {
         look(&texts[i]);
         cut(&texts[i]);
         change(&texts[i]);
-        read_units(&texts[i]);
+        convert_all(texts[i].name, UTF16, units_of(&texts[i]), texts[i].len, texts[i].len * 3 + 3);
         compare_and_search(&texts[i]);
     }
     write_units();
