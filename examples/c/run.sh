@@ -170,6 +170,34 @@ write_ignored() {
         echo '}'; } > "$2/ignored.c"
 }
 
+# The functions of dethrux.hpp that return a result, and the functions of its classes that return an
+# error, each with its parameters.
+functions_in_cxx() {
+    local header=$top/dist/include/dethrux.hpp
+    sed '/^namespace detail {/,/^} \/\/ namespace detail/d' "$header" | sed -zE 's/\n +/ /g' |
+        sed -nE '/^(inline )?void |^std::size_t make_well_formed/d
+            s/^[a-z[][^:({]*(::[^({]*)? (\w+)\(([^{]*)\) (noexcept )?\{.*/dethrux::\2(\3)/p'
+    sed -nE '/^class /{s/^class (\w+).*/\1/;h}
+        /^ .* (feed|finish)\(/{/void/d;s/.* (\w+\(.*\)) \{/\1/;G;s/(.*)\n(.*)/dethrux::\2(by).\1/p}' \
+        "$header"
+}
+
+# Writes a program in C++ that ignores each of these results, with arguments by the types of the
+# parameters, into a folder.
+write_ignored_in_cxx() {
+    local parameters='dethrux::byte_order by, dethrux::bytes bytes, dethrux::units units,'
+    parameters+=' dethrux::points points, std::wstring_view wide, std::string &to,'
+    parameters+=' std::u16string &wide_to'
+    mkdir -p "$1"
+    { printf '#include "dethrux.hpp"\nvoid ignore(%s);\nvoid ignore(%s) {\n' "$parameters" "$parameters"
+        functions_in_cxx | sed -E 's/\( /(/; s/byte_order \w+/by/g; s/(bytes|chars) \w+/bytes/g
+            s/(utf16|units) \w+/units/g; s/points \w+/points/; s/std::wstring_view //
+            s/std::(size_t|uint64_t) \w+/0/g; s/const Unit .*]/u""/; s/(String|Out) &&?//
+            /_utf16.*\(bytes/s/\bto\b/wide_to/; s/.*/    &;/'
+        echo '}'; } > "$1/ignored.cpp"
+    [ "$(grep -c '^    dethrux::' "$1/ignored.cpp")" -gt 70 ]
+}
+
 # Compiles a file of this folder with sanitizers, and runs a command if that passes.
 sanitized() {
     "$1" -std=c99 -O0 -g "-fsanitize=$2" -w "-I$top/dist/include" "-I$room" "$here/$3.c" "$archive" \
@@ -440,10 +468,11 @@ test_alloc() {
 test_cxx() {
     local compiler standard
     count 'no casts in C++' casts_nothing
-    count 'ignored results in C++' warns "$top/examples/cpp/ignored.cpp" c++ -std=c++17
+    count 'a program that ignores results in C++' write_ignored_in_cxx "$room/cxx_calls"
+    count 'ignored results in C++' warns "$room/cxx_calls/ignored.cpp" c++ -std=c++17
     count 'the first program in C++' in_cxx c++ c++17 first && count 'the page for C++' prints_page cpp_first CPP
     count 'two files in C++' in_two_files c++ -std=c++17 -include dethrux.hpp \
-        "$top"/examples/cpp/{first,ignored}.cpp
+        "$top/examples/cpp/first.cpp" "$room/cxx_calls/ignored.cpp"
     count 'calls that are refused in C++' refuses_in_cxx
     for compiler in "${compilers[@]}"; do
         has "$compiler" "C++ by $compiler" || continue
