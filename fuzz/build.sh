@@ -30,13 +30,9 @@ mkdir -p "$made"
 if [ "${COUNTS:-yes}" = no ]; then
     counts=(-DWITHOUT_COUNTS)
 else
-    counts=("-I$made" counts.c)
-    "$compiler" -fsyntax-only -aux-info "$made/prototypes" -x c ../dist/include/dethrux.h
-    # Nothing goes into dethrux_kernel, and the crate does not have it.
-    calls=$(sed -nE '/_kernel /d; s/.*dethrux\.h:.* extern .*[ *](dethrux_[a-z0-9_]+) \(.*/\1/p' \
-        "$made/prototypes" | sort)
-    [ -n "$calls" ] || refuse 'the header has no functions'
-    sed 's/.*/COUNTED(&)/' <<< "$calls" > "$made/calls.inc"
+    counts=(-I../dist/src counts.c)
+    calls=$(sed -nE 's/.*[(, ](dethrux_\w+), \(.*/\1/p' ../dist/src/calls.inc)
+    [ -n "$calls" ] || refuse 'dist/src/calls.inc has no calls'
     for call in $calls; do
         counts+=("-Wl,--wrap=$call")
     done

@@ -17,7 +17,7 @@ enum { GLIBC_FORM_MAX = 6 };
 static const size_t NO_OUTPUT = SIZE_MAX;
 
 static input in;
-static decoded from_utf16, from_utf8, to_utf32, from_utf32;
+static decoded from_utf16, from_utf8, to_utf32, from_utf32, to_latin1, from_latin1;
 /* All code units in WTF-8, those of a chunk, and WTF-8 in UTF-16. */
 static decoded to_wtf8, chunk_to_wtf8, from_wtf8;
 
@@ -39,6 +39,8 @@ void checks_begin(const input *next) {
     decode_utf16(in.order, in.text, in.len, &from_utf16);
     decode_utf8(in.order, in.text, in.len, &from_utf8);
     decoded_as_utf32(&from_utf16, &to_utf32);
+    decoded_as_latin1(&from_utf16, &to_latin1);
+    decode_latin1(in.order, in.text, in.len, &from_latin1);
     decode_to_wtf8(in.order, in.text, in.len, false, &to_wtf8);
     decode_to_wtf8(in.order, in.text, in.len, true, &chunk_to_wtf8);
     decode_wtf8(in.order, in.text, in.len, &from_wtf8);
@@ -119,10 +121,23 @@ static place place_count_of_both(size_t len, size_t capacity) {
     return place_count(len < capacity ? len : capacity);
 }
 
-static const uint8_t *input_at(place at) {
+/* The text after this many of its bytes. */
+static const uint8_t *rest_at(size_t read, place at) {
     situation.at = at;
     situation.capacity = NO_OUTPUT;
-    return guarded_input(0, in.text, in.len, at);
+    return guarded_input(0, in.text + read, in.len - read, at);
+}
+
+static const uint8_t *input_at(place at) {
+    return rest_at(0, at);
+}
+
+/* UTF-32 after this many of its code units. */
+static const uint32_t *utf32_rest_at(size_t read, place at) {
+    situation.at = at;
+    situation.capacity = NO_OUTPUT;
+    const uint8_t *bytes = (const uint8_t *)(utf32 + read);
+    return (const uint32_t *)guarded_input(0, bytes, 4 * (utf32_len - read), at);
 }
 
 static uint8_t *output_at(size_t capacity, place at) {
@@ -137,63 +152,94 @@ static void expect_text(const uint8_t *to, const uint8_t *want, size_t len) {
     expect_that("nothing is written outside of `to`", guarded_intact(len, false));
 }
 
-static const uint32_t *utf32_at(place at) {
-    situation.at = at;
-    situation.capacity = NO_OUTPUT;
-    return (const uint32_t *)guarded_input(0, (const uint8_t *)utf32, 4 * utf32_len, at);
-}
+/* Defines a check that is one line. */
+#define CHECK(name, line) \
+    static void check_##name(void) { \
+        line; \
+    }
 
 /* A number that a call returns for the text. */
 
 typedef size_t number_of_utf16(dethrux_byte_order order, const void *utf16, size_t len);
-typedef size_t number_of_utf8(const void *utf8, size_t len);
+typedef size_t number_of_bytes(const void *bytes, size_t len);
 
-static void check_number_of_utf16(const char *what, number_of_utf16 *call, size_t want) {
+static void expect_number_of_utf16(number_of_utf16 *call, size_t want) {
     for (place at = AT_START; at < place_count(in.len); at++) {
-        expect(what, call(in.order, input_at(at), in.len), want);
+        expect("number", call(in.order, input_at(at), in.len), want);
     }
 }
 
-static void check_number_of_utf8(const char *what, number_of_utf8 *call, size_t want) {
+static void expect_number_of_bytes(number_of_bytes *call, size_t want) {
     for (place at = AT_START; at < place_count(in.len); at++) {
-        expect(what, call(input_at(at), in.len), want);
+        expect("number", call(input_at(at), in.len), want);
+    }
+}
+
+/* The characters of UTF-16 (the header says how they are counted in ill-formed input). */
+static size_t chars_of_utf16(void) {
+    size_t count = 0;
+    for (size_t at = 0; at + 2 <= in.len; at += 2) {
+        count += !is_trailing(unit_at(in.order, in.text, at));
+    }
+    return count;
+}
+
+/* The items that U+FFFD replaces, which are not the characters U+FFFD. */
+static size_t replaced_items(const decoded *text) {
+    size_t count = 0;
+    for (size_t i = 0; i < text->item_count; i++) {
+        count += text->items[i].kind != CHARACTER;
+    }
+    return count;
+}
+
+/* The length of what a strict conversion writes. */
+static size_t strict_len(const decoded *text) {
+    return expected_progress(text, STRICT, text->out_len).written;
+}
+
+#define NUMBER(name, of, want) CHECK(name, expect_number_of_##of(dethrux_##name, want))
+NUMBER(count_chars, utf16, chars_of_utf16())
+NUMBER(to_utf8_lossy_len, utf16, from_utf16.out_len)
+NUMBER(to_utf8_replacements, utf16, replaced_items(&from_utf16))
+NUMBER(to_utf32_lossy_len, utf16, to_utf32.out_len)
+NUMBER(to_wtf8_len, utf16, to_wtf8.out_len)
+NUMBER(from_utf8_len, bytes, strict_len(&from_utf8))
+NUMBER(from_utf8_lossy_len, bytes, from_utf8.out_len)
+NUMBER(from_utf8_replacements, bytes, replaced_items(&from_utf8))
+NUMBER(from_wtf8_len, bytes, strict_len(&from_wtf8))
+
+static void check_from_utf32_lossy_len(void) {
+    for (place at = AT_START; at < place_count(utf32_len); at++) {
+        size_t got = dethrux_from_utf32_lossy_len(utf32_rest_at(0, at), utf32_len);
+        expect("length", got, from_utf32.out_len);
     }
 }
 
 /* The conversions between buffers. */
 
-/* Defines a kind of calls, which read `from_len` units at a `From *` and write units of `size` bytes
- * to a `To *`: how one is called with a capacity in units, and its check, with a capacity of
- * `enough`, which suffices, and with other ones. */
-#define CONVERSIONS(kind, check, From, from_at, from_len, To, size) \
-    typedef dethrux_progress kind##_call(dethrux_byte_order order, const From *from, size_t len, \
-                                         To *to, size_t capacity); \
-    static dethrux_progress kind(kind##_call *call, const decoded *text, conversion_mode mode, \
-                                 size_t capacity) { \
-        dethrux_progress want = expected_progress(text, mode, capacity); \
-        for (place at = AT_START; at < place_count_of_both(from_len, capacity); at++) { \
-            const From *from = from_at(at); \
-            uint8_t *to = output_at(size * capacity, at); \
-            dethrux_progress got = call(in.order, from, from_len, (To *)to, capacity); \
-            expect_progress(got, want); \
-            expect_text(to, text->out, size * got.written); \
-        } \
-        return want; \
-    } \
-    static void check(kind##_call *call, const decoded *text, conversion_mode mode, \
-                      size_t enough) { \
-        expect_that("the capacity suffices", \
-                    kind(call, text, mode, enough).status != DETHRUX_NO_SPACE); \
-        kind(call, text, mode, 0); \
-        kind(call, text, mode, text->out_len); \
-        kind(call, text, mode, in.capacity % (text->out_len + 8)); \
-        if (text->out_len > 0) { \
-            kind(call, text, mode, text->out_len - 1); \
-        } \
+/* Returns whether the last item before an offset is a leading surrogate. */
+static bool is_after_leading(size_t offset) {
+    uint32_t last = 0;
+    for (size_t i = 0, at = 0; at < offset; at += from_wtf8.items[i++].len) {
+        last = from_wtf8.items[i].scalar;
     }
-CONVERSIONS(convert, check_conversion, void, input_at, in.len, void, 1)
-CONVERSIONS(widen, check_widening, void, input_at, in.len, uint32_t, 4)
-CONVERSIONS(narrow, check_narrowing, uint32_t, utf32_at, utf32_len, void, 1)
+    return is_leading(last);
+}
+
+/* What a conversion returns for all of the input. The one of a chunk of WTF-8 needs space for what
+ * it does not read, a leading surrogate at the end. */
+static dethrux_progress wanted(const decoded *text, conversion_mode mode, size_t capacity) {
+    if (text != &from_wtf8 || mode != PARTIAL) {
+        return expected_progress(text, mode, capacity);
+    }
+    dethrux_progress want = expected_progress(&from_wtf8, STRICT, capacity);
+    bool ends = want.status == DETHRUX_DONE || want.status == DETHRUX_INCOMPLETE;
+    if (ends && is_after_leading(want.read)) {
+        want = (dethrux_progress){want.read - 3, want.written - 2, DETHRUX_INCOMPLETE, 0};
+    }
+    return want;
+}
 
 /* With DETHRUX_NO_SPACE fewer than 4 bytes are left. */
 static void expect_full(const dethrux_progress *got, size_t capacity) {
@@ -202,134 +248,115 @@ static void expect_full(const dethrux_progress *got, size_t capacity) {
     }
 }
 
-/* With DETHRUX_NO_SPACE a call with the rest continues: all together write the whole text. */
-static void check_resumed(convert_call *call, const decoded *text) {
-    size_t capacity = 4 + in.capacity % 64, read = 0, written = 0;
-    dethrux_progress got = {0, 0, DETHRUX_NO_SPACE, 0};
-    while (got.status == DETHRUX_NO_SPACE) {
-        const uint8_t *from = guarded_input(0, in.text + read, in.len - read, AT_END);
-        uint8_t *to = output_at(capacity, AT_END);
-        got = call(in.order, from, in.len - read, to, capacity);
-        expect_text(to, text->out + written, got.written);
-        read += got.read;
-        written += got.written;
-        expect_full(&got, capacity);
+/* Few bytes are left for the next chunk. */
+static void expect_few(const decoded *text, size_t unread) {
+    expect_that("few bytes are unread",
+                unread <= (text == &from_wtf8 ? DETHRUX_WTF8_PENDING_MAX : DETHRUX_PENDING_MAX));
+}
+
+/* Only the conversions of Latin-1 write nothing after the text. */
+static void expect_rest(const decoded *text, size_t written) {
+    if (text == &to_latin1 || text == &from_latin1) {
+        expect_that("the rest of `to` stays", guarded_intact(written, true));
     }
-    dethrux_progress want = {got.read, got.written, DETHRUX_DONE, 0};
-    expect_progress(got, want);
-    expect("read in all", read, in.len);
-    expect("written in all", written, text->out_len);
 }
 
-static void check_to_utf8(void) {
-    check_conversion(dethrux_to_utf8, &from_utf16, STRICT, in.len / 2 * 3);
+/* Defines the checks of a kind of calls, which read `from_len` elements at a `From *` and write
+ * elements of `size` bytes to a `To *`: of one call with a capacity in elements; of several calls,
+ * which together write the whole text, since after DETHRUX_NO_SPACE a call with the rest continues;
+ * and with a capacity of `enough`, which suffices, and with other ones. */
+#define CONVERSIONS(kind, From, from_at, from_len, To, size) \
+    typedef dethrux_progress kind##_call(dethrux_byte_order order, const From *from, size_t len, \
+                                         To *to, size_t capacity); \
+    static dethrux_progress kind##_once(kind##_call *call, const decoded *text, \
+                                        conversion_mode mode, size_t capacity) { \
+        dethrux_progress want = wanted(text, mode, capacity); \
+        for (place at = AT_START; at < place_count_of_both(from_len, capacity); at++) { \
+            const From *from = from_at(0, at); \
+            uint8_t *to = output_at(size * capacity, at); \
+            dethrux_progress got = call(in.order, from, from_len, (To *)to, capacity); \
+            expect_progress(got, want); \
+            expect_text(to, text->out, size * got.written); \
+            expect_rest(text, size * got.written); \
+            expect_full(&got, capacity); \
+        } \
+        return want; \
+    } \
+    static void kind##_resumed(kind##_call *call, const decoded *text) { \
+        size_t capacity = 4 + in.capacity % 64, read = 0, written = 0; \
+        dethrux_progress got = {0, 0, DETHRUX_NO_SPACE, 0}; \
+        while (got.status == DETHRUX_NO_SPACE) { \
+            const From *from = from_at(read, AT_END); \
+            uint8_t *to = output_at(size * capacity, AT_END); \
+            got = call(in.order, from, from_len - read, (To *)to, capacity); \
+            expect_text(to, text->out + size * written, size * got.written); \
+            read += got.read; \
+            written += got.written; \
+            expect_full(&got, capacity); \
+        } \
+        expect_progress(got, (dethrux_progress){got.read, got.written, DETHRUX_DONE, 0}); \
+        expect("read in all", read, from_len); \
+        expect("written in all", written, text->out_len); \
+    } \
+    static void kind(kind##_call *call, const decoded *text, conversion_mode mode, \
+                     size_t enough) { \
+        dethrux_progress want = kind##_once(call, text, mode, enough); \
+        expect_that("the capacity suffices", want.status != DETHRUX_NO_SPACE); \
+        if (want.status == DETHRUX_DONE) { \
+            kind##_resumed(call, text); \
+        } else if (mode == PARTIAL && want.status == DETHRUX_INCOMPLETE) { \
+            expect_few(text, from_len - want.read); \
+        } \
+        kind##_once(call, text, mode, 0); \
+        kind##_once(call, text, mode, text->out_len); \
+        kind##_once(call, text, mode, in.capacity % (text->out_len + 8)); \
+        if (text->out_len > 0) { \
+            kind##_once(call, text, mode, text->out_len - 1); \
+        } \
+    }
+CONVERSIONS(convert, void, rest_at, in.len, void, 1)
+CONVERSIONS(widen, void, rest_at, in.len, uint32_t, 4)
+CONVERSIONS(narrow, uint32_t, utf32_rest_at, utf32_len, void, 1)
+
+/* The check of each conversion, by where it leads: how it is called, with which text it is compared
+ * in a mode, and the capacity that suffices. */
+#define CONVERSION(name, way, mode) CHECK(name, CHECK_##way(dethrux_##name, mode))
+#define CHECK_TO_UTF8(call, mode) \
+    convert(call, &from_utf16, mode, mode == LOSSY ? DETHRUX_UTF8_MAX(in.len) : in.len / 2 * 3)
+#define CHECK_FROM_UTF8(call, mode) convert(call, &from_utf8, mode, DETHRUX_UTF16_MAX(in.len))
+#define CHECK_TO_WTF8(call, mode) \
+    convert(call, mode == PARTIAL ? &chunk_to_wtf8 : &to_wtf8, mode, DETHRUX_WTF8_MAX(in.len))
+#define CHECK_FROM_WTF8(call, mode) convert(call, &from_wtf8, mode, DETHRUX_UTF16_MAX(in.len))
+#define CHECK_TO_UTF32(call, mode) \
+    widen(call, &to_utf32, mode, mode == LOSSY ? DETHRUX_UTF32_MAX(in.len) : in.len / 2)
+#define CHECK_FROM_UTF32(call, mode) \
+    narrow(call, &from_utf32, mode, DETHRUX_FROM_UTF32_MAX(utf32_len))
+#define CHECK_TO_LATIN1(call, mode) convert(call, &to_latin1, mode, in.len / 2)
+#define CHECK_FROM_LATIN1(call, mode) convert(call, &from_latin1, mode, DETHRUX_UTF16_MAX(in.len))
+#define STREAM(name, step, state)
+#define QUESTION(name, kind)
+#define CALL(name, shape, kind)
+#include "../dist/src/shapes.inc"
+
+/* The longest well-formed prefix. */
+
+static void expect_validity(dethrux_validity got, const decoded *text) {
+    dethrux_progress want = expected_progress(text, STRICT, text->out_len);
+    expect("valid_up_to", got.valid_up_to, want.read);
+    expect("status", got.status, want.status);
+    expect("error_len", got.error_len, want.error_len);
 }
 
-static void check_to_utf8_lossy(void) {
-    check_conversion(dethrux_to_utf8_lossy, &from_utf16, LOSSY, DETHRUX_UTF8_MAX(in.len));
-    check_resumed(dethrux_to_utf8_lossy, &from_utf16);
-}
-
-static void check_from_utf8(void) {
-    check_conversion(dethrux_from_utf8, &from_utf8, STRICT, DETHRUX_UTF16_MAX(in.len));
-}
-
-static void check_from_utf8_lossy(void) {
-    check_conversion(dethrux_from_utf8_lossy, &from_utf8, LOSSY, DETHRUX_UTF16_MAX(in.len));
-    check_resumed(dethrux_from_utf8_lossy, &from_utf8);
-}
-
-/* UTF-32 and Latin-1. */
-
-static void check_to_utf32(void) {
-    check_widening(dethrux_to_utf32, &to_utf32, STRICT, in.len / 2);
-}
-
-static void check_to_utf32_lossy(void) {
-    check_widening(dethrux_to_utf32_lossy, &to_utf32, LOSSY, DETHRUX_UTF32_MAX(in.len));
-}
-
-static void check_to_utf32_lossy_len(void) {
-    check_number_of_utf16("length", dethrux_to_utf32_lossy_len, to_utf32.out_len);
-}
-
-static void check_from_utf32(void) {
-    check_narrowing(dethrux_from_utf32, &from_utf32, STRICT, DETHRUX_FROM_UTF32_MAX(utf32_len));
-}
-
-static void check_from_utf32_lossy(void) {
-    check_narrowing(dethrux_from_utf32_lossy, &from_utf32, LOSSY,
-                    DETHRUX_FROM_UTF32_MAX(utf32_len));
-}
-
-static void check_from_utf32_lossy_len(void) {
-    for (place at = AT_START; at < place_count(utf32_len); at++) {
-        expect("length", dethrux_from_utf32_lossy_len(utf32_at(at), utf32_len), from_utf32.out_len);
+static void check_validate(void) {
+    for (place at = AT_START; at < place_count(in.len); at++) {
+        expect_validity(dethrux_validate(in.order, input_at(at), in.len), &from_utf16);
     }
 }
 
 static void check_validate_utf32(void) {
-    dethrux_progress want = expected_progress(&from_utf32, STRICT, from_utf32.out_len);
     for (place at = AT_START; at < place_count(utf32_len); at++) {
-        dethrux_validity got = dethrux_validate_utf32(utf32_at(at), utf32_len);
-        expect("valid_up_to", got.valid_up_to, want.read);
-        expect("status", got.status, want.status);
-        expect("error_len", got.error_len, want.error_len);
-    }
-}
-
-/* What a call to Latin-1 returns: it stops before what is ill formed, before a character above
- * U+00FF, or when `to` is full. */
-static dethrux_progress latin1_progress(size_t capacity, uint8_t *latin1) {
-    dethrux_progress progress = {0, 0, DETHRUX_DONE, 0};
-    for (size_t i = 0; i < from_utf16.item_count; i++) {
-        const item *next = &from_utf16.items[i];
-        if (next->kind != CHARACTER) {
-            progress.status = next->kind == ILL_FORMED ? DETHRUX_ILL_FORMED : DETHRUX_INCOMPLETE;
-            progress.error_len = next->kind == ILL_FORMED ? 2 : 0;
-            break;
-        }
-        if (next->scalar > 0xFF || progress.written == capacity) {
-            progress.status = next->scalar > 0xFF ? DETHRUX_NOT_LATIN1 : DETHRUX_NO_SPACE;
-            break;
-        }
-        latin1[progress.written++] = (uint8_t)next->scalar;
-        progress.read += 2;
-    }
-    return progress;
-}
-
-static void check_to_latin1(void) {
-    static uint8_t latin1[TEXT_MAX];
-    const size_t capacities[] = {in.len / 2, 0, in.capacity % (in.len + 8)};
-    for (size_t i = 0; i < 3; i++) {
-        dethrux_progress want = latin1_progress(capacities[i], latin1);
-        for (place at = AT_START; at < place_count_of_both(in.len, capacities[i]); at++) {
-            const uint8_t *from = input_at(at);
-            uint8_t *to = output_at(capacities[i], at);
-            expect_progress(dethrux_to_latin1(in.order, from, in.len, to, capacities[i]), want);
-            expect_text(to, latin1, want.written);
-            expect_that("the rest of `to` stays", guarded_intact(want.written, true));
-        }
-    }
-}
-
-static void check_from_latin1(void) {
-    static uint8_t utf16[2 * TEXT_MAX];
-    const size_t capacities[] = {DETHRUX_UTF16_MAX(in.len), 0, in.capacity % (2 * in.len + 8)};
-    for (size_t i = 0; i < in.len; i++) {
-        encode_unit(in.order, in.text[i], utf16 + 2 * i);
-    }
-    for (size_t i = 0; i < 3; i++) {
-        size_t most = capacities[i] / 2 < in.len ? capacities[i] / 2 : in.len;
-        dethrux_progress want = {most, 2 * most, most < in.len ? DETHRUX_NO_SPACE : DETHRUX_DONE, 0};
-        for (place at = AT_START; at < place_count_of_both(in.len, capacities[i]); at++) {
-            const uint8_t *from = input_at(at);
-            uint8_t *to = output_at(capacities[i], at);
-            expect_progress(dethrux_from_latin1(in.order, from, in.len, to, capacities[i]), want);
-            expect_text(to, utf16, want.written);
-            expect_that("the rest of `to` stays", guarded_intact(want.written, true));
-        }
+        const uint32_t *from = utf32_rest_at(0, at);
+        expect_validity(dethrux_validate_utf32(from, utf32_len), &from_utf32);
     }
 }
 
@@ -341,10 +368,8 @@ static void check_inspect(void) {
     }
     for (place at = AT_START; at < place_count(in.len); at++) {
         dethrux_inspection got = dethrux_inspect(in.order, input_at(at), in.len);
-        expect("valid_up_to", got.valid_up_to, want.read);
+        expect_validity((dethrux_validity){got.valid_up_to, got.status, got.error_len}, &to_utf32);
         expect("chars", got.chars, want.written);
-        expect("status", got.status, want.status);
-        expect("error_len", got.error_len, want.error_len);
         expect("repertoire", got.repertoire,
                most < 0x80      ? DETHRUX_ASCII
                : most < 0x100   ? DETHRUX_LATIN1
@@ -368,10 +393,6 @@ static size_t chunk_len(size_t number, size_t rest) {
 static void expect_written(const decoded *text, size_t before, const uint8_t *to, size_t len) {
     expect_that("no more than the text is written", before + len <= text->out_len);
     expect_text(to, text->out + before, len);
-}
-
-static void check_to_utf8_partial(void) {
-    check_conversion(dethrux_to_utf8_partial, &from_utf16, PARTIAL, in.len / 2 * 3);
 }
 
 typedef dethrux_progress feed_call(dethrux_decoder *decoder, dethrux_byte_order order,
@@ -512,23 +533,31 @@ static void check_feed(const decoder_calls *calls) {
     check_stream(calls);
 }
 
-static void check_finish(const decoder_calls *calls) {
-    uint8_t replacement[3];
-    bool pending = in.decoder.pending_len > 0;
-    encode_utf8(REPLACEMENT, replacement);
-    if (calls == &UTF8_DECODER) {
-        encode_utf16(in.order, REPLACEMENT, replacement);
+/* What the end of the stream writes: U+FFFD if bytes are pending, and in WTF-8 a code unit. */
+static size_t end_of(const decoder_calls *calls, uint8_t *to) {
+    size_t pending = pending_len(&in.decoder);
+    if (calls == &WTF8_DECODER) {
+        return pending >= 2 ? encode_utf8(unit_at(in.order, in.decoder.pending, 0), to) : 0;
     }
+    size_t len = calls == &UTF8_DECODER ? encode_utf16(in.order, REPLACEMENT, to)
+                                        : encode_utf8(REPLACEMENT, to);
+    return pending > 0 ? len : 0;
+}
+
+/* In any state, the end is written if it fits. In WTF-8 an odd byte is left out. */
+static void check_finish(const decoder_calls *calls) {
+    uint8_t end[4];
+    size_t len = end_of(calls, end);
+    bool is_cut = calls == &WTF8_DECODER && pending_len(&in.decoder) % 2 == 1;
     for (size_t capacity = 0; capacity <= calls->finish_max + 1; capacity++) {
         for (place at = AT_START; at < place_count(capacity); at++) {
             dethrux_decoder decoder = in.decoder;
             uint8_t *to = output_at(capacity, at);
-            bool fits = !pending || capacity >= calls->finish_max;
             dethrux_progress got = calls->finish(&decoder, in.order, to, capacity);
-            dethrux_progress want = {0, pending && fits ? calls->finish_max : 0,
-                                     fits ? DETHRUX_DONE : DETHRUX_NO_SPACE, 0};
-            expect_progress(got, want);
-            expect_bytes("text", to, replacement, got.written);
+            dethrux_progress want = {0, len, is_cut ? DETHRUX_INCOMPLETE : DETHRUX_DONE, 0};
+            bool fits = len <= capacity;
+            expect_progress(got, fits ? want : (dethrux_progress){0, 0, DETHRUX_NO_SPACE, 0});
+            expect_bytes("text", to, end, got.written);
             expect_that("the rest of `to` stays", guarded_intact(got.written, true));
             expect("the decoder begins a new stream", decoder.pending_len,
                    fits ? 0 : in.decoder.pending_len);
@@ -539,116 +568,7 @@ static void check_finish(const decoder_calls *calls) {
     }
 }
 
-static void check_decoder_feed(void) {
-    check_feed(&UTF16_DECODER);
-}
-
-static void check_decoder_finish(void) {
-    check_finish(&UTF16_DECODER);
-}
-
-static void check_encoder_feed(void) {
-    check_feed(&UTF8_DECODER);
-}
-
-static void check_encoder_finish(void) {
-    check_finish(&UTF8_DECODER);
-}
-
 /* WTF-8. */
-
-static void check_to_wtf8(void) {
-    check_conversion(dethrux_to_wtf8, &to_wtf8, STRICT, DETHRUX_WTF8_MAX(in.len));
-    if (in.len % 2 == 0) {
-        check_resumed(dethrux_to_wtf8, &to_wtf8);
-    }
-}
-
-static void check_to_wtf8_len(void) {
-    check_number_of_utf16("length", dethrux_to_wtf8_len, to_wtf8.out_len);
-}
-
-static void check_to_wtf8_partial(void) {
-    check_conversion(dethrux_to_wtf8_partial, &chunk_to_wtf8, PARTIAL, DETHRUX_WTF8_MAX(in.len));
-}
-
-static void check_wtf8_decoder_feed(void) {
-    check_feed(&WTF8_DECODER);
-}
-
-/* A pending code unit is written, in any state, and an odd byte is left out. */
-static void check_wtf8_decoder_finish(void) {
-    uint8_t wtf8[3];
-    size_t pending = pending_len(&in.decoder);
-    size_t len = pending >= 2 ? encode_utf8(unit_at(in.order, in.decoder.pending, 0), wtf8) : 0;
-    for (size_t capacity = 0; capacity <= DETHRUX_DECODER_FINISH_MAX + 1; capacity++) {
-        for (place at = AT_START; at < place_count(capacity); at++) {
-            dethrux_decoder decoder = in.decoder;
-            uint8_t *to = output_at(capacity, at);
-            dethrux_progress got = finish_wtf8(&decoder, in.order, to, capacity);
-            bool fits = len <= capacity;
-            dethrux_progress want = {0, fits ? len : 0, DETHRUX_NO_SPACE, 0};
-            if (fits) {
-                want.status = pending % 2 == 1 ? DETHRUX_INCOMPLETE : DETHRUX_DONE;
-            }
-            expect_progress(got, want);
-            expect_bytes("text", to, wtf8, got.written);
-            expect_that("the rest of `to` stays", guarded_intact(got.written, true));
-            expect("pending_len", decoder.pending_len, fits ? 0 : in.decoder.pending_len);
-            if (!fits) {
-                expect_bytes("pending", decoder.pending, in.decoder.pending, DETHRUX_PENDING_MAX);
-            }
-        }
-    }
-}
-
-static void check_from_wtf8(void) {
-    check_conversion(dethrux_from_wtf8, &from_wtf8, STRICT, DETHRUX_UTF16_MAX(in.len));
-}
-
-static void check_from_wtf8_len(void) {
-    size_t len = expected_progress(&from_wtf8, STRICT, from_wtf8.out_len).written;
-    check_number_of_utf8("length", dethrux_from_wtf8_len, len);
-}
-
-/* Returns whether the last item before an offset is a leading surrogate. */
-static bool is_after_leading(size_t offset) {
-    uint32_t last = 0;
-    for (size_t i = 0, at = 0; at < offset; at += from_wtf8.items[i++].len) {
-        last = from_wtf8.items[i].scalar;
-    }
-    return is_leading(last);
-}
-
-/* What a call for a chunk returns for all of the input. */
-static dethrux_progress wtf8_chunk_progress(size_t capacity) {
-    dethrux_progress want = expected_progress(&from_wtf8, STRICT, capacity);
-    bool ends = want.status == DETHRUX_DONE || want.status == DETHRUX_INCOMPLETE;
-    if (ends && is_after_leading(want.read)) {
-        want = (dethrux_progress){want.read - 3, want.written - 2, DETHRUX_INCOMPLETE, 0};
-    }
-    return want;
-}
-
-static void check_from_wtf8_partial(void) {
-    const size_t capacities[] = {DETHRUX_UTF16_MAX(in.len), 0, from_wtf8.out_len,
-                                 in.capacity % (from_wtf8.out_len + 8),
-                                 from_wtf8.out_len - (from_wtf8.out_len > 0)};
-    for (size_t i = 0; i < sizeof capacities / sizeof capacities[0]; i++) {
-        dethrux_progress want = wtf8_chunk_progress(capacities[i]);
-        for (place at = AT_START; at < place_count_of_both(in.len, capacities[i]); at++) {
-            const uint8_t *from = input_at(at);
-            uint8_t *to = output_at(capacities[i], at);
-            dethrux_progress got =
-                dethrux_from_wtf8_partial(in.order, from, in.len, to, capacities[i]);
-            expect_progress(got, want);
-            expect_text(to, from_wtf8.out, got.written);
-            expect_full(&got, capacities[i]);
-            bool is_few = in.len - got.read <= DETHRUX_WTF8_PENDING_MAX;
-            expect_that("at most 6 bytes are unread", got.status != DETHRUX_INCOMPLETE || is_few);
-        }
-    }
-}
 
 /* Feeds an encoder a chunk, or ends its stream if there is none. */
 static dethrux_progress encode(dethrux_wtf8_encoder *encoder, const uint8_t *chunk, size_t len,
@@ -697,11 +617,20 @@ static void check_wtf8_encoder(size_t number, size_t pending, size_t capacity) {
     expect_progress(all, expected_progress(&from_wtf8, STRICT, from_wtf8.out_len));
 }
 
-static void check_wtf8_encoder_feed(void) {
+static size_t pending_for_wtf8(void) {
     size_t most = in.len < DETHRUX_WTF8_PENDING_MAX ? in.len : DETHRUX_WTF8_PENDING_MAX;
-    check_wtf8_encoder(0, 0, 0);
-    check_wtf8_encoder(1, in.at % (most + 1), 4 + in.capacity % 64);
+    return in.at % (most + 1);
 }
+
+/* The streams of each kind of state. */
+CHECK(decoder_feed, check_feed(&UTF16_DECODER))
+CHECK(decoder_finish, check_finish(&UTF16_DECODER))
+CHECK(encoder_feed, check_feed(&UTF8_DECODER))
+CHECK(encoder_finish, check_finish(&UTF8_DECODER))
+CHECK(wtf8_decoder_feed, check_feed(&WTF8_DECODER))
+CHECK(wtf8_decoder_finish, check_finish(&WTF8_DECODER))
+CHECK(wtf8_encoder_feed, check_wtf8_encoder(0, 0, 0))
+CHECK(wtf8_encoder_finish, check_wtf8_encoder(1, pending_for_wtf8(), 4 + in.capacity % 64))
 
 /* What was written in WTF-8 is the same code units again. */
 static void check_wtf8_and_back(void) {
@@ -715,27 +644,7 @@ static void check_wtf8_and_back(void) {
 
 /* Questions about a text. */
 
-static void check_version(void) {
-    expect("version", dethrux_version(), DETHRUX_VERSION);
-}
-
-static void check_validate(void) {
-    dethrux_progress want = expected_progress(&from_utf16, STRICT, from_utf16.out_len);
-    for (place at = AT_START; at < place_count(in.len); at++) {
-        dethrux_validity got = dethrux_validate(in.order, input_at(at), in.len);
-        expect("valid_up_to", got.valid_up_to, want.read);
-        expect("status", got.status, want.status);
-        expect("error_len", got.error_len, want.error_len);
-    }
-}
-
-static void check_count_chars(void) {
-    size_t count = 0;
-    for (size_t at = 0; at + 2 <= in.len; at += 2) {
-        count += !is_trailing(unit_at(in.order, in.text, at));
-    }
-    check_number_of_utf16("count", dethrux_count_chars, count);
-}
+CHECK(version, expect("version", dethrux_version(), DETHRUX_VERSION))
 
 static void check_is_ascii(void) {
     bool ascii = true;
@@ -745,36 +654,6 @@ static void check_is_ascii(void) {
     for (place at = AT_START; at < place_count(in.len); at++) {
         expect("result", dethrux_is_ascii(in.order, input_at(at), in.len), ascii);
     }
-}
-
-static void check_to_utf8_lossy_len(void) {
-    check_number_of_utf16("length", dethrux_to_utf8_lossy_len, from_utf16.out_len);
-}
-
-static void check_from_utf8_len(void) {
-    size_t len = expected_progress(&from_utf8, STRICT, from_utf8.out_len).written;
-    check_number_of_utf8("length", dethrux_from_utf8_len, len);
-}
-
-static void check_from_utf8_lossy_len(void) {
-    check_number_of_utf8("length", dethrux_from_utf8_lossy_len, from_utf8.out_len);
-}
-
-/* The items that U+FFFD replaces, which are not the characters U+FFFD. */
-static size_t replaced_items(const decoded *text) {
-    size_t count = 0;
-    for (size_t i = 0; i < text->item_count; i++) {
-        count += text->items[i].kind != CHARACTER;
-    }
-    return count;
-}
-
-static void check_to_utf8_replacements(void) {
-    check_number_of_utf16("count", dethrux_to_utf8_replacements, replaced_items(&from_utf16));
-}
-
-static void check_from_utf8_replacements(void) {
-    check_number_of_utf8("count", dethrux_from_utf8_replacements, replaced_items(&from_utf8));
 }
 
 static void check_detect_bom(void) {
@@ -834,17 +713,13 @@ static void check_boundary_at(const uint8_t *utf16, size_t at) {
     expect("result", dethrux_is_char_boundary(in.order, utf16, in.len, at), is_boundary(at));
 }
 
-static void check_is_char_boundary(void) {
-    for_offsets(check_boundary_at);
-}
+CHECK(is_char_boundary, for_offsets(check_boundary_at))
 
 static void check_floor_at(const uint8_t *utf16, size_t at) {
     expect("floor", dethrux_floor_char_boundary(in.order, utf16, in.len, at), floor_boundary(at));
 }
 
-static void check_floor_char_boundary(void) {
-    for_offsets(check_floor_at);
-}
+CHECK(floor_char_boundary, for_offsets(check_floor_at))
 
 /* The bytes around an offset are in memory of their own, so that a read beyond them is found. */
 static void check_floor_around_at(const uint8_t *utf16, size_t at) {
@@ -864,9 +739,7 @@ static void check_floor_around_at(const uint8_t *utf16, size_t at) {
     }
 }
 
-static void check_floor_char_boundary_around(void) {
-    for_offsets(check_floor_around_at);
-}
+CHECK(floor_char_boundary_around, for_offsets(check_floor_around_at))
 
 /* Where each part begins, by adding up the code units of those before it. */
 static void check_shards_of(uint64_t len, uint64_t count) {
@@ -1043,13 +916,8 @@ static void check_search(search *call, reference_search *expected) {
     search_for(call, expected, longer, in.len + 1);
 }
 
-static void check_find(void) {
-    check_search(dethrux_find, find_first);
-}
-
-static void check_rfind(void) {
-    check_search(dethrux_rfind, find_last);
-}
+CHECK(find, check_search(dethrux_find, find_first))
+CHECK(rfind, check_search(dethrux_rfind, find_last))
 
 static size_t first_nul(const uint8_t *utf16, size_t len) {
     for (size_t at = 0; at + 2 <= len; at += 2) {
@@ -1117,11 +985,7 @@ static void check_icu_from_utf32(void) {
 }
 
 static void check_icu_from_latin1(void) {
-    static uint8_t utf16[2 * TEXT_MAX];
-    for (size_t i = 0; i < in.len; i++) {
-        encode_unit(in.order, in.text[i], utf16 + 2 * i);
-    }
-    check_icu(icu_latin1_to_utf16, in.text, in.len, utf16, 2 * in.len);
+    check_icu(icu_latin1_to_utf16, in.text, in.len, from_latin1.out, from_latin1.out_len);
 }
 
 typedef void iconv_call(dethrux_byte_order order, const uint8_t *bytes, size_t len,
@@ -1151,13 +1015,8 @@ static void check_iconv(iconv_call *call, const decoded *text) {
     expect_that("errno agrees", errno_agrees(want.error, got.status, at_end));
 }
 
-static void check_iconv_to_utf8(void) {
-    check_iconv(iconv_utf16_to_utf8, &from_utf16);
-}
-
-static void check_iconv_from_utf8(void) {
-    check_iconv(iconv_utf8_to_utf16, &from_utf8);
-}
+CHECK(iconv_to_utf8, check_iconv(iconv_utf16_to_utf8, &from_utf16))
+CHECK(iconv_from_utf8, check_iconv(iconv_utf8_to_utf16, &from_utf8))
 #endif
 
 const check CHECKS[] = {
@@ -1170,54 +1029,15 @@ const check CHECKS[] = {
     {"iconv, UTF-16 to UTF-8", check_iconv_to_utf8},
     {"iconv, UTF-8 to UTF-16", check_iconv_from_utf8},
 #endif
-    {"dethrux_version", check_version},
-    {"dethrux_validate", check_validate},
-    {"dethrux_count_chars", check_count_chars},
-    {"dethrux_is_ascii", check_is_ascii},
-    {"dethrux_to_utf8_lossy_len", check_to_utf8_lossy_len},
-    {"dethrux_from_utf8_len", check_from_utf8_len},
-    {"dethrux_from_utf8_lossy_len", check_from_utf8_lossy_len},
-    {"dethrux_to_utf8_replacements", check_to_utf8_replacements},
-    {"dethrux_from_utf8_replacements", check_from_utf8_replacements},
-    {"dethrux_to_utf8", check_to_utf8},
-    {"dethrux_to_utf8_lossy", check_to_utf8_lossy},
-    {"dethrux_to_utf8_partial", check_to_utf8_partial},
-    {"dethrux_from_utf8", check_from_utf8},
-    {"dethrux_from_utf8_lossy", check_from_utf8_lossy},
-    {"dethrux_inspect", check_inspect},
-    {"dethrux_to_utf32", check_to_utf32},
-    {"dethrux_to_utf32_lossy", check_to_utf32_lossy},
-    {"dethrux_to_utf32_lossy_len", check_to_utf32_lossy_len},
-    {"dethrux_validate_utf32", check_validate_utf32},
-    {"dethrux_from_utf32", check_from_utf32},
-    {"dethrux_from_utf32_lossy", check_from_utf32_lossy},
-    {"dethrux_from_utf32_lossy_len", check_from_utf32_lossy_len},
-    {"dethrux_to_latin1", check_to_latin1},
-    {"dethrux_from_latin1", check_from_latin1},
-    {"dethrux_decoder_feed", check_decoder_feed},
-    {"dethrux_decoder_finish", check_decoder_finish},
-    {"dethrux_encoder_feed", check_encoder_feed},
-    {"dethrux_encoder_finish", check_encoder_finish},
-    {"dethrux_to_wtf8", check_to_wtf8},
-    {"dethrux_to_wtf8_len", check_to_wtf8_len},
-    {"dethrux_to_wtf8_partial", check_to_wtf8_partial},
-    {"dethrux_wtf8_decoder_feed", check_wtf8_decoder_feed},
-    {"dethrux_wtf8_decoder_finish", check_wtf8_decoder_finish},
-    {"dethrux_from_wtf8", check_from_wtf8},
-    {"dethrux_from_wtf8_len", check_from_wtf8_len},
-    {"dethrux_from_wtf8_partial", check_from_wtf8_partial},
-    {"dethrux_wtf8_encoder_feed", check_wtf8_encoder_feed},
     {"WTF-8 and back", check_wtf8_and_back},
-    {"dethrux_is_char_boundary", check_is_char_boundary},
-    {"dethrux_floor_char_boundary", check_floor_char_boundary},
-    {"dethrux_floor_char_boundary_around", check_floor_char_boundary_around},
-    {"dethrux_shard_offset", check_shard_offset},
-    {"dethrux_find", check_find},
-    {"dethrux_rfind", check_rfind},
-    {"dethrux_nul_offset", check_nul_offset},
-    {"dethrux_swap_byte_order", check_swap_byte_order},
-    {"dethrux_make_well_formed", check_make_well_formed},
-    {"dethrux_compare", check_compare},
-    {"dethrux_detect_bom", check_detect_bom},
+#undef CONVERSION
+#undef STREAM
+#undef QUESTION
+#undef CALL
+#define CONVERSION(name, way, mode) CALL(name, way, mode)
+#define STREAM(name, step, state) CALL(name, step, state)
+#define QUESTION(name, kind) CALL(name, , kind)
+#define CALL(name, shape, kind) {"dethrux_" #name, check_##name},
+#include "../dist/src/shapes.inc"
 };
 const size_t CHECK_COUNT = sizeof CHECKS / sizeof CHECKS[0];

@@ -1,4 +1,4 @@
-/* The checks that are made on each input: one for each call of the library, and four that compare
+/* The checks that are made on each input: one for each call of the library, and some that compare
  * the reference with ICU and iconv. */
 #ifndef CHECKS_H
 #define CHECKS_H

@@ -197,6 +197,26 @@ void decoded_as_utf32(const decoded *utf16, decoded *to) {
     }
 }
 
+void decoded_as_latin1(const decoded *utf16, decoded *to) {
+    to->item_count = utf16->item_count;
+    to->out_len = utf16->item_count;
+    for (size_t i = 0; i < utf16->item_count; i++) {
+        const item *from = &utf16->items[i];
+        bool is_other = from->kind == CHARACTER && from->scalar > 0xFF;
+        to->items[i] = (item){is_other ? OTHER_CHARACTER : from->kind, from->scalar, from->len, 1};
+        to->out[i] = (uint8_t)from->scalar;
+    }
+}
+
+void decode_latin1(dethrux_byte_order order, const uint8_t *bytes, size_t len, decoded *to) {
+    to->item_count = 0;
+    to->out_len = 0;
+    for (size_t at = 0; at < len; at++) {
+        sequence found = {CHARACTER, 1, bytes[at]};
+        append_item(to, found, encode_utf16(order, found.scalar, to->out + to->out_len));
+    }
+}
+
 size_t utf32_of(const decoded *utf8, uint32_t *to) {
     static const uint32_t NO_CHARACTERS[] = {0xD800, 0xDBFF,     0xDC00,     0xDFFF,
                                              0x110000, 0x7FFFFFFF, 0x80000061, 0xFFFFFFFF};
@@ -315,7 +335,8 @@ size_t find_last(const decoded *text, const uint8_t *bytes, const uint8_t *patte
 }
 
 static bool stops(conversion_mode mode, item_kind kind) {
-    return (kind == ILL_FORMED && mode == STRICT) || (kind == INCOMPLETE && mode != LOSSY);
+    return (kind == ILL_FORMED && mode == STRICT) || (kind == INCOMPLETE && mode != LOSSY)
+           || kind == OTHER_CHARACTER;
 }
 
 dethrux_progress expected_progress(const decoded *text, conversion_mode mode, size_t capacity) {
@@ -323,9 +344,10 @@ dethrux_progress expected_progress(const decoded *text, conversion_mode mode, si
     for (size_t i = 0; i < text->item_count; i++) {
         const item *next = &text->items[i];
         if (stops(mode, next->kind)) {
-            bool ill_formed = next->kind == ILL_FORMED;
-            progress.status = ill_formed ? DETHRUX_ILL_FORMED : DETHRUX_INCOMPLETE;
-            progress.error_len = ill_formed ? (uint32_t)next->len : 0;
+            static const dethrux_status STATUSES[] = {DETHRUX_DONE, DETHRUX_ILL_FORMED,
+                                                      DETHRUX_INCOMPLETE, DETHRUX_NOT_LATIN1};
+            progress.status = STATUSES[next->kind];
+            progress.error_len = next->kind == ILL_FORMED ? (uint32_t)next->len : 0;
             return progress;
         }
         if (next->out_len > capacity - progress.written) {

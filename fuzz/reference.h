@@ -8,8 +8,8 @@
 
 enum { TEXT_MAX = 20480, REPLACEMENT = 0xFFFD };
 
-/* One character, or one sequence that U+FFFD replaces. */
-typedef enum { CHARACTER, ILL_FORMED, INCOMPLETE } item_kind;
+/* One character, one sequence that U+FFFD replaces, or a character that Latin-1 does not have. */
+typedef enum { CHARACTER, ILL_FORMED, INCOMPLETE, OTHER_CHARACTER } item_kind;
 
 typedef struct {
     item_kind kind;
@@ -26,8 +26,8 @@ typedef struct {
     uint8_t out[4 * TEXT_MAX];
 } decoded;
 
-/* Where a call stops: STRICT at an ill-formed sequence and at an incomplete end, PARTIAL at an
- * incomplete end, and LOSSY only when `to` is full. */
+/* Where a call stops: always at a character that Latin-1 does not have, STRICT at an ill-formed
+ * sequence and at an incomplete end, PARTIAL at an incomplete end, and LOSSY at neither. */
 typedef enum { STRICT, PARTIAL, LOSSY } conversion_mode;
 
 void decode_utf16(dethrux_byte_order order, const uint8_t *bytes, size_t len, decoded *to);
@@ -35,6 +35,12 @@ void decode_utf8(dethrux_byte_order order, const uint8_t *bytes, size_t len, dec
 
 /* The same conversion of UTF-16 into UTF-32, whose code units `out_len` counts. */
 void decoded_as_utf32(const decoded *utf16, decoded *to);
+
+/* The same conversion of UTF-16 into Latin-1. */
+void decoded_as_latin1(const decoded *utf16, decoded *to);
+
+/* Decodes Latin-1. */
+void decode_latin1(dethrux_byte_order order, const uint8_t *bytes, size_t len, decoded *to);
 
 /* Writes the characters of a text as UTF-32, with a number above U+10FFFF or a surrogate for each
  * ill-formed sequence, and returns how many code units these are. */
