@@ -62,6 +62,8 @@ class Call:
 
     def __init__(self, comment, nodiscard, result, name, parameters):
         self.is_strict, self.nodiscard = "DETHRUX_ILL_FORMED" in comment, bool(nodiscard)
+        # The first sentence of its comment.
+        self.said = " ".join(comment.replace(" * ", " ").split()).partition(". ")[0] + "."
         self.result, self.symbol, self.name = result.strip(), name, name.removeprefix("dethrux_")
         words = " ".join(parameters.split())
         self.parameters = [Parameter(it) for it in words.split(", ") if it != "void"]

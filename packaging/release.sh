@@ -147,8 +147,8 @@ make_wheels() {
 make_npm() {
     need npm
     mkdir "$room/npm"
-    install -m 644 "$top"/bindings/js/{*.js,dethrux.d.ts,package.json,README.md} \
-        "${legal[@]/#/$top/}" "$top/dist/wasm/dethrux.wasm" "$room/npm/"
+    install -m 644 "$top"/bindings/js/{*.js,package.json,README.md} \
+        "${legal[@]/#/$top/}" "$top"/dist/wasm/dethrux.{wasm,d.ts} "$room/npm/"
     cd "$room/npm"
     npm_config_cache=$room/cache run npm pack --offline --ignore-scripts
     give "$room/npm/dethrux-$version.tgz"

@@ -8,7 +8,8 @@
  * keeps an array that it is given, and each returns new ones. A function throws a `TypeError` for a
  * wrong argument. It throws a `RangeError` for a wrong number, for a string that is too long, or if
  * there is no memory. After an exception nothing has changed. `include/dethrux.h` has the whole
- * documentation of each call.
+ * documentation of each call. `packaging/calls` writes the functions of the calls: `dist/wasm` has
+ * the whole file.
  */
 
 /** The byte order of UTF-16: little endian or big endian. */
@@ -138,7 +139,7 @@ export interface OfUtf16At<Result> {
     (utf16: Uint16Array, at: number): Result;
 }
 
-/** A search in UTF-16 for a pattern of the same form. */
+/** A search in UTF-16 for a pattern of the same form. Returns -1 if it occurs nowhere. */
 export interface SearchOfUtf16 {
     (utf16: Uint8Array, order: ByteOrder, pattern: Uint8Array): number;
     (utf16: Uint16Array, pattern: Uint16Array): number;
@@ -171,10 +172,49 @@ export interface ToUtf16Into<Input> {
 /** The length of such UTF-16: in bytes with a byte order, else in code units. */
 export type ForUtf16<Input> = (input: Input, order?: ByteOrder) => number;
 
+/** A change of UTF-16 in place, or a question about it, in any byte order. */
+export type OfUtf16InAnyOrder<Result> = (utf16: Uint8Array | Uint16Array) => Result;
+
+/** A repair of UTF-16 in place. Returns how many sequences it replaced. */
+export type RepairOfUtf16 = OfUtf16<number>;
+
+/** A comparison of two texts. Returns -1, 0 or 1. */
+export interface PairOfUtf16 {
+    (first: Uint16Array, second: Uint16Array): -1 | 0 | 1;
+    (first: Uint16Array, second: Uint8Array, order: ByteOrder): -1 | 0 | 1;
+    (first: Uint8Array, order: ByteOrder, second: Uint16Array): -1 | 0 | 1;
+    (
+        first: Uint8Array,
+        firstOrder: ByteOrder,
+        second: Uint8Array,
+        secondOrder: ByteOrder,
+    ): -1 | 0 | 1;
+}
+
+/** A question about a stream that begins with these bytes. Without a BOM it has the other order. */
+export type OfStart<Result> = (bytes: Uint8Array, otherwise?: ByteOrder) => Result;
+
+/**
+ * A question at an offset of a file, for the 4 bytes of the file from `max(0, at - at % 2 - 2)` on,
+ * or as many as it has.
+ */
+export type AroundOffset = <Offset extends number | bigint>(
+    around: Uint8Array,
+    order: ByteOrder,
+    at: Offset,
+) => Offset extends bigint ? bigint : number;
+
+/** An offset of the part with this index, of about equal ones of a file. */
+export type OfOffsets = <Offset extends number | bigint>(
+    len: Offset,
+    count: Offset,
+    index: Offset,
+) => Offset extends bigint ? bigint : number;
+
 /** The functions of the library. */
 export interface Dethrux {
-    /** Returns the version: 1000000 for each major number, 1000 for each minor one. */
-    version(): number;
+    /* packaging/calls writes the functions of the calls here. */
+
     /**
      * Returns the string of UTF-16, as the platform's `TextDecoder` does: without a BOM at the
      * start, unless `ignoreBOM` is true, and with U+FFFD for what is ill formed.
@@ -202,151 +242,6 @@ export interface Dethrux {
         to: Uint16Array,
         options?: StrictOptions,
     ): { read: number; written: number };
-
-    /** Returns the length of the longest well-formed prefix, and what follows it. */
-    validate: OfUtf16<Validity>;
-    /** Returns the number of characters. */
-    countChars: OfUtf16<number>;
-    /** Returns whether this is UTF-16 with only ASCII characters. */
-    isAscii: OfUtf16<boolean>;
-    /** Returns the length of the longest well-formed prefix, and what characters it has. */
-    inspect: OfUtf16<Inspection>;
-
-    /** Converts UTF-16 to UTF-8, up to the first ill-formed sequence. */
-    toUtf8: FromUtf16<Uint8Array>;
-    /** Converts UTF-16 to UTF-8, with U+FFFD for what is ill formed. */
-    toUtf8Lossy: FromUtf16<Uint8Array>;
-    /** Converts a chunk like `toUtf8Lossy`, and leaves an incomplete character at its end. */
-    toUtf8Partial: FromUtf16<Uint8Array>;
-    /** Returns the length of what `toUtf8Lossy` writes. */
-    toUtf8LossyLen: OfUtf16<number>;
-    /**
-     * Returns how many U+FFFD `toUtf8Lossy` writes for ill-formed sequences: 0 exactly if this is
-     * UTF-16.
-     */
-    toUtf8Replacements: OfUtf16<number>;
-    /** Converts UTF-8 to UTF-16, up to the first ill-formed sequence. */
-    fromUtf8: ToUtf16<Uint8Array>;
-    /** Converts UTF-8 to UTF-16, with U+FFFD for what is ill formed. */
-    fromUtf8Lossy: ToUtf16<Uint8Array>;
-    /** Returns the length of what `fromUtf8` writes. */
-    fromUtf8Len: ForUtf16<Uint8Array>;
-    /** Returns the length of what `fromUtf8Lossy` writes. */
-    fromUtf8LossyLen: ForUtf16<Uint8Array>;
-    /**
-     * Returns how many U+FFFD `fromUtf8Lossy` writes for ill-formed sequences: 0 exactly if this is
-     * UTF-8.
-     */
-    fromUtf8Replacements(utf8: Uint8Array): number;
-
-    /** Converts UTF-16 to WTF-8, which keeps unpaired surrogates, in 3 bytes each. */
-    toWtf8: FromUtf16<Uint8Array>;
-    /** Converts a chunk like `toWtf8`, but does not read a leading surrogate at its end. */
-    toWtf8Partial: FromUtf16<Uint8Array>;
-    /** Returns the length of what `toWtf8` writes. */
-    toWtf8Len: OfUtf16<number>;
-    /** Converts WTF-8 to UTF-16, up to the first ill-formed sequence. */
-    fromWtf8: ToUtf16<Uint8Array>;
-    /** Returns the length of what `fromWtf8` writes. */
-    fromWtf8Len: ForUtf16<Uint8Array>;
-    /** Converts a chunk like `fromWtf8`, but does not read what more bytes could change. */
-    fromWtf8Partial: ToUtf16<Uint8Array>;
-
-    /** Converts UTF-16 to UTF-32, up to the first ill-formed sequence. */
-    toUtf32: FromUtf16<Uint32Array>;
-    /** Converts UTF-16 to UTF-32, with U+FFFD for what is ill formed. */
-    toUtf32Lossy: FromUtf16<Uint32Array>;
-    /** Returns the length of what `toUtf32Lossy` writes. */
-    toUtf32LossyLen: OfUtf16<number>;
-    /** Returns how many code units at the start are UTF-32, and what follows them. */
-    validateUtf32(utf32: Uint32Array): Validity;
-    /** Converts UTF-32 to UTF-16, up to the first ill-formed code unit. */
-    fromUtf32: ToUtf16<Uint32Array>;
-    /** Converts UTF-32 to UTF-16, with U+FFFD for what is ill formed. */
-    fromUtf32Lossy: ToUtf16<Uint32Array>;
-    /** Returns the length of what `fromUtf32Lossy` writes. */
-    fromUtf32LossyLen: ForUtf16<Uint32Array>;
-    /** Converts UTF-16 to Latin-1, up to what is ill formed or above U+00FF. */
-    toLatin1: FromUtf16<Uint8Array>;
-    /** Converts Latin-1 to UTF-16. */
-    fromLatin1: ToUtf16<Uint8Array>;
-
-    /** Does what `toUtf8` does, into an array of the caller. */
-    toUtf8Into: FromUtf16Into<Uint8Array>;
-    /** Does what `toUtf8Lossy` does, into an array of the caller. */
-    toUtf8LossyInto: FromUtf16Into<Uint8Array>;
-    /** Does what `toUtf8Partial` does, into an array of the caller. */
-    toUtf8PartialInto: FromUtf16Into<Uint8Array>;
-    /** Does what `fromUtf8` does, into an array of the caller. */
-    fromUtf8Into: ToUtf16Into<Uint8Array>;
-    /** Does what `fromUtf8Lossy` does, into an array of the caller. */
-    fromUtf8LossyInto: ToUtf16Into<Uint8Array>;
-    /** Does what `toWtf8` does, into an array of the caller. */
-    toWtf8Into: FromUtf16Into<Uint8Array>;
-    /** Does what `toWtf8Partial` does, into an array of the caller. */
-    toWtf8PartialInto: FromUtf16Into<Uint8Array>;
-    /** Does what `fromWtf8` does, into an array of the caller. */
-    fromWtf8Into: ToUtf16Into<Uint8Array>;
-    /** Does what `fromWtf8Partial` does, into an array of the caller. */
-    fromWtf8PartialInto: ToUtf16Into<Uint8Array>;
-    /** Does what `toUtf32` does, into an array of the caller. */
-    toUtf32Into: FromUtf16Into<Uint32Array>;
-    /** Does what `toUtf32Lossy` does, into an array of the caller. */
-    toUtf32LossyInto: FromUtf16Into<Uint32Array>;
-    /** Does what `fromUtf32` does, into an array of the caller. */
-    fromUtf32Into: ToUtf16Into<Uint32Array>;
-    /** Does what `fromUtf32Lossy` does, into an array of the caller. */
-    fromUtf32LossyInto: ToUtf16Into<Uint32Array>;
-    /** Does what `toLatin1` does, into an array of the caller. */
-    toLatin1Into: FromUtf16Into<Uint8Array>;
-    /** Does what `fromLatin1` does, into an array of the caller. */
-    fromLatin1Into: ToUtf16Into<Uint8Array>;
-
-    /** Returns whether an offset is a boundary between characters. */
-    isCharBoundary: OfUtf16At<boolean>;
-    /** Returns the greatest boundary at or before an offset. */
-    floorCharBoundary: OfUtf16At<number>;
-    /**
-     * Returns the greatest boundary at or before an offset of a file, from the 4 bytes of the file
-     * from `max(0, at - at % 2 - 2)` on, or as many as it has.
-     */
-    floorCharBoundaryAround<Offset extends number | bigint>(
-        around: Uint8Array,
-        order: ByteOrder,
-        at: Offset,
-    ): Offset extends bigint ? bigint : number;
-    /** Returns where a part of a file of `len` bytes begins, of `count` about equal ones. */
-    shardOffset<Offset extends number | bigint>(
-        len: Offset,
-        count: Offset,
-        index: Offset,
-    ): Offset extends bigint ? bigint : number;
-
-    /** Swaps the two bytes of each code unit in place. */
-    swapByteOrder(utf16: Uint8Array | Uint16Array): void;
-    /** Replaces each unpaired surrogate by U+FFFD in place, and returns their number. */
-    makeWellFormed: OfUtf16<number>;
-    /** Compares two texts by their scalar values: returns -1, 0 or 1. */
-    compare(first: Uint16Array, second: Uint16Array): -1 | 0 | 1;
-    compare(first: Uint16Array, second: Uint8Array, order: ByteOrder): -1 | 0 | 1;
-    compare(first: Uint8Array, order: ByteOrder, second: Uint16Array): -1 | 0 | 1;
-    compare(
-        first: Uint8Array,
-        firstOrder: ByteOrder,
-        second: Uint8Array,
-        secondOrder: ByteOrder,
-    ): -1 | 0 | 1;
-    /**
-     * Returns the least offset at which a pattern occurs, or -1: its elements are there, and both
-     * ends are boundaries between characters. So half of a surrogate pair is not found.
-     */
-    find: SearchOfUtf16;
-    /** Returns the greatest offset at which a pattern occurs as `find` says, or -1. */
-    rfind: SearchOfUtf16;
-    /** Returns the offset of the first NUL, or the length if there is none. */
-    nulOffset(utf16: Uint8Array | Uint16Array): number;
-    /** Returns the BOM at the start of a stream. Without one the byte order is `otherwise`. */
-    detectBom(bytes: Uint8Array, otherwise?: ByteOrder): Bom;
 
     /** Returns a decoder to strings, from bytes, or without a byte order from code units. */
     textDecoder(order: ByteOrder, options?: TextOptions): StringDecoder<Uint8Array>;

@@ -429,7 +429,9 @@ DETHRUX_NODISCARD size_t dethrux_to_utf8_replacements(
 DETHRUX_NODISCARD size_t dethrux_from_utf8_replacements(const void *utf8, size_t len);
 
 /**
- * Converts UTF-16 to UTF-8, up to the first ill-formed sequence, an unpaired surrogate of 2 bytes.
+ * Converts UTF-16 to UTF-8, up to the first ill-formed sequence.
+ *
+ * That is an unpaired surrogate of 2 bytes.
  *
  * @param capacity `len / 2 * 3` suffices, and so does DETHRUX_UTF8_MAX(len); a loop needs 4
  * @return how far the call came, with one of these statuses:
@@ -604,7 +606,9 @@ DETHRUX_NODISCARD dethrux_progress dethrux_from_utf32_lossy(
     dethrux_byte_order byte_order, const uint32_t *utf32, size_t len, void *to, size_t capacity);
 
 /**
- * Returns the length in bytes of what dethrux_from_utf32_lossy writes for the whole input.
+ * Returns the length of what dethrux_from_utf32_lossy writes for the whole input.
+ *
+ * It counts bytes.
  *
  * @param len counts code units
  * @return at most DETHRUX_FROM_UTF32_MAX(len)

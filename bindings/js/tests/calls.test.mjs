@@ -2,7 +2,7 @@ import assert from "node:assert/strict";
 import { test } from "node:test";
 import { IllFormedError, isSupported, load, stringOf, unitsOf } from "dethrux";
 import { CALLS } from "../node_modules/dethrux/calls.js";
-import { be, isIllFormed, le, replaced, utf8 } from "./common.mjs";
+import { be, camelCase, isIllFormed, le, replaced, utf8 } from "./common.mjs";
 import { isNode, isSame, ofNode, read, together } from "./common.mjs";
 
 const { readFileSync } = ofNode("node:fs");
@@ -188,28 +188,26 @@ function checkInto(name, array, order, Kind, isToUtf16) {
 }
 
 test("a conversion into an array of the caller gives what it gives without, and no more", () => {
-    const from = { toLatin1: "a\u00e9\u0100" };
-    for (const name of ["toUtf8", "toUtf8Lossy", "toUtf8Partial", "toWtf8", "toWtf8Partial", "toUtf32", "toUtf32Lossy"]) {
-        from[name] = "a\u00e9\u4e00\u{1f600}\udc00";
+    const text = "a\u00e9\u4e00\u{1f600}\udc00";
+    const raw = [utf8("a\u00e9\u{1f600}"), Uint8Array.of(0x61, 0xed, 0xa0, 0x80, 0xff)];
+    const arrays = { bytesToUtf16: raw, utf32ToUtf16: [Uint32Array.of(0x61, 0x1f600, 0xd800)] };
+    for (const [call, [shape, kind]] of Object.entries(CALLS)) {
+        const name = camelCase(call);
+        if (shape.startsWith("utf16To")) {
+            const Kind = shape === "utf16ToUtf32" ? Uint32Array : Uint8Array;
+            checkInto(name, le(text), "le", Kind);
+            checkInto(name, be(text), "be", Kind);
+            checkInto(name, unitsOf(text), undefined, Kind);
+        }
+        for (const array of arrays[shape] ?? []) {
+            checkInto(name, array, "le", Uint8Array, true);
+            checkInto(name, array, "be", Uint8Array, true);
+            checkInto(name, array, undefined, Uint16Array, true);
+        }
+        const isConversion = kind === "progress" && shape !== "stream";
+        assert.equal(`${name}Into` in dethrux, isConversion);
+        assert.equal(shape.startsWith("utf16To") || shape in arrays, isConversion);
     }
-    for (const [name, text] of Object.entries(from)) {
-        const Kind = name.startsWith("toUtf32") ? Uint32Array : Uint8Array;
-        checkInto(name, le(text), "le", Kind);
-        checkInto(name, be(text), "be", Kind);
-        checkInto(name, unitsOf(text), undefined, Kind);
-    }
-    const to = { fromUtf32: Uint32Array.of(0x61, 0x1f600, 0xd800), fromUtf8: utf8("a\u00e9\u{1f600}") };
-    to.fromUtf32Lossy = to.fromUtf32;
-    for (const name of ["fromUtf8Lossy", "fromWtf8", "fromWtf8Partial", "fromLatin1"]) {
-        to[name] = Uint8Array.of(0x61, 0xed, 0xa0, 0x80, 0xff);
-    }
-    for (const [name, array] of Object.entries(to)) {
-        checkInto(name, array, "le", Uint8Array, true);
-        checkInto(name, array, "be", Uint8Array, true);
-        checkInto(name, array, undefined, Uint16Array, true);
-    }
-    const names = Object.keys(dethrux).filter((it) => /^(to|from).*Into$/.test(it));
-    assert.deepEqual(names.sort(), Object.keys({ ...from, ...to }).map((it) => `${it}Into`).sort());
 });
 
 test("a length of UTF-16 counts code units or bytes", () => {

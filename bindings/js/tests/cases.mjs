@@ -1,10 +1,11 @@
 // Makes the calls of the tables of cases/ that the package has: on bytes, and in little endian also
-// on code units. Prints each case whose result differs, with both results, and last 'N passed, M
-// failed'. Cases of other calls, and cases with a condition on memory or devices, are not run.
+// on code units. How a case is made follows from the shape of its call in calls.js. Prints each case
+// whose result differs, with both results, and last 'N passed, M failed'. Cases of other calls, and cases with a condition on memory or devices, are not run.
 // DETHRUX_TOP is the folder of the repository, whose cases/to_json.py reads the tables with Python.
 // In a browser ../cases.json has what the script prints.
 import { load } from "dethrux";
-import { isNode, isSame, ofNode, read, together } from "./common.mjs";
+import { CALLS } from "../node_modules/dethrux/calls.js";
+import { camelCase, isNode, isSame, ofNode, read, together } from "./common.mjs";
 
 const dethrux = await load();
 const STOPS = { done: "end", incomplete: "incomplete", "no-space": "no_space", "not-latin1": "not_latin1" };
@@ -35,37 +36,48 @@ function madePoints(array) {
     return hex(new Uint8Array(raw.buffer));
 }
 
-/** Fails if a function on code units gives something else than on bytes in little endian. */
-function agree(found, name, order, raw, divided, ...more) {
-    if (order === "be" || raw.length % 2) {
-        return found;
+/** The result for code units, from the one for bytes, whose lengths and offsets are of bytes. */
+function halved(found) {
+    if (typeof found !== "object") {
+        return found > 0 && found !== true ? found / 2 : found;
     }
-    const onUnits = dethrux[name](new Uint16Array(raw.slice().buffer), ...more);
-    const wanted = typeof found === "object" ? { ...found } : found;
-    for (const field of divided) {
-        wanted[field] /= 2;
+    const fields = ["read", "validUpTo", "errorLen"].filter((it) => it in found);
+    return { ...found, ...Object.fromEntries(fields.map((it) => [it, found[it] / 2])) };
+}
+
+/** Fails if a call gives something else on code units than what is wanted, if there are such. */
+function agree(order, arrays, wanted, call) {
+    if (order === "le" && arrays.every((it) => it.length % 2 === 0)) {
+        const found = call(...arrays.map((it) => new Uint16Array(it.slice().buffer)));
+        if (JSON.stringify(found) !== JSON.stringify(wanted)) {
+            throw new Error(`on code units: ${JSON.stringify(found)}`);
+        }
     }
-    if (JSON.stringify(onUnits) !== JSON.stringify(wanted)) {
-        throw new Error(`on code units: ${JSON.stringify(onUnits)}`);
-    }
-    return found;
 }
 
 const stop = ({ status, errorLen }) => (status === "ill-formed" ? ["ill_formed", errorLen] : [STOPS[status]]);
 
+/** The name of the function for the length of what a conversion writes. */
+function lengthName(name) {
+    const begin = name.match(/^(to|from)[A-Z][a-z]+\d*/)[0];
+    return [`${begin}LossyLen`, `${begin}Len`].find((it) => it in dethrux);
+}
+
 /** A conversion from UTF-16. */
-function fromUtf16(name, size, made) {
+function fromUtf16(name, made) {
+    const size = lengthName(name);
     return (order, [source, room]) => {
         const utf16 = bytes(source);
-        const capacity = room === "size" ? size(utf16, order) : Number(room);
+        const capacity = room === "size" ? dethrux[size](utf16, order) : Number(room);
         const found = dethrux[name](utf16, order, capacity);
-        agree(found, name, order, utf16, ["read", "errorLen"], capacity);
+        agree(order, [utf16], halved(found), (units) => dethrux[name](units, capacity));
         return [found.read, found.output.length, ...stop(found), made(found.output)];
     };
 }
 
 /** A conversion to UTF-16, from what a case spells so. */
-function toUtf16(name, size, spell = bytes) {
+function toUtf16(name, spell) {
+    const size = lengthName(name);
     return (order, [source, room]) => {
         const array = spell(source);
         const capacity = room === "size" ? dethrux[size](array, order) : Number(room);
@@ -78,11 +90,13 @@ function toUtf16(name, size, spell = bytes) {
     };
 }
 
-/** What is asked of UTF-16. */
-function asked(name, divided, words) {
+/** What is asked of UTF-16. A number is not of its length. */
+function asked(name, words) {
     return (order, [source]) => {
         const utf16 = bytes(source);
-        return words(agree(dethrux[name](utf16, order), name, order, utf16, divided), utf16);
+        const found = dethrux[name](utf16, order);
+        agree(order, [utf16], typeof found === "number" ? found : halved(found), dethrux[name]);
+        return words(found, utf16);
     };
 }
 
@@ -112,7 +126,7 @@ function cutAnywhere(array, made, coder) {
 }
 
 function fromUtf8Lossy(order, words) {
-    const found = toUtf16("fromUtf8Lossy", "fromUtf8LossyLen")(order, words);
+    const found = toUtf16("fromUtf8Lossy", bytes)(order, words);
     const streams = found[2] === "end" ? cutAnywhere(bytes(words[0]), dethrux.encoder, order) : [];
     return [...found, ...streams.map(hex).filter((it) => it !== found.at(-1))];
 }
@@ -123,113 +137,100 @@ function fedLossy(order, words) {
     return [...found, decoder.finish().length ? "U+FFFD" : "none"];
 }
 
-function compared(order, [first, second]) {
-    const arrays = [bytes(first), bytes(second)];
-    const found = dethrux.compare(arrays[0], order, arrays[1], order);
-    const other = arrays[1].slice();
-    dethrux.swapByteOrder(other);
-    const isSame = dethrux.compare(arrays[0], order, other, order === "le" ? "be" : "le") === found;
-    return [isSame ? ["less", "equal", "greater"][found + 1] : "differs"];
+function compared(name) {
+    return (order, [first, second]) => {
+        const arrays = [bytes(first), bytes(second)];
+        const found = dethrux[name](arrays[0], order, arrays[1], order);
+        const other = arrays[1].slice();
+        dethrux.swapByteOrder(other);
+        const isSame = dethrux[name](arrays[0], order, other, order === "le" ? "be" : "le") === found;
+        return [isSame ? ["less", "equal", "greater"][found + 1] : "differs"];
+    };
 }
 
 function searched(name) {
     return (order, words) => {
         const [utf16, pattern] = words.map((it) => bytes(it));
         const found = dethrux[name](utf16, order, pattern);
-        if (order === "le" && utf16.length % 2 === 0 && pattern.length % 2 === 0) {
-            const arrays = [utf16, pattern].map((it) => new Uint16Array(it.slice().buffer));
-            const units = dethrux[name](...arrays);
-            if (units !== (found === -1 ? -1 : found / 2)) {
-                throw new Error(`on code units: ${units}`);
-            }
-        }
+        agree(order, [utf16, pattern], halved(found), dethrux[name]);
         return [found === -1 ? "none" : found];
     };
 }
 
-function changed(name, isCounted) {
+/** A change in place. The result, if there is one, precedes the bytes. */
+function changed(name, ...orders) {
     return (order, [source]) => {
         const array = bytes(source);
-        const found = isCounted ? dethrux[name](array, order) : dethrux[name](array);
-        return isCounted ? [found, hex(array)] : [hex(array)];
+        const found = dethrux[name](array, ...orders.map(() => order));
+        return [found, hex(array)].filter((it) => it !== undefined);
     };
 }
 
-function atOffset(name, isOffset) {
+function atOffset(name) {
     return (order, [source, at]) => {
         const utf16 = bytes(source);
         const offset = at === "max" ? Number.MAX_SAFE_INTEGER : Number(at);
         const found = dethrux[name](utf16, order, offset);
-        if (order === "le" && utf16.length % 2 === 0 && offset % 2 === 0) {
-            const units = dethrux[name](new Uint16Array(utf16.slice().buffer), offset / 2);
-            if ((isOffset ? units * 2 : units) !== found) {
-                throw new Error(`on code units: ${units}`);
-            }
+        if (offset % 2 === 0) {
+            agree(order, [utf16], halved(found), (units) => dethrux[name](units, offset / 2));
         }
         return [found];
     };
 }
 
-const number = (found) => [found];
-const utf8Size = (utf16, order) => dethrux.toUtf8LossyLen(utf16, order);
-const wtf8Size = (utf16, order) => dethrux.toWtf8Len(utf16, order);
-const utf32Size = (utf16, order) => dethrux.toUtf32LossyLen(utf16, order);
-const CALLS = {
-    validate_raw_utf16: asked("validate", ["validUpTo", "errorLen"], (it) => validity(it, ["done"])),
-    "WStr::from_utf16": asked("validate", ["validUpTo", "errorLen"], (it, utf16) => validity(it, [hex(utf16)])),
-    count_chars: asked("countChars", [], number),
-    is_ascii: asked("isAscii", [], number),
-    to_utf8_lossy_len: asked("toUtf8LossyLen", [], number),
-    to_utf8_replacements: asked("toUtf8Replacements", [], number),
-    to_utf32_lossy_len: asked("toUtf32LossyLen", [], number),
-    from_utf8_len: (order, [source]) => [dethrux.fromUtf8Len(bytes(source), order)],
-    from_utf8_lossy_len: (order, [source]) => [dethrux.fromUtf8LossyLen(bytes(source), order)],
-    from_utf8_replacements: (_order, [source]) => [dethrux.fromUtf8Replacements(bytes(source))],
-    from_utf32_lossy_len: (order, [source]) => [dethrux.fromUtf32LossyLen(points(source), order)],
-    inspect: asked("inspect", ["validUpTo", "errorLen"], (it) => [it.validUpTo, it.chars, it.repertoire, ...stop(it)]),
-    validate_utf32: (_order, [source]) => {
-        const { status, validUpTo, errorLen } = dethrux.validateUtf32(points(source));
+function inAnyOrder(name) {
+    return (_order, [source]) => {
+        const utf16 = bytes(source);
+        const found = dethrux[name](utf16);
+        agree("le", [utf16], halved(found), dethrux[name]);
+        return [found];
+    };
+}
+
+// The words for the answer of a question, by its kind. Other cases make a call without them.
+const WORDS = {
+    size: (it) => [it],
+    truth: (it) => [it],
+    inspection: (it) => [it.validUpTo, it.chars, it.repertoire, ...stop(it)],
+};
+// How the cases of a call are made, by its shape. Other cases make the calls of the empty ones.
+const SHAPES = {
+    utf16: (name, kind) => WORDS[kind] && asked(name, WORDS[kind]),
+    utf16At: atOffset,
+    utf16Pair: compared,
+    utf16Search: searched,
+    utf16ToUtf8: (name) => fromUtf16(name, name.startsWith("toUtf8") ? text : hex),
+    utf16ToLatin1: (name) => fromUtf16(name, hex),
+    utf16ToUtf32: (name) => fromUtf16(name, madePoints),
+    bytesToUtf16: (name) => toUtf16(name, bytes),
+    utf32ToUtf16: (name) => toUtf16(name, points),
+    bytes: (name) => (_order, [source]) => [dethrux[name](bytes(source))],
+    bytesForUtf16: (name) => (order, [source]) => [dethrux[name](bytes(source), order)],
+    utf32ForUtf16: (name) => (order, [source]) => [dethrux[name](points(source), order)],
+    utf32: (name) => (_order, [source]) => {
+        const { status, validUpTo, errorLen } = dethrux[name](points(source));
         return status === "ill-formed" && errorLen === 1 ? [validUpTo] : [status];
     },
-    to_utf8: fromUtf16("toUtf8", utf8Size, text),
-    to_utf8_lossy: fromUtf16("toUtf8Lossy", utf8Size, text),
-    to_utf8_partial: fromUtf16("toUtf8Partial", utf8Size, text),
-    to_utf32: fromUtf16("toUtf32", utf32Size, madePoints),
-    to_utf32_lossy: fromUtf16("toUtf32Lossy", utf32Size, madePoints),
-    to_latin1: fromUtf16("toLatin1", (it) => it.length, hex),
-    to_wtf8: fromUtf16("toWtf8", wtf8Size, hex),
-    to_wtf8_partial: fromUtf16("toWtf8Partial", wtf8Size, hex),
-    to_wtf8_len: asked("toWtf8Len", [], number),
-    from_wtf8: toUtf16("fromWtf8"),
-    from_wtf8_len: (order, [source]) => [dethrux.fromWtf8Len(bytes(source), order)],
-    from_wtf8_partial: toUtf16("fromWtf8Partial"),
-    from_utf8: toUtf16("fromUtf8", "fromUtf8LossyLen"),
+    around: (name) => (order, [source, at]) => [dethrux[name](bytes(source), order, BigInt(at))],
+    offsets: (name) => (_order, words) => [dethrux[name](...words.map(BigInt))],
+    swapped: (name) => changed(name),
+    repaired: (name) => changed(name, "the byte order"),
+    inAnyOrder,
+    nothing: () => undefined,
+    start: () => undefined,
+    stream: () => undefined,
+};
+const MODULES = { utf16At: "bytes::", around: "bytes::", utf16Pair: "bytes::", utf16Search: "search::" };
+const MADE = {
+    ...Object.fromEntries(
+        Object.entries(CALLS).map(([call, [shape, kind]]) => [
+            `${MODULES[shape] ?? ""}${call}`,
+            SHAPES[shape](camelCase(call), kind),
+        ]),
+    ),
+    validate_raw_utf16: asked("validate", (it) => validity(it, ["done"])),
+    "WStr::from_utf16": asked("validate", (it, utf16) => validity(it, [hex(utf16)])),
     from_utf8_lossy: fromUtf8Lossy,
-    from_latin1: toUtf16("fromLatin1"),
-    from_utf32: toUtf16("fromUtf32", "fromUtf32LossyLen", points),
-    from_utf32_lossy: toUtf16("fromUtf32Lossy", "fromUtf32LossyLen", points),
-    "bytes::is_char_boundary": atOffset("isCharBoundary", false),
-    "bytes::floor_char_boundary": atOffset("floorCharBoundary", true),
-    "bytes::floor_char_boundary_around": (order, [source, at]) => [
-        dethrux.floorCharBoundaryAround(bytes(source), order, BigInt(at)),
-    ],
-    shard_offset: (_order, words) => [dethrux.shardOffset(...words.map(BigInt))],
-    swap_byte_order: changed("swapByteOrder", false),
-    make_well_formed: changed("makeWellFormed", true),
-    "bytes::compare": compared,
-    "search::find": searched("find"),
-    "search::rfind": searched("rfind"),
-    nul_offset: (_order, [source]) => {
-        const utf16 = bytes(source);
-        const found = dethrux.nulOffset(utf16);
-        if (utf16.length % 2 === 0) {
-            const units = dethrux.nulOffset(new Uint16Array(utf16.slice().buffer));
-            if (units * 2 !== found) {
-                throw new Error(`on code units: ${units}`);
-            }
-        }
-        return [found];
-    },
     every_chunking: (order, [source]) => cutAnywhere(bytes(source), dethrux.decoder, order).map(text),
     "AnyLossy::every_chunking": (order, [source]) =>
         cutAnywhere(bytes(source), dethrux.decoder, "bom").map(text),
@@ -240,7 +241,7 @@ const CALLS = {
 /** What is wrong with a case, or nothing. */
 function fault({ call, order, values, result }) {
     try {
-        const found = CALLS[call](order, values).join(" ");
+        const found = MADE[call](order, values).join(" ");
         return found === result.join(" ") ? undefined : `found ${found}`;
     } catch (error) {
         return String(error);
@@ -270,12 +271,12 @@ async function tables() {
 const lines = await tables();
 for (const line of lines.trim().split("\n")) {
     const it = JSON.parse(line);
-    if (it.call in CALLS && it.conditions.length === 0) {
+    if (MADE[it.call] && it.conditions.length === 0) {
         made.add(it.call);
         count(fault(it), line);
     }
 }
-for (const call of Object.keys(CALLS).filter((it) => !made.has(it))) {
+for (const call of Object.keys(MADE).filter((it) => MADE[it] && !made.has(it))) {
     count("there is no case of it", call);
 }
 console.log(`${counts.passed} passed, ${counts.failed} failed`);

@@ -6,6 +6,9 @@ export const utf8 = (text) => new TextEncoder().encode(text);
 export const le = (text) => new Uint8Array(unitsOf(text).buffer);
 export const be = (text) => le(text).map((_, at, bytes) => bytes[at ^ 1]);
 
+/** The name of the function for a call of the header. */
+export const camelCase = (name) => name.replace(/_(\w)/g, (_, letter) => letter.toUpperCase());
+
 /** Whether this is Node, which has Buffer. */
 export const isNode = "process" in globalThis;
 /** A module of Node, and nothing in a browser. */
