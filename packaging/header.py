@@ -61,7 +61,8 @@ class Call:
     """A call of the header."""
 
     def __init__(self, comment, nodiscard, result, name, parameters):
-        self.is_strict, self.nodiscard = "DETHRUX_ILL_FORMED" in comment, bool(nodiscard)
+        self.comment, self.nodiscard = comment, bool(nodiscard)
+        self.is_strict = "DETHRUX_ILL_FORMED" in comment
         # The first sentence of its comment.
         self.said = " ".join(comment.replace(" * ", " ").split()).partition(". ")[0] + "."
         self.result, self.symbol, self.name = result.strip(), name, name.removeprefix("dethrux_")
