@@ -95,11 +95,11 @@ takes_before_main() {
 # Compiles the checks over the code of one level, the other of which ends them, and runs the tables.
 runs_only() {
     local level=$1 name
-    for name in check units fixed; do
+    for name in check units; do
         gcc -std=c11 -O1 "-I$dist/include" "$top/examples/c/$name.c" "$room/choose.o" \
             "$room/v$level.o" "$room/ends-v$((5 - level)).o" -o "$room/$name" || return
     done
-    "${@:2}" "$room/check" "$top"/cases/*.txt && "${@:2}" "$room/units" && "${@:2}" "$room/fixed"
+    "${@:2}" "$room/check" "$top"/cases/*.txt && "${@:2}" "$room/units"
 }
 
 # Tests that thirty threads never take the code for x86-64-v2 on a processor that has the other one,

@@ -119,7 +119,6 @@ for target in arm64-apple-macosx11 x86_64-apple-macosx10.15; do
     [[ $target == arm64* ]] || count "cases for $target on x86-64-v2" tables $target check c99 \
         $compiler qemu-x86_64 -cpu Nehalem "${run[@]}" "$top"/cases/*.txt
     count "code units for $target" tables $target units c11 $compiler "${run[@]}"
-    count "UTF-32 for $target" tables $target fixed c11 $compiler "${run[@]}"
     count "allocations for $target" tables $target alloc c99 $compiler "${run[@]}"
 done
 check 'make on a Mac' words_of_make

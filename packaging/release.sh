@@ -113,7 +113,7 @@ make_windows() {
 make_dist() {
     name=dethrux-$version-dist
     copy install.sh .ci/{faults.c,program.{sh,txt}} cases crates/utf16_{cat,enc,check}/*.1 \
-        dist docs/{C,CPP}.md examples/c/{alloc,check,decode,first,fixed,units}.c packaging/man3
+        dist docs/{C,CPP}.md examples/c/{alloc,check,decode,first,units}.c packaging/man3
     cp "$top/dist/README.md" "$room/$name/"
     pack
 }

@@ -296,11 +296,14 @@ typedef bool test(dethrux_byte_order order, const void *utf16, size_t len);
 typedef size_t search(dethrux_byte_order order, const void *utf16, size_t len,
     const void *pattern, size_t pattern_len);
 
-typedef enum { TO_UTF8, FROM_UTF8, TO_WTF8, FROM_WTF8 } way;
+/* Where a conversion leads. Each pair leads to a form and back. */
+typedef enum {
+    TO_UTF8, FROM_UTF8, TO_WTF8, FROM_WTF8, TO_UTF32, FROM_UTF32, TO_LATIN1, FROM_LATIN1
+} way;
 typedef enum { STRICT, LOSSY, PARTIAL } mode;
 
 static bool is_back(way by) {
-    return by == FROM_UTF8 || by == FROM_WTF8;
+    return by % 2 == 1;
 }
 
 /* A case that is run: its call, its byte order, its first value as bytes, and all its values; and
@@ -335,23 +338,91 @@ struct call {
 };
 
 static const call *call_of(const char *name);
+static const call *opposite_of(const call *by);
 
+/* UTF-32 is spelled by its bytes in big endian. Returns its code units, and makes `count` their
+ * number. */
+static uint32_t *code_points(const text *spelled, size_t *count) {
+    uint32_t *found = malloc(spelled->len + sizeof *found);
+    *count = spelled->len / 4;
+    for (size_t i = 0; found != NULL && i < *count; i++) {
+        const uint8_t *at = spelled->bytes + 4 * i;
+        found[i] = (uint32_t)at[0] << 24 | (uint32_t)at[1] << 16 | (uint32_t)at[2] << 8 | at[3];
+    }
+    return found;
+}
+
+/* Spells UTF-32, which is in the machine's byte order. */
+static void spell_utf32(text *utf32) {
+    for (size_t at = 0; at + 4 <= utf32->len; at += 4) {
+        uint32_t unit;
+        memcpy(&unit, utf32->bytes + at, 4);
+        for (size_t i = 0; i < 4; i++) {
+            utf32->bytes[at + i] = (uint8_t)(unit >> (24 - 8 * i));
+        }
+    }
+}
+
+static size_t utf32_size_of(const text *from) {
+    size_t len;
+    uint32_t *points = code_points(from, &len);
+    size_t found = dethrux_from_utf32_lossy_len(points, len);
+    free(points);
+    return found;
+}
+
+/* The capacity that the header says suffices. */
+static size_t most(const call *by, size_t len) {
+    switch (by->way) {
+    case TO_UTF8: return by->mode == LOSSY ? DETHRUX_UTF8_MAX(len) : len / 2 * 3;
+    case TO_WTF8: return DETHRUX_WTF8_MAX(len);
+    case TO_UTF32: return by->mode == LOSSY ? DETHRUX_UTF32_MAX(len) : len / 2;
+    case FROM_UTF32: return DETHRUX_FROM_UTF32_MAX(len / 4);
+    case TO_LATIN1: return len / 2;
+    default: return DETHRUX_UTF16_MAX(len);
+    }
+}
+
+/* The capacity of a case that says `size`. */
 static size_t size_of(const call *by, dethrux_byte_order order, const text *from) {
     switch (by->way) {
     case TO_UTF8: return dethrux_to_utf8_lossy_len(order, from->bytes, from->len);
     case FROM_UTF8: return dethrux_from_utf8_lossy_len(from->bytes, from->len);
     case TO_WTF8: return dethrux_to_wtf8_len(order, from->bytes, from->len);
     case FROM_WTF8: return dethrux_from_wtf8_len(from->bytes, from->len);
-    default: return DETHRUX_UTF16_MAX(from->len);
+    case TO_UTF32: return dethrux_to_utf32_lossy_len(order, from->bytes, from->len);
+    case FROM_UTF32: return utf32_size_of(from);
+    default: return most(by, from->len);
     }
 }
 
-/* The capacity that the header says suffices. */
-static size_t most(const call *by, size_t len) {
-    return is_back(by->way)      ? DETHRUX_UTF16_MAX(len)
-        : by->way == TO_WTF8     ? DETHRUX_WTF8_MAX(len)
-        : by->mode == LOSSY      ? DETHRUX_UTF8_MAX(len)
-                                 : len / 2 * 3;
+/* What a conversion did: the output is spelled, and nothing was written after it. */
+typedef struct {
+    dethrux_progress progress;
+    text out;
+    bool is_inside;
+} outcome;
+
+/* Makes a conversion. After the output of one of Latin-1 the buffer stays as it was. */
+static outcome converted(const call *by, dethrux_byte_order order, const text *from, size_t room) {
+    const size_t size = by->widen != NULL ? 4 : 1;
+    outcome found = {.out = blank(size * room)};
+    void *to = found.out.bytes;
+    size_t len;
+    uint32_t *points = code_points(from, &len);
+    found.progress = by->widen != NULL ? by->widen(order, from->bytes, from->len, to, room)
+        : by->narrow != NULL           ? by->narrow(order, points, len, to, room)
+                                       : by->convert(order, from->bytes, from->len, to, room);
+    free(points);
+    size_t written = found.progress.written < room ? found.progress.written : room;
+    bool stays = by->way == TO_LATIN1 || by->way == FROM_LATIN1;
+    found.is_inside =
+        found.progress.written <= room && is_blank(&found.out, stays ? written : size * room);
+    found.out.len = size * written;
+    if (size == 4) {
+        spell_utf32(&found.out);
+    }
+    return found;
 }
 
 /* A decoder, of UTF-16, of UTF-8 or of WTF-8, and its byte order. */
@@ -503,85 +574,104 @@ static const char *contradicted_strict(const call *by, dethrux_byte_order order,
             return "validate";
         }
     }
+    /* The lossy length is the length of what is well formed, and of WTF-8 there is no other. */
+    bool has_len = by->way <= FROM_WTF8 || (by->way <= FROM_UTF32 && found.status == DETHRUX_DONE);
     size_t len = by->way == FROM_UTF8 ? dethrux_from_utf8_len(from->bytes, from->len)
                                       : size_of(by, order, from);
-    return !to_utf8 && len != found.written ? "size" : NULL;
+    return !to_utf8 && has_len && len != found.written ? "size" : NULL;
 }
 
 /* Whether the conversion back of what was written is the input. */
 static bool is_back_again(
     const call *by, dethrux_byte_order order, const text *from, const text *written) {
-    static convert *const back[] = {
-        dethrux_from_utf8, dethrux_to_utf8, dethrux_from_wtf8, dethrux_to_wtf8};
-    text again = blank(from->len);
-    dethrux_progress end =
-        back[by->way](order, written->bytes, written->len, again.bytes, from->len);
-    again.len = end.written;
-    bool is = end.status == DETHRUX_DONE && same(&again, from);
-    free(again.bytes);
+    outcome again = converted(opposite_of(by), order, written, from->len);
+    bool is = again.progress.status == DETHRUX_DONE && same(&again.out, from);
+    free(again.out.bytes);
+    return is;
+}
+
+/* Whether smaller buffers, all of them if there are few, get the start of the output, up to the end
+ * of a character, and a larger one gets the output. */
+static bool is_start_written(
+    const call *by, dethrux_byte_order order, const text *from, const outcome *whole) {
+    const size_t written = whole->progress.written;
+    const size_t longest = by->widen != NULL || by->way == TO_LATIN1 ? 1 : 4;
+    bool is = true;
+    for (size_t room = 0; is && room < written; room += room > 3 * SHORT ? written / 4 : 1) {
+        outcome part = converted(by, order, from, room);
+        is = part.is_inside && part.progress.status == DETHRUX_NO_SPACE
+            && part.progress.error_len == 0 && part.progress.read <= whole->progress.read
+            && room - part.progress.written < longest
+            && memcmp(part.out.bytes, whole->out.bytes, part.out.len) == 0;
+        free(part.out.bytes);
+    }
+    if (is && whole->progress.status != DETHRUX_NO_SPACE) {
+        outcome again = converted(by, order, from, written + 4);
+        is = again.is_inside && same(&again.out, &whole->out)
+            && again.progress.read == whole->progress.read
+            && again.progress.status == whole->progress.status;
+        free(again.out.bytes);
+    }
     return is;
 }
 
 /* Returns a word for what a conversion that came to its end contradicts, or NULL. */
-static const char *contradicted(const call *by, dethrux_byte_order order, const text *from,
-    dethrux_progress found, const text *to) {
-    text written = {to->bytes, found.written, 0};
-    const bool done = found.status == DETHRUX_DONE;
-    const bool strict = by->mode == STRICT;
-    const char *but = strict ? contradicted_strict(by, order, from, found, &written) : NULL;
+static const char *contradicted(
+    const call *by, dethrux_byte_order order, const text *from, const outcome *found) {
+    const bool done = found->progress.status == DETHRUX_DONE, strict = by->mode == STRICT;
+    const char *but =
+        strict ? contradicted_strict(by, order, from, found->progress, &found->out) : NULL;
     if (but != NULL) {
         return but;
     }
-    if (found.written > most(by, from->len)) {
+    if (found->progress.written > most(by, from->len)) {
         return "bound";
     }
     if (from->len > SHORT) {
         return NULL;
     }
     /* What any stream of these bytes gives. */
-    const bool whole = by->mode == LOSSY || (by->way == TO_WTF8 && strict && done);
-    if (whole && !is_cut_anywhere(by->way, order, from, &written)) {
+    const bool whole = by->way == TO_WTF8 ? strict && done
+                                          : by->way <= FROM_UTF8 && by->mode == LOSSY;
+    if (whole && !is_cut_anywhere(by->way, order, from, &found->out)) {
         return "pieces";
     }
-    return strict && done && !is_back_again(by, order, from, &written) ? "back" : NULL;
+    return strict && done && !is_back_again(by, order, from, &found->out) ? "back" : NULL;
 }
 
 static void call_convert(const task *it) {
     bool sized = strcmp(it->values[1], "size") == 0;
     size_t room = sized ? size_of(it->by, it->order, &it->raw) : number_of(it->values[1]);
-    text to = blank(room);
-    dethrux_progress found =
-        it->by->convert(it->order, it->raw.bytes, it->raw.len, to.bytes, room);
-    const char *but = !is_blank(&to, room) ? "written after the buffer"
-        : found.status == DETHRUX_NO_SPACE ? NULL
-                                           : contradicted(it->by, it->order, &it->raw, found, &to);
-    add_progress(it->answer, found);
-    add_found(it->answer, it->by->way == TO_UTF8, to.bytes, found.written);
+    outcome found = converted(it->by, it->order, &it->raw, room);
+    const char *but = !found.is_inside ? "written after the buffer"
+        : !is_start_written(it->by, it->order, &it->raw, &found) ? "another start"
+        : found.progress.status == DETHRUX_NO_SPACE              ? NULL
+                                                : contradicted(it->by, it->order, &it->raw, &found);
+    add_progress(it->answer, found.progress);
+    add_found(it->answer, it->by->way == TO_UTF8, found.out.bytes, found.out.len);
     if (but != NULL) {
         add_word(it->answer, but);
     }
-    free(to.bytes);
+    free(found.out.bytes);
 }
 
 static bool call_every_room(const task *it) {
     text from = {0};
     const call *by = it->count == 2 ? call_of(it->values[0]) : NULL;
-    bool is = by != NULL && by->convert != NULL && bytes_of(it->values[1], it->order, &from);
+    bool is = by != NULL && by->with == call_convert && bytes_of(it->values[1], it->order, &from);
     if (is) {
         size_t size = size_of(by, it->order, &from);
-        text all = blank(size);
-        dethrux_progress last = by->convert(it->order, from.bytes, from.len, all.bytes, size);
+        outcome all = converted(by, it->order, &from, size);
         for (size_t room = 0; room <= size; room++) {
-            text to = blank(room);
-            dethrux_progress found = by->convert(it->order, from.bytes, from.len, to.bytes, room);
-            add_number(it->answer, found.written);
-            if (memcmp(to.bytes, all.bytes, found.written) != 0 || !is_blank(&to, room)) {
+            outcome part = converted(by, it->order, &from, room);
+            add_number(it->answer, part.progress.written);
+            if (memcmp(part.out.bytes, all.out.bytes, part.out.len) != 0 || !part.is_inside) {
                 add_word(it->answer, "differs");
             }
-            free(to.bytes);
+            free(part.out.bytes);
         }
-        add_found(it->answer, by->way == TO_UTF8, all.bytes, last.written);
-        free(all.bytes);
+        add_found(it->answer, by->way == TO_UTF8, all.out.bytes, all.out.len);
+        free(all.out.bytes);
     }
     free(from.bytes);
     return is;
@@ -855,74 +945,8 @@ static void call_search(const task *it) {
     free(pattern.bytes);
 }
 
-/* UTF-32 is spelled by its bytes in big endian. Returns its code units, and makes `count` their
- * number. */
-static uint32_t *code_points(const text *spelled, size_t *count) {
-    uint32_t *found = malloc(spelled->len + sizeof *found);
-    *count = spelled->len / 4;
-    for (size_t i = 0; found != NULL && i < *count; i++) {
-        const uint8_t *at = spelled->bytes + 4 * i;
-        found[i] = (uint32_t)at[0] << 24 | (uint32_t)at[1] << 16 | (uint32_t)at[2] << 8 | at[3];
-    }
-    return found;
-}
-
-static void call_widen(const task *it) {
-    bool sized = strcmp(it->values[1], "size") == 0;
-    size_t room = sized ? dethrux_to_utf32_lossy_len(it->order, it->raw.bytes, it->raw.len)
-                        : number_of(it->values[1]);
-    text to = blank(4 * room), big = {0};
-    uint32_t *points = malloc(to.len);
-    memcpy(points, to.bytes, to.len);
-    dethrux_progress found = it->by->widen(it->order, it->raw.bytes, it->raw.len, points, room);
-    memcpy(to.bytes, points, to.len);
-    add_progress(it->answer, found);
-    for (size_t i = 0; i < 4 * found.written; i++) {
-        append_byte(&big, points[i / 4] >> (24 - i % 4 * 8) & 0xFF);
-    }
-    add_bytes(it->answer, big.bytes, big.len);
-    if (!is_blank(&to, 4 * room)) {
-        add_word(it->answer, "written after the buffer");
-    }
-    free(points);
-    free(to.bytes);
-    free(big.bytes);
-}
-
-static void call_narrow(const task *it) {
-    size_t len;
-    uint32_t *points = code_points(&it->raw, &len);
-    bool sized = strcmp(it->values[1], "size") == 0;
-    size_t room = sized ? dethrux_from_utf32_lossy_len(points, len) : number_of(it->values[1]);
-    text to = blank(room);
-    dethrux_progress found = it->by->narrow(it->order, points, len, to.bytes, room);
-    add_progress(it->answer, found);
-    add_bytes(it->answer, to.bytes, found.written);
-    if (!is_blank(&to, room)) {
-        add_word(it->answer, "written after the buffer");
-    }
-    free(to.bytes);
-    free(points);
-}
-
-static void call_latin1(const task *it) {
-    size_t room = number_of(it->values[1]);
-    text to = blank(room);
-    dethrux_progress found =
-        it->by->convert(it->order, it->raw.bytes, it->raw.len, to.bytes, room);
-    add_progress(it->answer, found);
-    add_bytes(it->answer, to.bytes, found.written);
-    if (!is_blank(&to, found.written)) {
-        add_word(it->answer, "changed");
-    }
-    free(to.bytes);
-}
-
 static void ask_from_utf32_lossy_len(const task *it) {
-    size_t len;
-    uint32_t *points = code_points(&it->raw, &len);
-    add_number(it->answer, dethrux_from_utf32_lossy_len(points, len));
-    free(points);
+    add_number(it->answer, utf32_size_of(&it->raw));
 }
 
 static void ask_validate_utf32(const task *it) {
@@ -951,16 +975,16 @@ static void ask_inspect(const task *it) {
 }
 
 /* The rows of the conversions. */
-#define CONVERSION(name, way, mode) ROW_##way(name, way, mode)
-#define ROW_TO_UTF8(name, to, kind) \
-    {#name, .with = call_convert, .convert = dethrux_##name, .way = to, .mode = kind},
-#define ROW_FROM_UTF8(name, to, kind) ROW_TO_UTF8(name, to, kind)
-#define ROW_TO_WTF8(name, to, kind) ROW_TO_UTF8(name, to, kind)
-#define ROW_FROM_WTF8(name, to, kind) ROW_TO_UTF8(name, to, kind)
-#define ROW_TO_UTF32(name, to, kind) {#name, .with = call_widen, .widen = dethrux_##name},
-#define ROW_FROM_UTF32(name, to, kind) {#name, .with = call_narrow, .narrow = dethrux_##name},
-#define ROW_TO_LATIN1(name, to, kind) {#name, .with = call_latin1, .convert = dethrux_##name},
-#define ROW_FROM_LATIN1(name, to, kind) ROW_TO_LATIN1(name, to, kind)
+#define CONVERSION(name, to, kind) \
+    {#name, .with = call_convert, .TYPE_##to = dethrux_##name, .way = to, .mode = kind},
+#define TYPE_TO_UTF8 convert
+#define TYPE_FROM_UTF8 convert
+#define TYPE_TO_WTF8 convert
+#define TYPE_FROM_WTF8 convert
+#define TYPE_TO_UTF32 widen
+#define TYPE_FROM_UTF32 narrow
+#define TYPE_TO_LATIN1 convert
+#define TYPE_FROM_LATIN1 convert
 /* Cases with other names make the calls of streams. */
 #define STREAM(name, step, state)
 /* The rows of questions about UTF-16. */
@@ -1020,6 +1044,15 @@ static const call *call_of(const char *name) {
         }
     }
     return NULL;
+}
+
+/* The strict conversion the other way round. */
+static const call *opposite_of(const call *by) {
+    const call *found = calls;
+    while (found->with != call_convert || found->mode != STRICT || found->way != (by->way ^ 1U)) {
+        found++;
+    }
+    return found;
 }
 
 static unsigned passed, failed;

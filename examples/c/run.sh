@@ -243,7 +243,7 @@ expanded() {
 checks_all() {
     grep -oE 'dethrux_[a-z0-9_]+\(' "$top/dist/include/dethrux.h" | tr -d '(' | grep -vE 'kernel|u16_bytes|checked_' |
         sort -u > "$room/declared"
-    { expanded check; expanded units; expanded fixed; } | grep -oE 'dethrux_[a-z0-9_]+' | sort -u |
+    { expanded check; expanded units; } | grep -oE 'dethrux_[a-z0-9_]+' | sort -u |
         comm -23 "$room/declared" - > "$room/missing"
     [ -s "$room/declared" ] && diff /dev/null "$room/missing"
 }
@@ -360,7 +360,6 @@ test_c() {
 check_in_c() {
     count 'the check in C' in_c check && count 'the cases in C' check_c
     count 'the check of code units' in_c units c11 && count 'code units in C' "$room/units"
-    count 'the check of UTF-32' in_c fixed c11 && count 'UTF-32 and Latin-1 in C' "$room/fixed"
 }
 
 memory_in_c() {
@@ -369,7 +368,6 @@ memory_in_c() {
     count 'the program of the header under valgrind' is_clean comment "$room/odd"
     count 'the check in C under valgrind' is_clean check "$room/cases"
     count 'code units under valgrind' is_clean units /dev/null
-    count 'UTF-32 under valgrind' is_clean fixed /dev/null
     count 'memory under valgrind' is_clean alloc /dev/null
     count 'a field under valgrind' is_clean field /dev/null
     head -c -1 "$room/cut" > "$room/whole"
@@ -417,7 +415,6 @@ test_c_in_cxx() {
         'bool is(const UNIT *text) { return dethrux_u16_is_ascii(text, 1); }' \
         'void swap(UNIT *text) { dethrux_u16_swap_byte_order(text, 1); }'
     count 'the check of code units in C++' c_in_cxx units && count 'code units in C++' "$room/units_cxx"
-    count 'the check of UTF-32 in C++' c_in_cxx fixed && count 'UTF-32 in C++' "$room/fixed_cxx"
 }
 
 # Whether a header gives no warning, in each standard.

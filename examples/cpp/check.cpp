@@ -204,21 +204,40 @@ static void to_utf8(const row &from) {
     });
 }
 
-// In two chunks, cut at each offset, appended to a text. One decoder decodes all these streams.
+// Whether a call of a stream succeeds: it returns nothing, true, or no error.
+template <class Call>
+static bool succeeds(Call call) {
+    using returned = decltype(call());
+    if constexpr (std::is_void_v<returned>) {
+        call();
+        return true;
+    } else if constexpr (std::is_same_v<returned, bool>) {
+        return call();
+    } else {
+        return !call();
+    }
+}
+
+// Whether a decoder or an encoder, which gets all these streams, appends this to a text, in two
+// chunks that are cut at each offset.
+template <class Stream, class Chunk, class Text>
+static bool streams(Stream &by, const Chunk &from, std::size_t pending, const Text &before,
+    const Text &wanted) {
+    bool is = true;
+    for (std::size_t at = 0; at <= from.size(); at++) {
+        Text to = before;
+        is = is && succeeds([&] { return by.feed(from.substr(0, at), to); })
+             && succeeds([&] { return by.feed(from.substr(at), to); }) && by.pending() == pending
+             && succeeds([&] { return by.finish(to); }) && by.pending() == 0
+             && to == before + wanted;
+    }
+    return is;
+}
+
 static void decode(const row &from) {
     check_forms("decoder", from, [&](std::size_t, auto... order) {
-        bool is = true;
-        auto text = in_form(from.big, order...);
-        dethrux::decoder decoder(order...);
-        for (std::size_t at = 0; at <= text.size(); at++) {
-            std::string to = "before ";
-            decoder.feed(text.substr(0, at), to);
-            decoder.feed(text.substr(at), to);
-            is = is && decoder.pending() == from.pending;
-            decoder.finish(to);
-            is = is && decoder.pending() == 0 && to == "before " + from.utf8;
-        }
-        return is;
+        dethrux::decoder by(order...);
+        return streams(by, in_form(from.big, order...), from.pending, "before "s, from.utf8);
     });
 }
 
@@ -383,20 +402,11 @@ static void from_utf8(const row8 &from) {
         dethrux::from_utf8_replacements(from.utf8) == from.replaced);
 }
 
-static void decode8(const row8 &from) {
+static void encode(const row8 &from) {
     check_forms("encoder", from, [&](std::size_t, auto... order) {
-        bool is = true;
-        const auto before = in_form("\0b\0e"s, order...);
-        dethrux::encoder decoder(order...);
-        for (std::size_t at = 0; at <= from.utf8.size(); at++) {
-            auto to = before;
-            decoder.feed(from.utf8.substr(0, at), to);
-            decoder.feed(from.utf8.substr(at), to);
-            is = is && decoder.pending() == from.pending;
-            decoder.finish(to);
-            is = is && decoder.pending() == 0 && to == before + in_form(from.big, order...);
-        }
-        return is;
+        dethrux::encoder by(order...);
+        const auto before = in_form("\0b\0e"s, order...), wanted = in_form(from.big, order...);
+        return streams(by, from.utf8, from.pending, before, wanted);
     });
 }
 
@@ -440,42 +450,25 @@ static void wtf8(const row_of_wtf8 &from) {
     check("to_wtf8: "s + from.name, is && dethrux::to_wtf8(in_form(from.big)) == from.wtf8);
 }
 
-// In two chunks, cut at each offset, appended to a text. One decoder decodes all these streams, and
-// after each of them one with an odd byte at its end.
+// After each stream the decoder gets one with an odd byte at its end.
 static void decode_wtf8(const row_of_wtf8 &from) {
     check_forms("wtf8_decoder", from, [&](std::size_t element, auto... order) {
-        bool is = true;
-        auto text = in_form(from.big, order...);
-        dethrux::wtf8_decoder decoder(order...);
-        for (std::size_t at = 0; at <= text.size(); at++) {
-            std::string to = "before ";
-            decoder.feed(text.substr(0, at), to);
-            decoder.feed(text.substr(at), to);
-            is = is && decoder.pending() == from.pending && decoder.finish(to)
-                 && decoder.pending() == 0 && to == "before " + from.wtf8;
-            decoder.feed(text, to);
-            decoder.feed("a"sv.substr(element - 1), to);
-            is = is && decoder.pending() == from.pending + (element == 1)
-                 && decoder.finish(to) == (element == 2) && decoder.pending() == 0
-                 && to == "before " + from.wtf8 + from.wtf8;
-        }
-        return is;
+        const auto text = in_form(from.big, order...);
+        dethrux::wtf8_decoder by(order...);
+        bool is = streams(by, text, from.pending, "before "s, from.wtf8);
+        std::string to;
+        by.feed(text, to);
+        by.feed("a"sv.substr(element - 1), to);
+        return is && by.pending() == from.pending + (element == 1)
+               && by.finish(to) == (element == 2) && by.pending() == 0 && to == from.wtf8;
     });
 }
 
 static void encode_wtf8(const row_of_wtf8 &from) {
     check_forms("wtf8_encoder", from, [&](std::size_t, auto... order) {
-        bool is = true;
-        const auto before = in_form("\0b\0e"s, order...);
-        dethrux::wtf8_encoder encoder(order...);
-        for (std::size_t at = 0; at <= from.wtf8.size(); at++) {
-            auto to = before;
-            is = is && !encoder.feed(from.wtf8.substr(0, at), to)
-                 && !encoder.feed(from.wtf8.substr(at), to) && encoder.pending() == from.pending8
-                 && !encoder.finish(to) && encoder.pending() == 0
-                 && to == before + in_form(from.big, order...);
-        }
-        return is;
+        dethrux::wtf8_encoder by(order...);
+        const auto before = in_form("\0b\0e"s, order...), wanted = in_form(from.big, order...);
+        return streams(by, from.wtf8, from.pending8, before, wanted);
     });
 }
 
@@ -830,46 +823,29 @@ static void views() {
     static_assert(!takes_any<dethrux::points, char, char16_t, no_element<4>, float>);
 }
 
-// What each call that reads finds in no elements.
+// What each call that reads finds in no elements. None throws.
 template <class Text, class... Order>
 static bool reads_nothing(Text none, Order... order) {
-    const dethrux::inspection found = dethrux::inspect(order..., none);
-    return none.size() == 0 && none.data() == nullptr && !dethrux::validate(order..., none)
-           && dethrux::count_chars(order..., none) == 0 && dethrux::is_ascii(order..., none)
-           && dethrux::to_utf8_replacements(order..., none) == 0
-           && dethrux::is_char_boundary(order..., none, 0)
-           && !dethrux::is_char_boundary(order..., none, 1)
-           && dethrux::floor_char_boundary(order..., none, 0) == 0
-           && dethrux::floor_char_boundary(order..., none, 1) == 0
-           && dethrux::compare(order..., none, order..., none) == 0
-           && dethrux::find(order..., none, none) == 0 && dethrux::rfind(order..., none, none) == 0
-           && !found.error && found.chars == 0 && found.repertoire == dethrux::repertoire::ascii;
-}
-
-// What each call to another encoding makes of no elements, and then each call from one.
-template <class Text, class... Order>
-static bool converts_nothing(Text none, Order... order) {
-    const dethrux::bytes bytes;
-    const dethrux::points points;
-    bool is = dethrux::to_utf8(order..., none).value().empty()
-              && dethrux::to_utf8_lossy(order..., none).empty()
-              && dethrux::to_utf32(order..., none).value().empty()
-              && dethrux::to_utf32_lossy(order..., none).empty()
-              && dethrux::to_latin1(order..., none).value().empty();
-    if constexpr (sizeof...(order) == 0) {
-        is = is && dethrux::to_wtf8(none).empty() && dethrux::to_wstring(none).value().empty()
-             && dethrux::to_wstring_lossy(none).empty()
-             && dethrux::from_wstring(std::wstring_view()).value().empty()
-             && dethrux::from_wstring_lossy(std::wstring_view()).empty();
-    } else {
-        is = is && dethrux::to_wtf8(order..., none).value().empty();
-    }
-    return is && dethrux::from_utf8(order..., bytes).value().empty()
-           && dethrux::from_utf8_lossy(order..., bytes).empty()
-           && dethrux::from_utf32(order..., points).value().empty()
-           && dethrux::from_utf32_lossy(order..., points).empty()
-           && dethrux::from_latin1(order..., bytes).empty()
-           && dethrux::from_wtf8(order..., bytes).value().empty();
+    bool is = none.size() == 0 && none.data() == nullptr;
+#define READS(call, wanted) \
+    static_assert(noexcept(dethrux::call)); \
+    is = is && dethrux::call == (wanted)
+    READS(validate(order..., none), std::nullopt);
+    READS(count_chars(order..., none), 0);
+    READS(is_ascii(order..., none), true);
+    READS(to_utf8_replacements(order..., none), 0);
+    READS(is_char_boundary(order..., none, 0), true);
+    READS(is_char_boundary(order..., none, 1), false);
+    READS(floor_char_boundary(order..., none, 0), 0);
+    READS(floor_char_boundary(order..., none, 1), 0);
+    READS(compare(order..., none, order..., none), 0);
+    READS(find(order..., none, none), 0);
+    READS(rfind(order..., none, none), 0);
+    READS(nul_offset(none), 0);
+    READS(inspect(order..., none).error, std::nullopt);
+    READS(inspect(order..., none).chars, 0);
+    READS(inspect(order..., none).repertoire, dethrux::repertoire::ascii);
+    return is;
 }
 
 // No elements, as bytes and as code units, leave a stream where it is.
@@ -905,13 +881,16 @@ static void no_elements() {
     const dethrux::bytes bytes;
     const dethrux::units units;
     const dethrux::points points;
-    check("no elements in code units", reads_nothing(units) && converts_nothing(units));
+    check("no elements in code units", reads_nothing(units));
+    check("no elements in a std::wstring",
+        dethrux::to_wstring(units).value().empty() && dethrux::to_wstring_lossy(units).empty()
+            && dethrux::from_wstring(std::wstring_view()).value().empty()
+            && dethrux::from_wstring_lossy(std::wstring_view()).empty());
     check("no code points", points.size() == 0 && points.data() == nullptr
                                 && dethrux::points().data() == nullptr
                                 && !dethrux::validate_utf32(points));
     for (byte_order order : {byte_order::little, byte_order::big}) {
-        check(
-            "no elements in bytes", reads_nothing(bytes, order) && converts_nothing(bytes, order));
+        check("no elements in bytes", reads_nothing(bytes, order));
         check("no elements in a part of a file",
             dethrux::floor_char_boundary_around(order, bytes, 0) == 0);
         check("no elements in a stream", streams_nothing(order));
@@ -921,34 +900,16 @@ static void no_elements() {
 // What the compiler tests: no call on a text throws, no conversion is implicit, and a byte order
 // can have any value.
 static void types() {
-    using dethrux::bytes, dethrux::units;
+    using dethrux::bytes;
     const bytes text;
-    const units wide;
     std::string changed;
     std::u16string changed_wide;
     const byte_order order = byte_order::big;
     constexpr dethrux_byte_order any{5u};
     static_assert(any == 5);
-    static_assert(noexcept(dethrux::validate(order, text)) &&noexcept(dethrux::validate(wide)));
-    static_assert(noexcept(dethrux::count_chars(order, text)));
-    static_assert(noexcept(dethrux::count_chars(wide)) &&noexcept(dethrux::is_ascii(order, text)));
-    static_assert(noexcept(dethrux::is_ascii(wide)));
-    static_assert(noexcept(dethrux::to_utf8_replacements(order, text)));
-    static_assert(noexcept(dethrux::to_utf8_replacements(wide)));
     static_assert(noexcept(dethrux::from_utf8_replacements(text)));
-    static_assert(noexcept(dethrux::compare(order, text, order, text)));
-    static_assert(noexcept(dethrux::compare(wide, wide)));
-    static_assert(noexcept(dethrux::is_char_boundary(order, text, 0)));
-    static_assert(noexcept(dethrux::is_char_boundary(wide, 0)));
-    static_assert(noexcept(dethrux::floor_char_boundary(order, text, 0)));
-    static_assert(noexcept(dethrux::floor_char_boundary(wide, 0)));
     static_assert(noexcept(dethrux::floor_char_boundary_around(order, text, 0)));
     static_assert(noexcept(dethrux::shard_offset(0, 0, 0)));
-    static_assert(noexcept(dethrux::find(order, text, text)));
-    static_assert(noexcept(dethrux::find(wide, wide)));
-    static_assert(noexcept(dethrux::rfind(order, text, text)));
-    static_assert(noexcept(dethrux::rfind(wide, wide)));
-    static_assert(noexcept(dethrux::nul_offset(text)) &&noexcept(dethrux::nul_offset(wide)));
     static_assert(noexcept(dethrux::nul_offset(u"")));
     static_assert(noexcept(dethrux::swap_byte_order(changed)));
     static_assert(noexcept(dethrux::swap_byte_order(changed_wide)));
@@ -1331,59 +1292,92 @@ static bool requests_once(std::size_t bytes, Call call) {
     return requests_times(1, bytes, call);
 }
 
-// A result in UTF-8 takes the memory that it needs if it is ASCII, and else at most that of the
-// longest text. The others take that of the longest text for their length of input: of UTF-16 a
-// code unit of UTF-32 for each code unit, a code unit for each byte of UTF-8 and Latin-1, and two
-// for each code unit of UTF-32.
+// Whether a conversion gives an empty text, or a result with one.
+template <class Text>
+static bool is_empty(const Text &text) {
+    return text.empty();
+}
+template <class Text>
+static bool is_empty(const dethrux::result<Text> &found) {
+    return found.value().empty();
+}
+template <class Text>
+static bool is_empty(const std::optional<Text> &found) {
+    return found.value().empty();
+}
+
+// A text that is too long for a string of it: none of it is read.
+static const std::size_t TOO_LONG = PTRDIFF_MAX / 4 * 3;
+
+// A conversion of no elements; the memory that it takes, of this many bytes, for a text without and
+// with a byte order; and if it takes all at once, of a text that is too long.
+template <class Text, class Bytes, class Long, class LongBytes, class Call>
+static void convert(const std::string &name, Call call, const Text &text, std::size_t memory,
+    const Bytes &bytes, std::size_t times, std::size_t most, Long too_long, LongBytes long_bytes,
+    bool takes_all) {
+    const byte_order little = byte_order::little, big = byte_order::big;
+    check(name + " of no elements", is_empty(call(Long())) && is_empty(call(big, LongBytes()))
+                                        && is_empty(call(little, LongBytes())));
+    check("the memory of " + name, requests_once(memory, [&] { (void)call(text); })
+                                       && requests_times(
+                                           times, most, [&] { (void)call(big, bytes); }));
+    check(name + " of a text that is too long",
+        !takes_all
+            || (throws<std::length_error>([&] { (void)call(too_long); })
+                && throws<std::length_error>([&] { (void)call(big, long_bytes); })));
+}
+
+// Each conversion of the header but those of chunks. A result in UTF-8 takes the memory that it
+// needs if it is ASCII, and else at most that of the longest text. The others take that of the
+// longest text for their length of input: of UTF-16 a code unit of UTF-32 for each code unit, a
+// code unit for each byte of UTF-8 and Latin-1, and two for each code unit of UTF-32.
+static void conversions() {
+    const std::string bytes(2000, 'a');
+    const std::u16string units(1000, u'a');
+    const std::u32string points(1000, U'a');
+    const dethrux::bytes long_bytes("", TOO_LONG);
+    const dethrux::units long_units(u"", TOO_LONG / 2);
+    const dethrux::points long_points(U"", TOO_LONG / 2);
+#define CONVERSION(name, way, mode) CONVERT_##mode(name, way)
+#define CONVERT_PARTIAL(name, ...)
+#define CONVERT_LOSSY(name, ...) CONVERT_STRICT(name, __VA_ARGS__)
+#define CONVERT_STRICT(name, ...) \
+    convert(#name, [](const auto &...from) { return dethrux::name(from...); }, __VA_ARGS__);
+#define TO_UTF8 units, 1000, bytes, 2, 3001, long_units, long_bytes, false
+#define TO_WTF8 TO_UTF8
+#define TO_LATIN1 units, 1000, bytes, 1, 1000, long_units, long_bytes, false
+#define TO_UTF32 units, 4000, bytes, 1, 4000, long_units, long_bytes, true
+#define FROM_UTF8 bytes, 4000, bytes, 1, 4000, long_bytes, long_bytes, true
+#define FROM_WTF8 FROM_UTF8
+#define FROM_LATIN1 FROM_UTF8
+#define FROM_UTF32 points, 4000, points, 1, 4000, long_points, long_points, true
+#define STREAM(name, step, state)
+#define QUESTION(name, kind)
+#define CALL(name, shape, kind)
+#include "../../dist/src/shapes.inc"
+}
+
+// The memory of other calls.
 static void space() {
     const std::string bytes(2000, 'a');
     const std::u16string units(1000, u'a');
     const byte_order order = byte_order::big;
     const std::u16string more = u"\xE9" + units, wider(1000, u'\x4E2D');
-    check("the memory of to_utf8",
+    check("the memory of to_utf8 for few letters, and for others",
         requests_times(0, 0, [] { (void)dethrux::to_utf8(u"fifteen letters"); })
-            && requests_once(1000, [&] { (void)dethrux::to_utf8(units); })
-            && requests_times(2, 3001, [&] { (void)dethrux::to_utf8(order, bytes); })
-            && requests_once(1000, [&] { (void)dethrux::to_utf8_lossy(units); })
-            && requests_times(2, 3001, [&] { (void)dethrux::to_utf8_lossy(order, bytes); })
             && requests_times(2, 2002, [&] { (void)dethrux::to_utf8(more); })
             && requests_times(2, 3001, [&] { (void)dethrux::to_utf8(wider); }));
-    check("the memory of from_utf8",
-        requests_once(4000, [&] { (void)dethrux::from_utf8(bytes); })
-            && requests_once(4000, [&] { (void)dethrux::from_utf8(order, bytes); })
-            && requests_once(4000, [&] { (void)dethrux::from_utf8_lossy(bytes); })
-            && requests_once(4000, [&] { (void)dethrux::from_utf8_lossy(order, bytes); }));
-    const std::u32string points(1000, U'a');
     const std::wstring wide(1000, L'a');
-    check("the memory of UTF-32",
-        requests_once(4000, [&] { (void)dethrux::to_utf32(units); })
-            && requests_once(4000, [&] { (void)dethrux::to_utf32(order, bytes); })
-            && requests_once(4000, [&] { (void)dethrux::to_utf32_lossy(units); })
-            && requests_once(4000, [&] { (void)dethrux::to_utf32_lossy(order, bytes); })
-            && requests_once(4000, [&] { (void)dethrux::from_utf32(points); })
-            && requests_once(4000, [&] { (void)dethrux::from_utf32(order, points); })
-            && requests_once(4000, [&] { (void)dethrux::from_utf32_lossy(points); })
-            && requests_once(4000, [&] { (void)dethrux::from_utf32_lossy(order, points); }));
-    check("the memory of Latin-1",
-        requests_once(1000, [&] { (void)dethrux::to_latin1(units); })
-            && requests_once(1000, [&] { (void)dethrux::to_latin1(order, bytes); })
-            && requests_once(4000, [&] { (void)dethrux::from_latin1(bytes); })
-            && requests_once(4000, [&] { (void)dethrux::from_latin1(order, bytes); }));
     check("the memory of a std::wstring",
         requests_once(1000 * sizeof(wchar_t), [&] { (void)dethrux::to_wstring(units); })
             && requests_once(
                 1000 * sizeof(wchar_t), [&] { (void)dethrux::to_wstring_lossy(units); })
             && requests_once(4000, [&] { (void)dethrux::from_wstring(wide); })
             && requests_once(4000, [&] { (void)dethrux::from_wstring_lossy(wide); }));
-    check("the memory of WTF-8",
-        requests_once(1000, [&] { (void)dethrux::to_wtf8(units); })
-            && requests_times(2, 3001, [&] { (void)dethrux::to_wtf8(order, bytes); })
-            && requests_once(4000, [&] { (void)dethrux::from_wtf8(bytes); })
-            && requests_once(4000, [&] { (void)dethrux::from_wtf8(order, bytes); })
-            && requests_once(3000, [&] {
-                   std::string to;
-                   dethrux::wtf8_decoder(order).feed(bytes, to);
-               }));
+    check("the memory of wtf8_decoder", requests_once(3000, [&] {
+        std::string to;
+        dethrux::wtf8_decoder(order).feed(bytes, to);
+    }));
     check("the memory of wtf8_encoder", requests_once(4000, [&] {
         std::string to;
         (void)dethrux::wtf8_encoder(order).feed(bytes, to);
@@ -1406,34 +1400,25 @@ static void space() {
     }));
 }
 
-// Calls refuse a text for which no string is long enough. None of it is read.
+// Streams refuse a text for which no string is long enough, and nothing changes.
 static void lengths() {
-    const std::size_t len = PTRDIFF_MAX / 4 * 3;
-    const dethrux::bytes bytes("", len);
-    const dethrux::units units(u"", len / 2);
+    const dethrux::bytes bytes("", TOO_LONG);
+    const dethrux::units units(u"", TOO_LONG / 2);
     const byte_order order = byte_order::big;
     std::string to = "before";
     std::u16string wide = u"before";
     dethrux::decoder decoder(order);
     dethrux::encoder back(order);
     dethrux::wtf8_decoder wtf8(order);
-    check("texts of WTF-8 that are too long",
-        throws<std::length_error>([&] { (void)dethrux::from_wtf8(order, bytes); })
-            && throws<std::length_error>([&] { (void)dethrux::from_wtf8(bytes); })
-            && throws<std::length_error>([&] { wtf8.feed(bytes, to); })
-            && throws<std::length_error>([&] { wtf8.feed(units, to); }) && to == "before"
-            && wtf8.pending() == 0);
     check("texts that are too long",
-        throws<std::length_error>([&] { (void)dethrux::from_utf8(order, bytes); })
-            && throws<std::length_error>([&] { (void)dethrux::from_utf8_lossy(bytes); })
-            && throws<std::length_error>([&] { (void)dethrux::to_utf32(order, bytes); })
-            && throws<std::length_error>([&] { (void)dethrux::to_utf32_lossy(units); })
-            && throws<std::length_error>([&] { (void)dethrux::from_latin1(order, bytes); })
-            && throws<std::length_error>([&] { decoder.feed(bytes, to); })
+        throws<std::length_error>([&] { decoder.feed(bytes, to); })
             && throws<std::length_error>([&] { decoder.feed(units, to); })
             && throws<std::length_error>([&] { back.feed(bytes, to); })
-            && throws<std::length_error>([&] { back.feed(bytes, wide); }) && to == "before"
-            && wide == u"before" && decoder.pending() == 0 && back.pending() == 0);
+            && throws<std::length_error>([&] { back.feed(bytes, wide); })
+            && throws<std::length_error>([&] { wtf8.feed(bytes, to); })
+            && throws<std::length_error>([&] { wtf8.feed(units, to); }) && to == "before"
+            && wide == u"before" && decoder.pending() == 0 && back.pending() == 0
+            && wtf8.pending() == 0);
 }
 
 template <class Rows, class... Tests>
@@ -1447,7 +1432,7 @@ int main() {
     with_each(rows, look, change, cut, to_utf8, decode);
     with_each(rows, inspect, to_utf32, to_latin1, to_wstring);
     no_characters();
-    with_each(rows8, from_utf8, decode8);
+    with_each(rows8, from_utf8, encode);
     with_each(rows_of_wtf8, wtf8, decode_wtf8, encode_wtf8);
     not_wtf8();
     with_each(pairs, compare);
@@ -1467,6 +1452,7 @@ int main() {
     mixed_orders();
     memory();
     append_without_memory();
+    conversions();
     space();
     lengths();
     std::printf("%d passed, %d failed\n", passed, failed);
