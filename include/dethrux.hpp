@@ -49,6 +49,9 @@
 #include <utility>
 #include <variant>
 
+// After each function that takes a dethrux::utf16, or gives code units in the machine's byte order,
+// packaging/calls writes the one for bytes in a byte order.
+
 /** UTF-16 in either byte order, to and from UTF-8, UTF-32, Latin-1 and WTF-8. */
 namespace dethrux {
 
@@ -497,11 +500,6 @@ element_of<C> *elements(C &to) noexcept {
     return detail::error_of(dethrux_validate(text.order(), text.data(), text.len()), text.unit());
 }
 
-/** Does the same for bytes in a byte order. */
-[[nodiscard]] inline std::optional<error> validate(byte_order order, bytes text) noexcept {
-    return validate(utf16(order, text));
-}
-
 /** Returns the first error, or nothing if the input is UTF-32. */
 [[nodiscard]] inline std::optional<error> validate_utf32(points utf32) noexcept {
     return detail::error_of(dethrux_validate_utf32(detail::points_of(utf32), utf32.size()), 1);
@@ -516,19 +514,9 @@ element_of<C> *elements(C &to) noexcept {
     return dethrux_count_chars(text.order(), text.data(), text.len());
 }
 
-/** Does the same for bytes in a byte order. */
-[[nodiscard]] inline std::size_t count_chars(byte_order order, bytes text) noexcept {
-    return count_chars(utf16(order, text));
-}
-
 /** Returns whether the input is UTF-16 whose characters are all ASCII. */
 [[nodiscard]] inline bool is_ascii(utf16 text) noexcept {
     return dethrux_is_ascii(text.order(), text.data(), text.len());
-}
-
-/** Does the same for bytes in a byte order. */
-[[nodiscard]] inline bool is_ascii(byte_order order, bytes text) noexcept {
-    return is_ascii(utf16(order, text));
 }
 
 /**
@@ -542,21 +530,10 @@ element_of<C> *elements(C &to) noexcept {
         first.order(), first.data(), first.len(), second.order(), second.data(), second.len());
 }
 
-/** Does the same for bytes, each text in its byte order. */
-[[nodiscard]] inline int compare(
-    byte_order first_order, bytes first, byte_order second_order, bytes second) noexcept {
-    return compare(utf16(first_order, first), utf16(second_order, second));
-}
-
 /** Returns whether the text may be cut at an offset: dethrux_is_char_boundary. */
 [[nodiscard]] inline bool is_char_boundary(utf16 text, std::size_t at) noexcept {
     return at <= text.len() / text.unit()
            && dethrux_is_char_boundary(text.order(), text.data(), text.len(), at * text.unit());
-}
-
-/** Does the same for bytes in a byte order. */
-[[nodiscard]] inline bool is_char_boundary(byte_order order, bytes text, std::size_t at) noexcept {
-    return is_char_boundary(utf16(order, text), at);
 }
 
 /**
@@ -567,12 +544,6 @@ element_of<C> *elements(C &to) noexcept {
     return dethrux_floor_char_boundary(text.order(), text.data(), text.len(),
                at < text.len() / text.unit() ? at * text.unit() : text.len())
            / text.unit();
-}
-
-/** Does the same for bytes in a byte order. */
-[[nodiscard]] inline std::size_t floor_char_boundary(
-    byte_order order, bytes text, std::size_t at) noexcept {
-    return floor_char_boundary(utf16(order, text), at);
 }
 
 /**
@@ -674,11 +645,6 @@ struct inspection {
         found.chars, static_cast<dethrux::repertoire>(found.repertoire)};
 }
 
-/** Does the same for bytes in a byte order. */
-[[nodiscard]] inline inspection inspect(byte_order order, bytes text) noexcept {
-    return inspect(utf16(order, text));
-}
-
 /** @} */
 
 /**
@@ -726,11 +692,6 @@ struct bom {
     return dethrux_to_utf8_replacements(text.order(), text.data(), text.len());
 }
 
-/** Does the same for bytes in a byte order. */
-[[nodiscard]] inline std::size_t to_utf8_replacements(byte_order order, bytes text) noexcept {
-    return to_utf8_replacements(utf16(order, text));
-}
-
 /**
  * Returns how many U+FFFD from_utf8_lossy writes for ill-formed sequences: 0 if and only if the
  * input is UTF-8.
@@ -755,12 +716,6 @@ result<String> to_utf8(utf16 text) {
     return detail::text_or_error(std::move(to), made, text.unit());
 }
 
-/** Does the same for bytes in a byte order. */
-template <class String = std::string>
-result<String> to_utf8(byte_order order, bytes text) {
-    return to_utf8<String>(utf16(order, text));
-}
-
 /**
  * Returns the text in UTF-8, with U+FFFD for each unpaired surrogate and for an incomplete
  * character at the end.
@@ -770,12 +725,6 @@ template <class String = std::string>
     String to;
     detail::append_utf8_by(dethrux_to_utf8_lossy, text, to);
     return to;
-}
-
-/** Does the same for bytes in a byte order. */
-template <class String = std::string>
-[[nodiscard]] String to_utf8_lossy(byte_order order, bytes text) {
-    return to_utf8_lossy<String>(utf16(order, text));
 }
 
 /**
@@ -788,22 +737,10 @@ template <class String>
     return detail::error_of(detail::append_utf8_by(dethrux_to_utf8, text, to), text.unit());
 }
 
-/** Does the same for bytes in a byte order. */
-template <class String>
-[[nodiscard]] std::optional<error> append_utf8(byte_order order, bytes text, String &to) {
-    return append_utf8(utf16(order, text), to);
-}
-
 /** Does the same with U+FFFD for what is ill formed. */
 template <class String>
 void append_utf8_lossy(utf16 text, String &to) {
     detail::append_utf8_by(dethrux_to_utf8_lossy, text, to);
-}
-
-/** Does the same for bytes in a byte order. */
-template <class String>
-void append_utf8_lossy(byte_order order, bytes text, String &to) {
-    append_utf8_lossy(utf16(order, text), to);
 }
 
 namespace detail {
@@ -822,22 +759,10 @@ progress write_utf8(utf16 text, Out &&to) noexcept {
     return detail::write_utf8_by(dethrux_to_utf8, text, to);
 }
 
-/** Does the same for bytes in a byte order. */
-template <class Out>
-progress write_utf8(byte_order order, bytes text, Out &&to) noexcept {
-    return write_utf8(utf16(order, text), to);
-}
-
 /** Writes the text in UTF-8 to an array or span: dethrux_to_utf8_lossy. */
 template <class Out>
 progress write_utf8_lossy(utf16 text, Out &&to) noexcept {
     return detail::write_utf8_by(dethrux_to_utf8_lossy, text, to);
-}
-
-/** Does the same for bytes in a byte order. */
-template <class Out>
-progress write_utf8_lossy(byte_order order, bytes text, Out &&to) noexcept {
-    return write_utf8_lossy(utf16(order, text), to);
 }
 
 /** @} */
@@ -859,14 +784,6 @@ result<String> from_utf8(chars utf8) {
     return detail::text_or_error(std::move(to), made, 1);
 }
 
-/** Does the same in bytes of a byte order. */
-template <class String = std::string>
-result<String> from_utf8(byte_order order, chars utf8) {
-    String to;
-    dethrux_progress made = detail::append_utf16_by(dethrux_from_utf8, order, utf8, to);
-    return detail::text_or_error(std::move(to), made, 1);
-}
-
 /**
  * Returns the text in UTF-16, with U+FFFD for each maximal subpart of an ill-formed sequence, as
  * the Unicode Standard recommends.
@@ -876,14 +793,6 @@ template <class String = std::u16string>
     String to;
     static_assert(sizeof(typename String::value_type) == 2, "bytes need a byte order");
     detail::append_utf16_by(dethrux_from_utf8_lossy, byte_order::native, utf8, to);
-    return to;
-}
-
-/** Does the same in bytes of a byte order. */
-template <class String = std::string>
-[[nodiscard]] String from_utf8_lossy(byte_order order, chars utf8) {
-    String to;
-    detail::append_utf16_by(dethrux_from_utf8_lossy, order, utf8, to);
     return to;
 }
 
@@ -900,23 +809,11 @@ template <class String>
         detail::append_utf16_by(dethrux_from_utf8, byte_order::native, utf8, to), 1);
 }
 
-/** Does the same in bytes of a byte order. */
-template <class String>
-[[nodiscard]] std::optional<error> append_utf16(byte_order order, chars utf8, String &to) {
-    return detail::error_of(detail::append_utf16_by(dethrux_from_utf8, order, utf8, to), 1);
-}
-
 /** Does the same with U+FFFD for what is ill formed. */
 template <class String>
 void append_utf16_lossy(chars utf8, String &to) {
     static_assert(sizeof(typename String::value_type) == 2, "bytes need a byte order");
     detail::append_utf16_by(dethrux_from_utf8_lossy, byte_order::native, utf8, to);
-}
-
-/** Does the same in bytes of a byte order. */
-template <class String>
-void append_utf16_lossy(byte_order order, chars utf8, String &to) {
-    detail::append_utf16_by(dethrux_from_utf8_lossy, order, utf8, to);
 }
 
 namespace detail {
@@ -936,22 +833,10 @@ progress write_utf16(chars utf8, Out &&to) noexcept {
     return detail::write_utf16_by<2>(dethrux_from_utf8, byte_order::native, utf8, to);
 }
 
-/** Does the same in bytes of a byte order. */
-template <class Out>
-progress write_utf16(byte_order order, chars utf8, Out &&to) noexcept {
-    return detail::write_utf16_by<1>(dethrux_from_utf8, order, utf8, to);
-}
-
 /** Writes the text in UTF-16 to an array or span: dethrux_from_utf8_lossy. */
 template <class Out>
 progress write_utf16_lossy(chars utf8, Out &&to) noexcept {
     return detail::write_utf16_by<2>(dethrux_from_utf8_lossy, byte_order::native, utf8, to);
-}
-
-/** Does the same in bytes of a byte order. */
-template <class Out>
-progress write_utf16_lossy(byte_order order, chars utf8, Out &&to) noexcept {
-    return detail::write_utf16_by<1>(dethrux_from_utf8_lossy, order, utf8, to);
 }
 
 /** @} */
@@ -968,11 +853,6 @@ inline result<std::u32string> to_utf32(utf16 text) {
     return detail::text_or_error(std::move(to), made, text.unit());
 }
 
-/** Does the same for bytes in a byte order. */
-inline result<std::u32string> to_utf32(byte_order order, bytes text) {
-    return to_utf32(utf16(order, text));
-}
-
 /**
  * Returns the text in UTF-32, with U+FFFD for each unpaired surrogate and for an incomplete
  * character at the end.
@@ -983,11 +863,6 @@ inline result<std::u32string> to_utf32(byte_order order, bytes text) {
     return to;
 }
 
-/** Does the same for bytes in a byte order. */
-[[nodiscard]] inline std::u32string to_utf32_lossy(byte_order order, bytes text) {
-    return to_utf32_lossy(utf16(order, text));
-}
-
 /** Returns the text in UTF-16, in code units or in bytes, or where the input is ill formed. */
 inline result<std::u16string> from_utf32(points utf32) {
     std::u16string to;
@@ -996,24 +871,10 @@ inline result<std::u16string> from_utf32(points utf32) {
     return detail::text_or_error(std::move(to), made, 1);
 }
 
-/** Does the same in bytes of a byte order. */
-inline result<std::string> from_utf32(byte_order order, points utf32) {
-    std::string to;
-    dethrux_progress made = detail::append_from_utf32_by(dethrux_from_utf32, order, utf32, to);
-    return detail::text_or_error(std::move(to), made, 1);
-}
-
 /** Does the same with U+FFFD for each ill-formed code unit. */
 [[nodiscard]] inline std::u16string from_utf32_lossy(points utf32) {
     std::u16string to;
     detail::append_from_utf32_by(dethrux_from_utf32_lossy, byte_order::native, utf32, to);
-    return to;
-}
-
-/** Does the same in bytes of a byte order. */
-[[nodiscard]] inline std::string from_utf32_lossy(byte_order order, points utf32) {
-    std::string to;
-    detail::append_from_utf32_by(dethrux_from_utf32_lossy, order, utf32, to);
     return to;
 }
 
@@ -1032,22 +893,10 @@ inline result<std::string> from_utf32(byte_order order, points utf32) {
     return to;
 }
 
-/** Does the same for bytes in a byte order. */
-[[nodiscard]] inline std::optional<std::string> to_latin1(byte_order order, bytes text) {
-    return to_latin1(utf16(order, text));
-}
-
 /** Returns the text of Latin-1 in UTF-16, in code units or in bytes. */
 [[nodiscard]] inline std::u16string from_latin1(chars latin1) {
     std::u16string to;
     detail::append_utf16_by(dethrux_from_latin1, byte_order::native, latin1, to);
-    return to;
-}
-
-/** Does the same in bytes of a byte order. */
-[[nodiscard]] inline std::string from_latin1(byte_order order, chars latin1) {
-    std::string to;
-    detail::append_utf16_by(dethrux_from_latin1, order, latin1, to);
     return to;
 }
 
@@ -1178,13 +1027,6 @@ result<String> from_wtf8(chars wtf8) {
     static_assert(sizeof(typename String::value_type) == 2, "bytes need a byte order");
     dethrux_progress made =
         detail::append_utf16_by(dethrux_from_wtf8, byte_order::native, wtf8, to);
-    return detail::text_or_error(std::move(to), made, 1);
-}
-
-/** Does the same in bytes of a byte order. */
-inline result<std::string> from_wtf8(byte_order order, chars wtf8) {
-    std::string to;
-    dethrux_progress made = detail::append_utf16_by(dethrux_from_wtf8, order, wtf8, to);
     return detail::text_or_error(std::move(to), made, 1);
 }
 

@@ -1,4 +1,4 @@
-"""Reads the declarations of include/dethrux.h, and writes what the header has for each of them.
+"""Reads the declarations of include/dethrux.h, and writes what the headers have for each function.
 
 The name of a pointer says what it points to, and the parameter after it is its length.
 """
@@ -219,3 +219,62 @@ def header():
         if count != 1:
             sys.exit(f"include/dethrux.h has no place for the {name}\n0 passed, 1 failed")
     return text
+
+
+# A function of dethrux.hpp for code units: what is before its result, the result, its name, its
+# parameters, and its body.
+FUNCTION = re.compile(
+    r"^((?:template <[^\n]*>\n)?(?:\[\[nodiscard\]\] )?(?:inline )?)(\S+) (\w+)"
+    r"\(([^{}]*)\)( noexcept)? \{\n(.*?)^\}\n", re.DOTALL | re.MULTILINE
+)
+
+
+def cxx_header():
+    """Returns dethrux.hpp, where each function for code units has one for bytes after it."""
+    parts = re.split(
+        r"(?ms)^(namespace detail \{.*?^\} // namespace detail\n)",
+        (TOP / "include/dethrux.hpp").read_text(),
+    )
+    made = [FUNCTION.sub(lambda it: it[0] + for_bytes(*it.groups("")), it) for it in parts[::2]]
+    parts[::2] = made
+    return "".join(parts)
+
+
+def for_bytes(before, result, name, parameters, quiet, body):
+    """Returns the function for bytes that follows from one for code units, if one does."""
+    parameters = " ".join(parameters.split())
+    texts = re.findall(r"\butf16 (\w+)", parameters)
+    if texts:
+        said = "for bytes in a byte order"
+        if len(texts) > 1:
+            said = "for bytes, each text in its byte order"
+        arguments = re.findall(r"(\w+)(?:,|$)", parameters)
+        for it in texts:
+            order = "order" if len(texts) == 1 else f"{it}_order"
+            parameters = parameters.replace(f"utf16 {it}", f"byte_order {order}, bytes {it}")
+            arguments[arguments.index(it)] = f"utf16({order}, {it})"
+        chosen = "<String>" * ("String = " in before)
+        begin = "    " if result == "void" else "    return "
+        body = f"{begin}{name}{chosen}({', '.join(arguments)});\n"
+    elif "byte_order::native" in body and parameters.startswith(("chars ", "points ")):
+        said = "in bytes of a byte order"
+        parameters = f"byte_order order, {parameters}"
+        body = re.sub(r" *static_assert\([^;]*;\n", "", body.replace("byte_order::native", "order"))
+        body = body.replace("u16string", "string").replace("_by<2>", "_by<1>")
+        body = re.sub(r"([=(])\n +", lambda it: it[1] + " " * (it[1] == "="), body)
+        body = "".join(wrapped_call(it) for it in body.splitlines(keepends=True))
+        before, result = (it.replace("u16string", "string") for it in (before, result))
+    else:
+        return ""
+    first, _, last = before.rpartition("\n")
+    first += "\n" * bool(first)
+    begin = wrapped(f"{last}{result} {name}(", parameters.split(", "), f"){quiet} {{")
+    return f"\n/** Does the same {said}. */\n{first}{begin}\n{body}}}\n"
+
+
+def wrapped_call(line):
+    """Returns a statement in lines that are short enough."""
+    if len(line) <= WIDTH + 1:
+        return line
+    before, equals, after = line.partition(" = ")
+    return f"{before} =\n        {after}" if equals else line

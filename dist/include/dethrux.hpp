@@ -49,6 +49,9 @@
 #include <utility>
 #include <variant>
 
+// After each function that takes a dethrux::utf16, or gives code units in the machine's byte order,
+// packaging/calls writes the one for bytes in a byte order.
+
 /** UTF-16 in either byte order, to and from UTF-8, UTF-32, Latin-1 and WTF-8. */
 namespace dethrux {
 
@@ -1182,8 +1185,9 @@ result<String> from_wtf8(chars wtf8) {
 }
 
 /** Does the same in bytes of a byte order. */
-inline result<std::string> from_wtf8(byte_order order, chars wtf8) {
-    std::string to;
+template <class String = std::string>
+result<String> from_wtf8(byte_order order, chars wtf8) {
+    String to;
     dethrux_progress made = detail::append_utf16_by(dethrux_from_wtf8, order, wtf8, to);
     return detail::text_or_error(std::move(to), made, 1);
 }

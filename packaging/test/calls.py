@@ -27,7 +27,22 @@ def results():
     pair = made("size_t ", "dethrux_find", "dethrux_byte_order o, const void *utf16, size_t len, "
                 "const void *pattern, size_t pattern_len")
     flat = lambda text: " ".join(text.split()).replace("( ", "(")
+    bytes_of = lambda *words: flat(header.for_bytes(*words))
     return {
+        "C++ takes bytes": "inline int at(byte_order order, bytes text, int at) noexcept { return "
+        "at(utf16(order, text), at); }"
+        in bytes_of("inline ", "int", "at", "utf16 text, int at", " noexcept", "..."),
+        "C++ takes two texts": "void f(byte_order a_order, bytes a, byte_order b_order, bytes b) { "
+        "f(utf16(a_order, a), utf16(b_order, b)); }"
+        in bytes_of("", "void", "f", "utf16 a, utf16 b", "", "..."),
+        "C++ chooses a string": "return f<String>(utf16(order, text));"
+        in bytes_of("template <class String = S>\n", "S", "f", "utf16 text", "", "..."),
+        "C++ gives bytes": "inline std::string f(byte_order order, chars utf8) { std::string to; "
+        "call_by<1>(order, utf8, to); }"
+        in bytes_of("inline ", "std::u16string", "f", "chars utf8", "", "    std::u16string to;\n"
+                    "    static_assert(size, \"bytes\");\n    call_by<2>(byte_order::native, utf8, "
+                    "to);\n"),
+        "C++ takes what has no byte order": not bytes_of("", "int", "f", "chars utf8", "", "..."),
         "code units are written": "DETHRUX_U16_BYTES(to), capacity * 2); found.written /= 2; return"
         in flat(header.form(one)),
         "UTF-32 is counted in its code units": "(utf32, len * 4); DETHRUX_WRITES(to, capacity)"
