@@ -173,22 +173,10 @@ DETHRUX_INLINE dethrux_utf8_text dethrux_to_utf8_alloc(
     return dethrux_inner_to_utf8(dethrux_to_utf8, 1, byte_order, utf16, len);
 }
 
-/** Does what dethrux_to_utf8_alloc does, and replaces what is ill formed by U+FFFD. */
-DETHRUX_INLINE dethrux_utf8_text dethrux_to_utf8_lossy_alloc(
-    dethrux_byte_order byte_order, const void *utf16, size_t len) {
-    return dethrux_inner_to_utf8(dethrux_to_utf8_lossy, 1, byte_order, utf16, len);
-}
-
 /** Does what dethrux_to_utf8_alloc does, on code units. */
 DETHRUX_INLINE_U16 dethrux_utf8_text dethrux_u16_to_utf8_alloc(
     const dethrux_unit *utf16, size_t len) {
     return dethrux_inner_to_utf8(dethrux_to_utf8, 2, DETHRUX_U16_TEXT(utf16, len));
-}
-
-/** Does what dethrux_to_utf8_lossy_alloc does, on code units. */
-DETHRUX_INLINE_U16 dethrux_utf8_text dethrux_u16_to_utf8_lossy_alloc(
-    const dethrux_unit *utf16, size_t len) {
-    return dethrux_inner_to_utf8(dethrux_to_utf8_lossy, 2, DETHRUX_U16_TEXT(utf16, len));
 }
 
 /**
@@ -204,20 +192,9 @@ DETHRUX_INLINE dethrux_utf16_text dethrux_from_utf8_alloc(
     return dethrux_inner_alloc(dethrux_from_utf8, 2, 1, byte_order, utf8, len);
 }
 
-/** Does what dethrux_from_utf8_alloc does, and replaces what is ill formed by U+FFFD. */
-DETHRUX_INLINE dethrux_utf16_text dethrux_from_utf8_lossy_alloc(
-    dethrux_byte_order byte_order, const void *utf8, size_t len) {
-    return dethrux_inner_alloc(dethrux_from_utf8_lossy, 2, 1, byte_order, utf8, len);
-}
-
 /** Does what dethrux_from_utf8_alloc does, to code units. */
 DETHRUX_INLINE dethrux_utf16_text dethrux_u16_from_utf8_alloc(const void *utf8, size_t len) {
     return dethrux_inner_alloc(dethrux_from_utf8, 2, 2, DETHRUX_NATIVE_ENDIAN, utf8, len);
-}
-
-/** Does what dethrux_from_utf8_lossy_alloc does, to code units. */
-DETHRUX_INLINE dethrux_utf16_text dethrux_u16_from_utf8_lossy_alloc(const void *utf8, size_t len) {
-    return dethrux_inner_alloc(dethrux_from_utf8_lossy, 2, 2, DETHRUX_NATIVE_ENDIAN, utf8, len);
 }
 
 /**
@@ -233,12 +210,6 @@ DETHRUX_INLINE dethrux_progress dethrux_to_utf8_fit(
     return dethrux_inner_fit(dethrux_to_utf8, 1, byte_order, utf16, len, to, capacity);
 }
 
-/** Does what dethrux_to_utf8_fit does, and replaces what is ill formed by U+FFFD. */
-DETHRUX_INLINE dethrux_progress dethrux_to_utf8_lossy_fit(
-    dethrux_byte_order byte_order, const void *utf16, size_t len, void *to, size_t capacity) {
-    return dethrux_inner_fit(dethrux_to_utf8_lossy, 1, byte_order, utf16, len, to, capacity);
-}
-
 /**
  * Does what dethrux_from_utf8 does, and writes a NUL of 2 bytes after it.
  *
@@ -252,12 +223,6 @@ DETHRUX_INLINE dethrux_progress dethrux_from_utf8_fit(
     return dethrux_inner_fit(dethrux_from_utf8, 2, byte_order, utf8, len, to, capacity);
 }
 
-/** Does what dethrux_from_utf8_fit does, and replaces what is ill formed by U+FFFD. */
-DETHRUX_INLINE dethrux_progress dethrux_from_utf8_lossy_fit(
-    dethrux_byte_order byte_order, const void *utf8, size_t len, void *to, size_t capacity) {
-    return dethrux_inner_fit(dethrux_from_utf8_lossy, 2, byte_order, utf8, len, to, capacity);
-}
-
 /** Does what dethrux_to_utf8_fit does, on code units. */
 DETHRUX_INLINE_U16 dethrux_progress dethrux_u16_to_utf8_fit(
     const dethrux_unit *utf16, size_t len, void *to, size_t capacity) {
@@ -265,24 +230,10 @@ DETHRUX_INLINE_U16 dethrux_progress dethrux_u16_to_utf8_fit(
         dethrux_to_utf8_fit(DETHRUX_U16_TEXT(utf16, len), to, capacity), 2, 1);
 }
 
-/** Does what dethrux_to_utf8_lossy_fit does, on code units. */
-DETHRUX_INLINE_U16 dethrux_progress dethrux_u16_to_utf8_lossy_fit(
-    const dethrux_unit *utf16, size_t len, void *to, size_t capacity) {
-    return dethrux_inner_units(
-        dethrux_to_utf8_lossy_fit(DETHRUX_U16_TEXT(utf16, len), to, capacity), 2, 1);
-}
-
 /** Does what dethrux_from_utf8_fit does, to code units. */
 DETHRUX_INLINE_U16 dethrux_progress dethrux_u16_from_utf8_fit(
     const void *utf8, size_t len, dethrux_unit *to, size_t capacity) {
     return dethrux_inner_units(dethrux_from_utf8_fit(DETHRUX_NATIVE_ENDIAN, utf8, len,
-        DETHRUX_U16_BYTES(to), dethrux_inner_bytes(capacity)), 1, 2);
-}
-
-/** Does what dethrux_from_utf8_lossy_fit does, to code units. */
-DETHRUX_INLINE_U16 dethrux_progress dethrux_u16_from_utf8_lossy_fit(
-    const void *utf8, size_t len, dethrux_unit *to, size_t capacity) {
-    return dethrux_inner_units(dethrux_from_utf8_lossy_fit(DETHRUX_NATIVE_ENDIAN, utf8, len,
         DETHRUX_U16_BYTES(to), dethrux_inner_bytes(capacity)), 1, 2);
 }
 

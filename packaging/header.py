@@ -278,3 +278,20 @@ def wrapped_call(line):
         return line
     before, equals, after = line.partition(" = ")
     return f"{before} =\n        {after}" if equals else line
+
+
+def alloc_header():
+    """Returns dethrux_alloc.h, where each strict function has a lossy one after it."""
+    strict = r"(?ms)^DETHRUX_INLINE\w* \w+ (dethrux_(u16_)?(to|from)_utf8_(alloc|fit))\(.*?^\}\n"
+    text = (TOP / "include/dethrux_alloc.h").read_text()
+    return re.sub(strict, lambda it: it[0] + lossy(*it.group(0, 1, 2, 3, 4)), text)
+
+
+def lossy(code, name, is_u16, way, end):
+    """Returns the lossy function that follows from a strict one."""
+    said = f"what {name} does, and replaces what is ill formed by U+FFFD"
+    if is_u16:
+        units = "on code units" if way == "to" else "to code units"
+        said = f"what dethrux_{way}_utf8_lossy_{end} does, {units}"
+    code = re.sub(r"(dethrux_(?:u16_)?(?:to|from)_utf8)(?=_alloc|_fit|,)", r"\1_lossy", code)
+    return f"\n/** Does {said}. */\n{code}"

@@ -211,6 +211,26 @@ export type OfOffsets = <Offset extends number | bigint>(
     index: Offset,
 ) => Offset extends bigint ? bigint : number;
 
+/** A stream of the Web from bytes to bytes. */
+export type BytesStream = TransformStream<Uint8Array, Uint8Array>;
+
+/** What is made for UTF-16 of bytes in a byte order, or without one for code units. */
+export interface OfOnlyOrder<OfBytes, OfUnits> {
+    (order: ByteOrder): OfBytes;
+    (): OfUnits;
+}
+
+/** What is made for UTF-16 of bytes in a byte order, or without one for code units. */
+export interface OfOrder<OfBytes, OfUnits> {
+    (order: ByteOrder, options?: StrictOptions): OfBytes;
+    (order?: undefined, options?: StrictOptions): OfUnits;
+}
+
+/** The same, also for bytes in the byte order that a BOM gives. */
+export interface OfOrderOrBom<OfBytes, OfUnits> extends OfOrder<OfBytes, OfUnits> {
+    (order: "bom", otherwise?: ByteOrder, options?: StrictOptions): OfBytes;
+}
+
 /** The functions of the library. */
 export interface Dethrux {
     /* packaging/calls writes the functions of the calls here. */
@@ -250,54 +270,28 @@ export interface Dethrux {
      * Returns a decoder of bytes, or without a byte order of code units. With "bom" the BOM gives
      * the byte order and is not part of the text; without one it is `otherwise`, by default "be".
      */
-    decoder(order: ByteOrder, options?: StrictOptions): Decoder<Uint8Array>;
-    decoder(order: "bom", otherwise?: ByteOrder, options?: StrictOptions): Decoder<Uint8Array>;
-    decoder(order?: undefined, options?: StrictOptions): Decoder<Uint16Array>;
+    decoder: OfOrderOrBom<Decoder<Uint8Array>, Decoder<Uint16Array>>;
     /** Returns an encoder to bytes, or without a byte order to code units. */
-    encoder(order: ByteOrder, options?: StrictOptions): Encoder<Uint8Array>;
-    encoder(order?: undefined, options?: StrictOptions): Encoder<Uint16Array>;
+    encoder: OfOrder<Encoder<Uint8Array>, Encoder<Uint16Array>>;
     /**
      * Returns a decoder to WTF-8, which keeps unpaired surrogates. If the stream ends with an odd
      * byte, its `finish` throws an `Error` and changes nothing.
      */
-    wtf8Decoder(order: ByteOrder): Decoder<Uint8Array>;
-    wtf8Decoder(): Decoder<Uint16Array>;
-    /** Returns a stream of the Web that passes its chunks through such a decoder. */
-    wtf8DecoderStream(order: ByteOrder): TransformStream<Uint8Array, Uint8Array>;
-    wtf8DecoderStream(): TransformStream<Uint16Array, Uint8Array>;
+    wtf8Decoder: OfOnlyOrder<Decoder<Uint8Array>, Decoder<Uint16Array>>;
     /**
      * Returns an encoder of WTF-8. A surrogate becomes the code unit. If bytes are not WTF-8, it
      * throws an `IllFormedError`, and changes nothing. At most 6 bytes are pending: a leading
      * surrogate, which `finish` returns, and the start of what follows it.
      */
-    wtf8Encoder(order: ByteOrder): Encoder<Uint8Array>;
-    wtf8Encoder(): Encoder<Uint16Array>;
-    /** Returns a stream of the Web that passes its chunks through such an encoder. */
-    wtf8EncoderStream(order: ByteOrder): TransformStream<Uint8Array, Uint8Array>;
-    wtf8EncoderStream(): TransformStream<Uint8Array, Uint16Array>;
+    wtf8Encoder: OfOnlyOrder<Encoder<Uint8Array>, Encoder<Uint16Array>>;
     /** Returns a stream of the Web that passes its chunks through such a decoder. */
-    decoderStream(
-        order: ByteOrder,
-        options?: StrictOptions,
-    ): TransformStream<Uint8Array, Uint8Array>;
-    decoderStream(
-        order: "bom",
-        otherwise?: ByteOrder,
-        options?: StrictOptions,
-    ): TransformStream<Uint8Array, Uint8Array>;
-    decoderStream(
-        order?: undefined,
-        options?: StrictOptions,
-    ): TransformStream<Uint16Array, Uint8Array>;
+    decoderStream: OfOrderOrBom<BytesStream, TransformStream<Uint16Array, Uint8Array>>;
     /** Returns a stream of the Web that passes its chunks through such an encoder. */
-    encoderStream(
-        order: ByteOrder,
-        options?: StrictOptions,
-    ): TransformStream<Uint8Array, Uint8Array>;
-    encoderStream(
-        order?: undefined,
-        options?: StrictOptions,
-    ): TransformStream<Uint8Array, Uint16Array>;
+    encoderStream: OfOrder<BytesStream, TransformStream<Uint8Array, Uint16Array>>;
+    /** Returns a stream of the Web that passes its chunks through such a decoder. */
+    wtf8DecoderStream: OfOnlyOrder<BytesStream, TransformStream<Uint16Array, Uint8Array>>;
+    /** Returns a stream of the Web that passes its chunks through such an encoder. */
+    wtf8EncoderStream: OfOnlyOrder<BytesStream, TransformStream<Uint8Array, Uint16Array>>;
 }
 
 /**

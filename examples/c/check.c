@@ -261,10 +261,13 @@ static bool wanted(char **words, size_t count, dethrux_byte_order order, text *a
     return true;
 }
 
-static const char *const stops[] = {"end", "ill_formed", "incomplete", "no_space", "not_latin1"};
+static const char *const stops[] = {[DETHRUX_DONE] = "end", [DETHRUX_ILL_FORMED] = "ill_formed",
+    [DETHRUX_INCOMPLETE] = "incomplete", [DETHRUX_NO_SPACE] = "no_space",
+    [DETHRUX_NOT_LATIN1] = "not_latin1"};
 
 static void add_stop(text *answer, dethrux_status status, uint32_t error_len) {
-    add_word(answer, status <= DETHRUX_NOT_LATIN1 ? stops[status] : "no status");
+    bool is = status < sizeof stops / sizeof *stops && stops[status] != NULL;
+    add_word(answer, is ? stops[status] : "no status");
     if (status == DETHRUX_ILL_FORMED) {
         add_number(answer, error_len);
     } else if (error_len != 0) {
@@ -590,19 +593,36 @@ static bool is_back_again(
     return is;
 }
 
-/* Whether smaller buffers, all of them if there are few, get the start of the output, up to the end
- * of a character, and a larger one gets the output. */
+/* Whether a character of an output ends at an offset. */
+static bool ends_at(const call *by, dethrux_byte_order order, const text *out, size_t at) {
+    const bool is_end = at == 0 || at == out->len;
+    switch (by->way) {
+    case TO_UTF8:
+    case TO_WTF8: return is_end || (out->bytes[at] & 0xC0) != 0x80;
+    case TO_UTF32: return at % 4 == 0;
+    case TO_LATIN1: return true;
+    default: break;
+    }
+    const size_t high = order == DETHRUX_BIG_ENDIAN ? 0 : 1;
+    return at % 2 == 0 && (is_end || (out->bytes[at - 2 + high] & 0xFC) != 0xD8
+        || (out->bytes[at + high] & 0xFC) != 0xDC);
+}
+
+/* Whether smaller buffers, all of them if there are few, get as many whole characters of the output
+ * as fit, and a larger one gets the output. */
 static bool is_start_written(
     const call *by, dethrux_byte_order order, const text *from, const outcome *whole) {
-    const size_t written = whole->progress.written;
-    const size_t longest = by->widen != NULL || by->way == TO_LATIN1 ? 1 : 4;
+    const size_t written = whole->progress.written, size = by->widen != NULL ? 4 : 1;
     bool is = true;
     for (size_t room = 0; is && room < written; room += room > 3 * SHORT ? written / 4 : 1) {
+        size_t len = size * room;
+        while (!ends_at(by, order, &whole->out, len)) {
+            len--;
+        }
         outcome part = converted(by, order, from, room);
         is = part.is_inside && part.progress.status == DETHRUX_NO_SPACE
             && part.progress.error_len == 0 && part.progress.read <= whole->progress.read
-            && room - part.progress.written < longest
-            && memcmp(part.out.bytes, whole->out.bytes, part.out.len) == 0;
+            && part.out.len == len && memcmp(part.out.bytes, whole->out.bytes, len) == 0;
         free(part.out.bytes);
     }
     if (is && whole->progress.status != DETHRUX_NO_SPACE) {
@@ -653,28 +673,6 @@ static void call_convert(const task *it) {
         add_word(it->answer, but);
     }
     free(found.out.bytes);
-}
-
-static bool call_every_room(const task *it) {
-    text from = {0};
-    const call *by = it->count == 2 ? call_of(it->values[0]) : NULL;
-    bool is = by != NULL && by->with == call_convert && bytes_of(it->values[1], it->order, &from);
-    if (is) {
-        size_t size = size_of(by, it->order, &from);
-        outcome all = converted(by, it->order, &from, size);
-        for (size_t room = 0; room <= size; room++) {
-            outcome part = converted(by, it->order, &from, room);
-            add_number(it->answer, part.progress.written);
-            if (memcmp(part.out.bytes, all.out.bytes, part.out.len) != 0 || !part.is_inside) {
-                add_word(it->answer, "differs");
-            }
-            free(part.out.bytes);
-        }
-        add_found(it->answer, by->way == TO_UTF8, all.out.bytes, all.out.len);
-        free(all.out.bytes);
-    }
-    free(from.bytes);
-    return is;
 }
 
 /* What calls return for bytes. */
@@ -965,11 +963,12 @@ static void ask_validate_utf32(const task *it) {
 }
 
 static void ask_inspect(const task *it) {
-    static const char *const names[] = {"ascii", "latin1", "bmp", "unicode"};
+    static const char *const names[] = {[DETHRUX_ASCII] = "ascii", [DETHRUX_LATIN1] = "latin1",
+        [DETHRUX_BMP] = "bmp", [DETHRUX_UNICODE] = "unicode"};
     dethrux_inspection found = dethrux_inspect(it->order, it->raw.bytes, it->raw.len);
     add_number(it->answer, found.valid_up_to);
     add_number(it->answer, found.chars);
-    bool is = found.repertoire <= DETHRUX_UNICODE;
+    bool is = found.repertoire < sizeof names / sizeof *names && names[found.repertoire] != NULL;
     add_word(it->answer, is ? names[found.repertoire] : "no repertoire");
     add_stop(it->answer, found.status, found.error_len);
 }
@@ -1020,7 +1019,6 @@ static const call calls[] = {
 #include "../../dist/src/shapes.inc"
     {"validate_raw_utf16", .ask = ask_validate},
     {"WStr::from_utf16", .ask = ask_from_utf16},
-    {"every_room", .make = call_every_room},
     {"every_chunking", .ask = ask_every_chunking},
     {"AnyLossy::every_chunking", .ask = ask_every_any_chunking},
     {"Stream::feed", .make = call_stream_feed},

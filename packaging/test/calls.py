@@ -42,6 +42,9 @@ def results():
         in bytes_of("inline ", "std::u16string", "f", "chars utf8", "", "    std::u16string to;\n"
                     "    static_assert(size, \"bytes\");\n    call_by<2>(byte_order::native, utf8, "
                     "to);\n"),
+        "a lossy function": "/** Does what dethrux_to_utf8_fit does, and replaces what is ill formed "
+        "by U+FFFD. */ fit(dethrux_to_utf8_lossy, a)" in flat(header.lossy(
+            "fit(dethrux_to_utf8, a)", "dethrux_to_utf8_fit", "", "to", "fit")),
         "C++ takes what has no byte order": not bytes_of("", "int", "f", "chars utf8", "", "..."),
         "code units are written": "DETHRUX_U16_BYTES(to), capacity * 2); found.written /= 2; return"
         in flat(header.form(one)),
