@@ -7,10 +7,6 @@ import { end, inWidth, isArray, takeForm, takeOptions, takeOrder } from "./shape
 const SLICE = 65536;
 export const LE = ORDERS.indexOf("le");
 const NOTHING = new Uint8Array();
-// The capacities of the header, for a slice of `len` bytes.
-const DECODER = { feed: (len) => Math.floor((len + 3) / 2) * 3, finish: 3 };
-const ENCODER = { feed: (len) => len * 2 + 2, finish: 2 };
-const WTF8_ENCODER = { feed: (len) => len * 2 + 4, finish: 2 };
 
 /** What a strict call throws: the offset of what is ill formed, in the whole stream. */
 export class IllFormedError extends TypeError {
@@ -46,7 +42,7 @@ class Stream {
     #came = 0;
 
     /** `errorOf` makes an error of a call's progress, and of the `came` and pending bytes. */
-    constructor(call, most = 3, errorOf = oddByte) {
+    constructor(call, most, errorOf) {
         this.#call = call;
         this.#state = new Uint8Array(most + 1);
         this.#errorOf = errorOf;
@@ -112,62 +108,6 @@ function checked(chunk, kind) {
     return bytesOf(chunk);
 }
 
-/** Decodes UTF-16 to UTF-8, or to WTF-8, which keeps unpaired surrogates. */
-class Decoder {
-    #stream;
-    #form;
-    #kind;
-    #isWtf8;
-
-    constructor(call, form, isWtf8 = false) {
-        this.#stream = new Stream(call);
-        this.#form = form;
-        this.#kind = kindOf(form.width);
-        this.#isWtf8 = isWtf8;
-    }
-
-    get pending() {
-        return inWidth(this.#stream.pendingBytes, this.#form.width);
-    }
-
-    feed(chunk) {
-        const bytes = checked(chunk, this.#kind);
-        const name = this.#isWtf8 ? "wtf8_decoder_feed" : "decoder_feed";
-        return this.#stream.fed(name, this.#form.order, bytes, DECODER.feed);
-    }
-
-    finish() {
-        const name = this.#isWtf8 ? "wtf8_decoder_finish" : "decoder_finish";
-        return this.#stream.ended(name, [this.#form.order], DECODER.finish);
-    }
-}
-
-/** Encodes UTF-8 in UTF-16. */
-class Encoder {
-    #stream;
-    #form;
-
-    constructor(call, form) {
-        this.#stream = new Stream(call);
-        this.#form = form;
-    }
-
-    get pending() {
-        return this.#stream.pendingBytes;
-    }
-
-    feed(chunk) {
-        const { order, width } = this.#form;
-        const bytes = checked(chunk, "Uint8Array");
-        return inWidth(this.#stream.fed("encoder_feed", order, bytes, ENCODER.feed), width);
-    }
-
-    finish() {
-        const { order, width } = this.#form;
-        return inWidth(this.#stream.ended("encoder_finish", [order], ENCODER.finish), width);
-    }
-}
-
 /**
  * The error of a call of an encoder of WTF-8. An ill-formed sequence begins with the bytes that are
  * pending after the call, an incomplete one with the pending bytes that the call did not read.
@@ -178,31 +118,61 @@ function illFormed({ status, read, errorLen }, came, before, after) {
         : new IllFormedError(came - before + read, before - read);
 }
 
-/** Encodes WTF-8 in UTF-16, and throws at the first error. */
-class Wtf8Encoder {
-    #stream;
-    #form;
+// The calls of each kind of stream, with the capacities of the header, for a chunk of `len` bytes
+// and for the end; the most bytes that are pending; and the error of a call.
+const DECODER = {
+    feed: "decoder_feed",
+    capacity: (len) => Math.floor((len + 3) / 2) * 3,
+    finish: "decoder_finish",
+    last: 3,
+    most: 3,
+    errorOf: oddByte,
+};
+const WTF8_DECODER = { ...DECODER, feed: "wtf8_decoder_feed", finish: "wtf8_decoder_finish" };
+const ENCODER = {
+    feed: "encoder_feed",
+    capacity: (len) => len * 2 + 2,
+    finish: "encoder_finish",
+    last: 2,
+    most: 3,
+    errorOf: illFormed,
+};
+const WTF8_ENCODER = {
+    feed: "wtf8_encoder_feed",
+    capacity: (len) => len * 2 + 4,
+    finish: "wtf8_encoder_finish",
+    last: 2,
+    most: 6,
+    errorOf: illFormed,
+};
 
-    constructor(call, form) {
-        this.#stream = new Stream(call, 6, illFormed);
-        this.#form = form;
+/** Converts a stream with the calls of a kind. The elements of both arrays have these widths. */
+class Coder {
+    #stream;
+    #kind;
+    #order;
+    #widths;
+
+    constructor(call, kind, order, widths) {
+        this.#stream = new Stream(call, kind.most, kind.errorOf);
+        this.#kind = kind;
+        this.#order = order;
+        this.#widths = widths;
     }
 
     get pending() {
-        return this.#stream.pendingBytes;
+        return inWidth(this.#stream.pendingBytes, this.#widths[0]);
     }
 
     feed(chunk) {
-        const { order, width } = this.#form;
-        const bytes = checked(chunk, "Uint8Array");
-        const made = this.#stream.fed("wtf8_encoder_feed", order, bytes, WTF8_ENCODER.feed);
-        return inWidth(made, width);
+        const bytes = checked(chunk, kindOf(this.#widths[0]));
+        const { feed, capacity } = this.#kind;
+        return inWidth(this.#stream.fed(feed, this.#order, bytes, capacity), this.#widths[1]);
     }
 
     finish() {
-        const { order, width } = this.#form;
-        const made = this.#stream.ended("wtf8_encoder_finish", [order], WTF8_ENCODER.finish);
-        return inWidth(made, width);
+        const { finish, last } = this.#kind;
+        return inWidth(this.#stream.ended(finish, [this.#order], last), this.#widths[1]);
     }
 }
 
@@ -389,14 +359,16 @@ export class Text {
 /** Returns the functions for streams. */
 export function streams(machine, functions) {
     const call = machine.call.bind(machine);
+    const decoding = (kind, { order, width }) => new Coder(call, kind, order, [width, 1]);
+    const encoding = (kind, { order, width }) => new Coder(call, kind, order, [1, width]);
     const coders = {
         decoder(form, { fatal }, start) {
             const convert = (bytes) => functions.toUtf8(bytes, ORDERS[form.order]);
-            return fatal ? new Strict(convert, [form.width, 1], start) : new Decoder(call, form);
+            return fatal ? new Strict(convert, [form.width, 1], start) : decoding(DECODER, form);
         },
         encoder(form, { fatal }) {
             const convert = (bytes) => functions.fromUtf8(bytes, ORDERS[form.order]);
-            return fatal ? new Strict(convert, [1, form.width]) : new Encoder(call, form);
+            return fatal ? new Strict(convert, [1, form.width]) : encoding(ENCODER, form);
         },
         textDecoder: (form, options) => new Text(machine, form, options),
     };
@@ -417,8 +389,8 @@ export function streams(machine, functions) {
         end(words);
         return form;
     };
-    const wtf8Decoder = (...words) => new Decoder(call, formAlone(words), true);
-    const wtf8Encoder = (...words) => new Wtf8Encoder(call, formAlone(words));
+    const wtf8Decoder = (...words) => decoding(WTF8_DECODER, formAlone(words));
+    const wtf8Encoder = (...words) => encoding(WTF8_ENCODER, formAlone(words));
     const textDecoder = (...words) => made("textDecoder", words);
     return {
         decoder,
