@@ -959,34 +959,19 @@ static void check_nul_offset(void) {
 typedef size_t icu_call(dethrux_byte_order order, const uint8_t *bytes, size_t len, uint8_t *to,
                         size_t capacity);
 
-static void check_icu(icu_call *call, const uint8_t *bytes, size_t len, const uint8_t *want,
-                      size_t want_len) {
+/* ICU writes the text, in code units of this many bytes. */
+static void check_icu(icu_call *call, const void *bytes, size_t len, const decoded *text,
+                      size_t size) {
     static uint8_t out[4 * TEXT_MAX];
     size_t out_len = call(in.order, bytes, len, out, sizeof out);
-    expect("written", want_len, out_len);
-    expect_bytes("text", want, out, out_len);
+    expect("written", size * text->out_len, out_len);
+    expect_bytes("text", text->out, out, out_len);
 }
-
-static void check_icu_to_utf8(void) {
-    check_icu(icu_utf16_to_utf8, in.text, in.len, from_utf16.out, from_utf16.out_len);
-}
-
-static void check_icu_from_utf8(void) {
-    check_icu(icu_utf8_to_utf16, in.text, in.len, from_utf8.out, from_utf8.out_len);
-}
-
-static void check_icu_to_utf32(void) {
-    check_icu(icu_utf16_to_utf32, in.text, in.len, to_utf32.out, 4 * to_utf32.out_len);
-}
-
-static void check_icu_from_utf32(void) {
-    check_icu(icu_utf32_to_utf16, (const uint8_t *)utf32, 4 * utf32_len, from_utf32.out,
-              from_utf32.out_len);
-}
-
-static void check_icu_from_latin1(void) {
-    check_icu(icu_latin1_to_utf16, in.text, in.len, from_latin1.out, from_latin1.out_len);
-}
+CHECK(icu_to_utf8, check_icu(icu_utf16_to_utf8, in.text, in.len, &from_utf16, 1))
+CHECK(icu_from_utf8, check_icu(icu_utf8_to_utf16, in.text, in.len, &from_utf8, 1))
+CHECK(icu_to_utf32, check_icu(icu_utf16_to_utf32, in.text, in.len, &to_utf32, 4))
+CHECK(icu_from_utf32, check_icu(icu_utf32_to_utf16, utf32, 4 * utf32_len, &from_utf32, 1))
+CHECK(icu_from_latin1, check_icu(icu_latin1_to_utf16, in.text, in.len, &from_latin1, 1))
 
 typedef void iconv_call(dethrux_byte_order order, const uint8_t *bytes, size_t len,
                         iconv_result *to);

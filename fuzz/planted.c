@@ -2,19 +2,15 @@
  * The linker's --wrap puts them in the place of the library's calls. */
 #include "dethrux.h"
 
-dethrux_validity __real_dethrux_validate(dethrux_byte_order order, const uint8_t *utf16,
-                                         size_t len);
-dethrux_progress __real_dethrux_to_utf8(dethrux_byte_order order, const uint8_t *utf16, size_t len,
-                                        uint8_t *to, size_t capacity);
-dethrux_progress __real_dethrux_from_utf8_lossy(dethrux_byte_order order, const uint8_t *utf8,
-                                                size_t len, uint8_t *to, size_t capacity);
-size_t __real_dethrux_from_utf8_len(const uint8_t *utf8, size_t len);
-dethrux_progress __real_dethrux_encoder_feed(dethrux_encoder *decoder,
-                                                  dethrux_byte_order order, const uint8_t *chunk,
-                                                  size_t len, uint8_t *to, size_t capacity);
+#define PLANTED(name) extern __typeof__(dethrux_##name) __real_dethrux_##name, __wrap_dethrux_##name
+PLANTED(validate);
+PLANTED(to_utf8);
+PLANTED(from_utf8_lossy);
+PLANTED(from_utf8_len);
+PLANTED(encoder_feed);
 
 /* Misses an unpaired surrogate in the last code unit of a block of 64 bytes. */
-dethrux_validity __wrap_dethrux_validate(dethrux_byte_order order, const uint8_t *utf16,
+dethrux_validity __wrap_dethrux_validate(dethrux_byte_order order, const void *utf16,
                                          size_t len) {
     dethrux_validity validity = __real_dethrux_validate(order, utf16, len);
     if (validity.status == DETHRUX_ILL_FORMED && validity.valid_up_to % 64 == 62) {
@@ -24,29 +20,30 @@ dethrux_validity __wrap_dethrux_validate(dethrux_byte_order order, const uint8_t
 }
 
 /* Converts U+FFFF to U+FFFD. */
-dethrux_progress __wrap_dethrux_to_utf8(dethrux_byte_order order, const uint8_t *utf16, size_t len,
-                                        uint8_t *to, size_t capacity) {
+dethrux_progress __wrap_dethrux_to_utf8(dethrux_byte_order order, const void *utf16, size_t len,
+                                        void *to, size_t capacity) {
     dethrux_progress progress = __real_dethrux_to_utf8(order, utf16, len, to, capacity);
+    uint8_t *bytes = to;
     for (size_t i = 0; i + 3 <= progress.written; i++) {
-        if (to[i] == 0xEF && to[i + 1] == 0xBF && to[i + 2] == 0xBF) {
-            to[i + 2] = 0xBD;
+        if (bytes[i] == 0xEF && bytes[i + 1] == 0xBF && bytes[i + 2] == 0xBF) {
+            bytes[i + 2] = 0xBD;
         }
     }
     return progress;
 }
 
 /* Writes one byte after a buffer that it has filled. */
-dethrux_progress __wrap_dethrux_from_utf8_lossy(dethrux_byte_order order, const uint8_t *utf8,
-                                                size_t len, uint8_t *to, size_t capacity) {
+dethrux_progress __wrap_dethrux_from_utf8_lossy(dethrux_byte_order order, const void *utf8,
+                                                size_t len, void *to, size_t capacity) {
     dethrux_progress progress = __real_dethrux_from_utf8_lossy(order, utf8, len, to, capacity);
     if (capacity > 0 && progress.written == capacity) {
-        to[capacity] = 0;
+        ((uint8_t *)to)[capacity] = 0;
     }
     return progress;
 }
 
 /* Reads one byte after an input of 33 bytes. */
-size_t __wrap_dethrux_from_utf8_len(const uint8_t *utf8, size_t len) {
+size_t __wrap_dethrux_from_utf8_len(const void *utf8, size_t len) {
     if (len == 33) {
         (void)((const volatile uint8_t *)utf8)[len];
     }
@@ -55,8 +52,8 @@ size_t __wrap_dethrux_from_utf8_len(const uint8_t *utf8, size_t len) {
 
 /* Loses the third pending byte. */
 dethrux_progress __wrap_dethrux_encoder_feed(dethrux_encoder *decoder,
-                                                  dethrux_byte_order order, const uint8_t *chunk,
-                                                  size_t len, uint8_t *to, size_t capacity) {
+                                                  dethrux_byte_order order, const void *chunk,
+                                                  size_t len, void *to, size_t capacity) {
     dethrux_progress progress =
         __real_dethrux_encoder_feed(decoder, order, chunk, len, to, capacity);
     if (decoder->pending_len == DETHRUX_PENDING_MAX) {

@@ -21,34 +21,32 @@ export type ByteOrder = "le" | "be";
  */
 export type Status = "done" | "ill-formed" | "incomplete" | "no-space" | "not-latin1";
 
-/** The longest well-formed prefix, and what follows it. */
-export interface Validity {
-    /** The length of the longest well-formed prefix. */
-    validUpTo: number;
+/** Where a call stopped. */
+export interface Stop {
     status: Status;
     /** The length of the ill-formed sequence with "ill-formed", else 0. */
     errorLen: number;
+}
+
+/** The longest well-formed prefix, and what follows it. */
+export interface Validity extends Stop {
+    /** The length of the longest well-formed prefix. */
+    validUpTo: number;
 }
 
 /** What a conversion wrote, and how far it came. */
-export interface Progress<Output> {
+export interface Progress<Output> extends Stop {
     output: Output;
     /** How much of the input was read. */
     read: number;
-    status: Status;
-    /** The length of the ill-formed sequence with "ill-formed", else 0. */
-    errorLen: number;
 }
 
 /** How much was written to an array of the caller, and how far a conversion came. */
-export interface Written {
+export interface Written extends Stop {
     /** How much of the input was read. */
     read: number;
     /** How much of the array was written; the rest of it is unchanged. */
     written: number;
-    status: Status;
-    /** The length of the ill-formed sequence with "ill-formed", else 0. */
-    errorLen: number;
 }
 
 /** Whether ill-formed text is an error. */

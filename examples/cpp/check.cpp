@@ -928,32 +928,35 @@ static void types() {
 
 // A decoder in any order decodes code units of the machine's, and one that is made without an order
 // has the machine's.
-static void orders() {
-    const std::string native = in_form("\x4E\0"s, byte_order::native);
+template <class Decoder>
+static bool decodes_native() {
+    Decoder in_big(byte_order::big), without;
     std::string to;
-    dethrux::decoder in_big(byte_order::big), without;
     in_big.feed(u"\x4E00", to);
-    without.feed(native, to);
-    check("decoders and the machine's order", to == "\xE4\xB8\x80\xE4\xB8\x80");
+    without.feed(in_form("\x4E\0"s, byte_order::native), to);
+    return to == "\xE4\xB8\x80\xE4\xB8\x80";
+}
+
+// The stream ends inside a character, of which these bytes came. The end gives this code unit.
+template <class Encoder>
+static bool encodes_native(const std::string &start, char16_t end) {
+    Encoder in_big(byte_order::big), without;
     std::u16string units;
     std::string bytes;
-    dethrux::encoder units_in_big(byte_order::big), bytes_without;
-    units_in_big.feed("\xE4\xB8\x80\xE4"sv, units);
-    units_in_big.finish(units);
-    bytes_without.feed("\xE4\xB8\x80"sv, bytes);
-    check("decoders of UTF-8 and the machine's order", units == u"\x4E00\xFFFD" && bytes == native);
-    to.clear();
-    dethrux::wtf8_decoder wtf8_in_big(byte_order::big), wtf8_without;
-    wtf8_in_big.feed(u"\x4E00", to);
-    wtf8_without.feed(native, to);
-    check("decoders to WTF-8 and the machine's order", to == "\xE4\xB8\x80\xE4\xB8\x80");
-    units.clear();
-    bytes.clear();
-    dethrux::wtf8_encoder wtf8_units_in_big(byte_order::big), wtf8_bytes_without;
+    return succeeds([&] { return in_big.feed("\xE4\xB8\x80" + start, units); })
+           && succeeds([&] { return in_big.finish(units); })
+           && succeeds([&] { return without.feed("\xE4\xB8\x80"sv, bytes); })
+           && units == std::u16string{0x4E00, end}
+           && bytes == in_form("\x4E\0"s, byte_order::native);
+}
+
+static void orders() {
+    const std::string native = in_form("\x4E\0"s, byte_order::native);
+    check("decoders and the machine's order", decodes_native<dethrux::decoder>());
+    check("decoders to WTF-8 and the machine's order", decodes_native<dethrux::wtf8_decoder>());
+    check("encoders and the machine's order", encodes_native<dethrux::encoder>("\xE4", 0xFFFD));
     check("encoders of WTF-8 and the machine's order",
-        !wtf8_units_in_big.feed("\xE4\xB8\x80\xED\xA0\xBD"sv, units)
-            && !wtf8_units_in_big.finish(units) && !wtf8_bytes_without.feed("\xE4\xB8\x80"sv, bytes)
-            && units == u"\x4E00\xD83D" && bytes == native);
+        encodes_native<dethrux::wtf8_encoder>("\xED\xA0\xBD", 0xD83D));
     check("the native byte order",
         dethrux::to_utf8(byte_order::native, native).value() == "\xE4\xB8\x80"
             && native == std::string(reinterpret_cast<const char *>(u"\x4E00"), 2));

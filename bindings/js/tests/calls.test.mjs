@@ -60,12 +60,6 @@ function bytesOf(len, numbers) {
     });
 }
 
-test("the table has the calls of the header, in its order", () => {
-    const header = readFileSync(`${top}/include/dethrux.h`, "utf8");
-    const names = [...header.matchAll(/^(?:DETHRUX_NODISCARD )?\w+ dethrux_(\w+)\(/gm)];
-    assert.deepEqual(Object.keys(CALLS), names.map((it) => it[1]));
-});
-
 test("the module has the calls of the header, and no others", () => {
     const names = WebAssembly.Module.exports(MODULE).map((it) => it.name);
     const wanted = Object.keys(CALLS).map((it) => `dethrux_${it}`);
