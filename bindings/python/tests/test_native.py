@@ -319,7 +319,7 @@ class Functions(unittest.TestCase):
     def test_names(self):
         for name, function in C.items():
             self.assertEqual((function.__name__, function.__module__), (name, "dethrux._native"))
-            self.assertRegex(function.__doc__, r"^[A-Z].*[.]")
+            self.assertRegex(function.__doc__, r"(?s)^[A-Z].*[.]")
             self.assertIs(pickle.loads(pickle.dumps(function)), function)
             self.assertIs(getattr(dethrux, name, function), function)
 

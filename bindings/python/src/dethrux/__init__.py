@@ -7,7 +7,8 @@ CPython's ``utf-16-le``, ``utf-16-be`` and ``utf-16`` do.
 Lengths, offsets and capacities count bytes.
 """
 
-import codecs
+import typing as _typing
+from codecs import register as _register
 
 try:
     from . import _native
@@ -17,166 +18,17 @@ except ImportError as error:
         "needs a C compiler and Python.h",
         name="dethrux",
     ) from None
-from ._codecs import search
-from ._native import (
-    compare,
-    count_chars,
-    decode,
-    decode_to_utf8,
-    detect_bom,
-    encode,
-    encode_from_utf8,
-    find,
-    floor_char_boundary,
-    floor_char_boundary_around,
-    from_latin1,
-    from_latin1_into,
-    from_utf32,
-    from_utf32_into,
-    from_utf32_lossy,
-    from_utf32_lossy_into,
-    from_utf32_lossy_len,
-    from_utf8,
-    from_utf8_into,
-    from_utf8_len,
-    from_utf8_lossy,
-    from_utf8_lossy_into,
-    from_utf8_lossy_len,
-    from_utf8_replacements,
-    from_wtf8,
-    from_wtf8_into,
-    from_wtf8_len,
-    from_wtf8_partial,
-    from_wtf8_partial_into,
-    inspect,
-    is_ascii,
-    is_char_boundary,
-    kernel,
-    make_well_formed,
-    nul_offset,
-    rfind,
-    shard_offset,
-    swap_byte_order,
-    to_latin1,
-    to_latin1_into,
-    to_utf32,
-    to_utf32_into,
-    to_utf32_lossy,
-    to_utf32_lossy_into,
-    to_utf32_lossy_len,
-    to_utf8,
-    to_utf8_into,
-    to_utf8_lossy,
-    to_utf8_lossy_into,
-    to_utf8_lossy_len,
-    to_utf8_partial,
-    to_utf8_partial_into,
-    to_utf8_replacements,
-    to_wtf8,
-    to_wtf8_into,
-    to_wtf8_len,
-    to_wtf8_partial,
-    to_wtf8_partial_into,
-    validate,
-    validate_utf32,
-)
-from ._errors import iter_errors
-from ._streams import Decoder, Encoder, StreamError, StrictDecoder, StrictEncoder
-from ._types import (
-    Bom,
-    BomStatus,
-    ByteOrder,
-    IllFormed,
-    Inspection,
-    Progress,
-    ProgressInto,
-    Repertoire,
-    Status,
-    Validity,
-)
-from ._version import __version__
-from ._wtf8 import decode_to_wtf8, encode_from_wtf8
+from ._codecs import search as _search
+from ._errors import iter_errors as iter_errors
+from ._native import *
+from ._streams import Decoder as Decoder, Encoder as Encoder, StreamError as StreamError
+from ._streams import StrictDecoder as StrictDecoder, StrictEncoder as StrictEncoder
+from ._types import *
+from ._version import __version__ as __version__
+from ._wtf8 import decode_to_wtf8 as decode_to_wtf8, encode_from_wtf8 as encode_from_wtf8
 
-__all__ = [
-    "Bom",
-    "BomStatus",
-    "ByteOrder",
-    "Decoder",
-    "Encoder",
-    "IllFormed",
-    "Inspection",
-    "Progress",
-    "ProgressInto",
-    "Repertoire",
-    "Status",
-    "StreamError",
-    "StrictDecoder",
-    "StrictEncoder",
-    "Validity",
-    "__version__",
-    "compare",
-    "count_chars",
-    "decode",
-    "decode_to_utf8",
-    "decode_to_wtf8",
-    "detect_bom",
-    "encode",
-    "encode_from_utf8",
-    "encode_from_wtf8",
-    "find",
-    "floor_char_boundary",
-    "floor_char_boundary_around",
-    "from_latin1",
-    "from_latin1_into",
-    "from_utf32",
-    "from_utf32_into",
-    "from_utf32_lossy",
-    "from_utf32_lossy_into",
-    "from_utf32_lossy_len",
-    "from_utf8",
-    "from_utf8_into",
-    "from_utf8_len",
-    "from_utf8_lossy",
-    "from_utf8_lossy_into",
-    "from_utf8_lossy_len",
-    "from_utf8_replacements",
-    "from_wtf8",
-    "from_wtf8_into",
-    "from_wtf8_len",
-    "from_wtf8_partial",
-    "from_wtf8_partial_into",
-    "inspect",
-    "is_ascii",
-    "is_char_boundary",
-    "iter_errors",
-    "kernel",
-    "make_well_formed",
-    "nul_offset",
-    "rfind",
-    "shard_offset",
-    "swap_byte_order",
-    "to_latin1",
-    "to_latin1_into",
-    "to_utf32",
-    "to_utf32_into",
-    "to_utf32_lossy",
-    "to_utf32_lossy_into",
-    "to_utf32_lossy_len",
-    "to_utf8",
-    "to_utf8_into",
-    "to_utf8_lossy",
-    "to_utf8_lossy_into",
-    "to_utf8_lossy_len",
-    "to_utf8_partial",
-    "to_utf8_partial_into",
-    "to_utf8_replacements",
-    "to_wtf8",
-    "to_wtf8_into",
-    "to_wtf8_len",
-    "to_wtf8_partial",
-    "to_wtf8_partial_into",
-    "validate",
-    "validate_utf32",
-]
+# Type checkers take the names that are imported here without an underscore.
+if not _typing.TYPE_CHECKING:
+    __all__ = sorted(["__version__", *(it for it in vars() if not it.startswith("_"))])
 
-codecs.register(search)
+_register(_search)

@@ -3,6 +3,7 @@
 /*
  * The functions of the package, in C over the calls of the library, which is linked in.
  */
+#include "_calls.h"
 #include "_native.h"
 #include "_native_places.h"
 #include "_native_text.h"
@@ -13,139 +14,56 @@
     "It may not overlap the input. The bytes after those that were written have no\n" \
     "meaning."
 
-/* Each function of the module, how many arguments it requires, its parameters, and its
- * documentation. `_native.pyi` has their types. */
-#define EACH_FUNCTION(X) \
-    X(kernel, 0, NONE, "/", \
-      "Return which code the functions run, for reports of bugs and for benchmarks.\n\n" \
-      "It is ``x86-64-v2``, or ``x86-64-v3`` if the processor and the system have all\n" \
-      "of that level, such as AVX2. On ARM64 it is ``aarch64``.") \
-    X(validate, 2, UTF16, "utf16, byteorder", \
-      "Return the length of the longest well-formed prefix, and what follows it.") \
-    X(next_error, 3, UTF16_AT, "utf16, byteorder, at", \
-      "Return the first ill-formed sequence of the bytes from an offset on, or None.") \
-    X(inspect, 2, UTF16, "utf16, byteorder", \
-      "Return the length of the longest well-formed prefix, and what follows it.\n\n" \
-      "Also return how many characters the prefix has, and the smallest repertoire\n" \
-      "that contains them.") \
-    X(count_chars, 2, UTF16, "utf16, byteorder", \
-      "Return the number of characters.\n\n" \
-      "For ill-formed input: the number of complete code units that are not\n" \
-      "trailing surrogates.") \
-    X(is_ascii, 2, UTF16, "utf16, byteorder", \
-      "Return whether the bytes are UTF-16 whose characters are all ASCII.") \
-    X(to_utf8_lossy_len, 2, UTF16, "utf16, byteorder", \
-      "Return the length of what ``to_utf8_lossy`` returns for the whole input.") \
-    X(from_utf8_len, 1, UTF8, "utf8", \
-      "Return the length of what ``from_utf8`` returns for the longest well-formed prefix.") \
-    X(from_utf8_lossy_len, 1, UTF8, "utf8", \
-      "Return the length of what ``from_utf8_lossy`` returns for the whole input.") \
-    X(to_utf8_replacements, 2, UTF16, "utf16, byteorder", \
-      "Return how often ``to_utf8_lossy`` replaces: 0 exactly if the bytes are UTF-16.") \
-    X(from_utf8_replacements, 1, UTF8, "utf8", \
-      "Return how often ``from_utf8_lossy`` replaces: 0 exactly if the bytes are UTF-8.") \
-    X(to_utf8, 2, UTF16_CAPACITY, "utf16, byteorder, capacity=None", \
-      "Convert UTF-16 to UTF-8, up to the first ill-formed sequence.\n\n" \
-      "With a capacity, write at most this many bytes: the status is\n" \
-      "``Status.NO_SPACE`` if the next character does not fit.") \
-    X(to_utf8_lossy, 2, UTF16_CAPACITY, "utf16, byteorder, capacity=None", \
-      "Convert UTF-16 to UTF-8, with U+FFFD for each unpaired surrogate.\n\n" \
-      "An incomplete character at the end is also replaced.") \
-    X(to_utf8_partial, 2, UTF16_CAPACITY, "utf16, byteorder, capacity=None", \
-      "Convert a chunk like ``to_utf8_lossy``, but leave an incomplete character unread.\n\n" \
-      "The status is then ``Status.INCOMPLETE``, and the at most three bytes after\n" \
-      "those that were read belong before the next chunk.") \
-    X(from_utf8, 2, UTF8_CAPACITY, "utf8, byteorder, capacity=None", \
-      "Convert UTF-8 to UTF-16, up to the first ill-formed sequence.") \
-    X(from_utf8_lossy, 2, UTF8_CAPACITY, "utf8, byteorder, capacity=None", \
-      "Convert UTF-8 to UTF-16, with U+FFFD for each ill-formed sequence.\n\n" \
-      "That is each maximal subpart of an ill-formed subsequence, as in\n" \
-      "``bytes.decode(\"utf-8\", \"replace\")``.") \
-    X(to_wtf8, 2, UTF16_CAPACITY, "utf16, byteorder, capacity=None", \
-      "Convert all code units of UTF-16 to WTF-8, which keeps unpaired surrogates.\n\n" \
-      "With ``Status.INCOMPLETE`` an odd byte at the end is not read.") \
-    X(to_wtf8_partial, 2, UTF16_CAPACITY, "utf16, byteorder, capacity=None", \
-      "Convert a chunk like ``to_wtf8``, but leave a leading surrogate at the end unread.\n\n" \
-      "The status is then ``Status.INCOMPLETE``, and the at most three bytes after\n" \
-      "those that were read belong before the next chunk.") \
-    X(to_wtf8_len, 2, UTF16, "utf16, byteorder", \
-      "Return the length of what ``to_wtf8`` returns for the whole input.") \
-    X(from_wtf8, 2, WTF8_CAPACITY, "wtf8, byteorder, capacity=None", \
-      "Convert WTF-8 to UTF-16, up to the first ill-formed sequence.\n\n" \
-      "A trailing surrogate directly after a leading one is ill formed: the WTF-8\n" \
-      "of a pair is the four bytes of its character.") \
-    X(from_wtf8_len, 1, WTF8, "wtf8", \
-      "Return the length of what ``from_wtf8`` returns for the longest well-formed prefix.") \
-    X(from_wtf8_partial, 2, WTF8_CAPACITY, "wtf8, byteorder, capacity=None", \
-      "Convert a chunk like ``from_wtf8``, but leave what more bytes could change unread.\n\n" \
-      "The status is then ``Status.INCOMPLETE``, and the at most six bytes after\n" \
-      "those that were read belong before the next chunk.") \
-    X(to_utf32, 2, UTF16_CAPACITY, "utf16, byteorder, capacity=None", \
+/* The functions of UTF-32, as in `EACH_CALL`: all their lengths count bytes. */
+#define EACH_CALL_OF_UTF32(CALL) \
+    CALL(utf16ToUtf32, progress, to_utf32, to_utf32_in_bytes, "utf16", \
       "Convert UTF-16 to UTF-32, up to the first ill-formed sequence.\n\n" \
       "Each character is four bytes, in the machine's byte order.") \
-    X(to_utf32_lossy, 2, UTF16_CAPACITY, "utf16, byteorder, capacity=None", \
+    CALL(utf16ToUtf32, progress, to_utf32_lossy, to_utf32_lossy_in_bytes, "utf16", \
       "Convert UTF-16 to UTF-32, with U+FFFD for what is ill formed, like ``to_utf8_lossy``.") \
-    X(to_utf32_lossy_len, 2, UTF16, "utf16, byteorder", \
+    CALL(utf16, size, to_utf32_lossy_len, to_utf32_lossy_len_in_bytes, "utf16", \
       "Return the length of what ``to_utf32_lossy`` returns for the whole input.") \
-    X(validate_utf32, 1, UTF32, "utf32", \
+    CALL(utf32, validity, validate_utf32, validate_utf32_in_bytes, "utf32", \
       "Return the length of the longest prefix that is UTF-32, and what follows it.\n\n" \
       "It is in the machine's byte order. A code unit is ill formed if it is a\n" \
       "surrogate or above 0x10FFFF.") \
-    X(from_utf32, 2, UTF32_CAPACITY, "utf32, byteorder, capacity=None", \
+    CALL(utf32ToUtf16, progress, from_utf32, from_utf32_in_bytes, "utf32", \
       "Convert UTF-32 in the machine's byte order to UTF-16, up to the first error.\n\n" \
       "``byteorder`` is the byte order of the UTF-16. With ``Status.INCOMPLETE`` at\n" \
       "most three bytes at the end are not read.") \
-    X(from_utf32_lossy, 2, UTF32_CAPACITY, "utf32, byteorder, capacity=None", \
+    CALL(utf32ToUtf16, progress, from_utf32_lossy, from_utf32_lossy_in_bytes, "utf32", \
       "Convert UTF-32 to UTF-16, with U+FFFD for each ill-formed code unit.\n\n" \
       "An incomplete code unit at the end is also replaced.") \
-    X(from_utf32_lossy_len, 1, UTF32, "utf32", \
-      "Return the length of what ``from_utf32_lossy`` returns for the whole input.") \
-    X(to_latin1, 2, UTF16_CAPACITY, "utf16, byteorder, capacity=None", \
-      "Convert UTF-16 to Latin-1, up to the first ill-formed sequence.\n\n" \
-      "It also stops before a character above U+00FF, with ``Status.NOT_LATIN1``.") \
-    X(from_latin1, 2, LATIN1_CAPACITY, "latin1, byteorder, capacity=None", \
-      "Convert Latin-1 to UTF-16. Latin-1 is never ill formed.") \
-    X(to_utf8_into, 3, UTF16_INTO, "utf16, byteorder, buffer", INTO("to_utf8")) \
-    X(to_utf8_lossy_into, 3, UTF16_INTO, "utf16, byteorder, buffer", INTO("to_utf8_lossy")) \
-    X(to_utf8_partial_into, 3, UTF16_INTO, "utf16, byteorder, buffer", INTO("to_utf8_partial")) \
-    X(to_wtf8_into, 3, UTF16_INTO, "utf16, byteorder, buffer", INTO("to_wtf8")) \
-    X(to_wtf8_partial_into, 3, UTF16_INTO, "utf16, byteorder, buffer", INTO("to_wtf8_partial")) \
-    X(to_utf32_into, 3, UTF16_INTO, "utf16, byteorder, buffer", INTO("to_utf32")) \
-    X(to_utf32_lossy_into, 3, UTF16_INTO, "utf16, byteorder, buffer", INTO("to_utf32_lossy")) \
-    X(to_latin1_into, 3, UTF16_INTO, "utf16, byteorder, buffer", INTO("to_latin1")) \
-    X(from_utf8_into, 3, UTF8_INTO, "utf8, byteorder, buffer", INTO("from_utf8")) \
-    X(from_utf8_lossy_into, 3, UTF8_INTO, "utf8, byteorder, buffer", INTO("from_utf8_lossy")) \
-    X(from_wtf8_into, 3, WTF8_INTO, "wtf8, byteorder, buffer", INTO("from_wtf8")) \
-    X(from_wtf8_partial_into, 3, WTF8_INTO, "wtf8, byteorder, buffer", INTO("from_wtf8_partial")) \
-    X(from_utf32_into, 3, UTF32_INTO, "utf32, byteorder, buffer", INTO("from_utf32")) \
-    X(from_utf32_lossy_into, 3, UTF32_INTO, "utf32, byteorder, buffer", INTO("from_utf32_lossy")) \
-    X(from_latin1_into, 3, LATIN1_INTO, "latin1, byteorder, buffer", INTO("from_latin1")) \
-    X(is_char_boundary, 3, UTF16_AT, "utf16, byteorder, at", \
-      "Return whether the text may be cut at this offset.\n\n" \
-      "That is the length, or a smaller even offset that is neither inside a\n" \
-      "surrogate pair nor between a leading surrogate and a single byte at the end.") \
-    X(floor_char_boundary, 3, UTF16_AT, "utf16, byteorder, at", \
-      "Return the greatest boundary between characters at or before this offset.") \
-    X(floor_char_boundary_around, 3, AROUND, "around, byteorder, at", \
+    CALL(utf32ForUtf16, size, from_utf32_lossy_len, from_utf32_lossy_len_in_bytes, "utf32", \
+      "Return the length of what ``from_utf32_lossy`` returns for the whole input.")
+
+/* Each other function of the package, its parameters, and its documentation. `_native.pyi` has their
+ * types. */
+#define EACH_FUNCTION(X) \
+    X(kernel, "/", \
+      "Return which code the functions run, for reports of bugs and for benchmarks.\n\n" \
+      "It is ``x86-64-v2``, or ``x86-64-v3`` if the processor and the system have all\n" \
+      "of that level, such as AVX2. On ARM64 it is ``aarch64``.") \
+    X(floor_char_boundary_around, "around, byteorder, at", \
       "Return the greatest boundary at or before an offset of a file, from the bytes around it." \
       "\n\nThey are the file's bytes from ``max(at // 2 * 2 - 2, 0)`` on: four of them,\n" \
       "or as many as there are.") \
-    X(shard_offset, 3, SHARDS, "length, count, index", \
+    X(shard_offset, "length, count, index", \
       "Return where part ``index`` of ``count`` begins in a file of this length.\n\n" \
       "Each part has ``length // 2 // count`` code units or one more, and the last\n" \
       "one also has an odd byte at the end. For an index that is not below the\n" \
       "count it is the length. It may be inside a surrogate pair:\n" \
       "``floor_char_boundary_around`` moves it to a boundary.") \
-    X(swap_byte_order, 1, ANY_ORDER, "utf16", \
+    X(swap_byte_order, "utf16", \
       "Swap the two bytes of each code unit in place; an odd byte at the end stays.") \
-    X(make_well_formed, 2, UTF16, "utf16, byteorder", \
+    X(make_well_formed, "utf16, byteorder", \
       "Replace each unpaired surrogate by U+FFFD in place, and return how many there were.") \
-    X(compare, 4, COMPARE, "first, first_byteorder, second, second_byteorder", \
+    X(compare, "first, first_byteorder, second, second_byteorder", \
       "Compare two texts by their scalar values.\n\n" \
       "Return -1, 0 or 1 if the first is less than, equal to or greater than the\n" \
       "second. An unpaired surrogate, and an incomplete character at the end, is\n" \
       "compared as U+FFFD.") \
-    X(find, 3, SEARCH, "utf16, pattern, byteorder, start=None, end=None", \
+    X(find, "utf16, pattern, byteorder, start=None, end=None", \
       "Return the least offset at which a pattern occurs, or -1 if there is none.\n\n" \
       "The bytes of the pattern are there, and the offset and the end of these\n" \
       "bytes are boundaries between characters, as ``is_char_boundary`` says: unlike\n" \
@@ -153,102 +71,122 @@
       "pair. Both buffers are in this byte order, and may be ill formed.\n\n" \
       "``start`` and ``end`` limit the occurrence as in ``bytes.find``. The boundaries\n" \
       "are those of the whole text.") \
-    X(rfind, 3, SEARCH, "utf16, pattern, byteorder, start=None, end=None", \
+    X(rfind, "utf16, pattern, byteorder, start=None, end=None", \
       "Return the greatest offset at which a pattern occurs as in ``find``, or -1.") \
-    X(nul_offset, 1, ANY_ORDER, "utf16", \
-      "Return the offset of the first NUL, or the length if there is none.\n\n" \
-      "It is two zero bytes at an even offset, in either byte order.") \
-    X(detect_bom, 1, BOM, "data, default='big'", \
+    X(detect_bom, "data, default='big'", \
       "Return the BOM at the start of a stream and the byte order, the default without one.\n\n" \
       "The status is ``BomStatus.UNDECIDED`` for fewer than two bytes.") \
-    X(order_number, 1, ORDER, "byteorder", "Return the library's number of a byte order.") \
-    X(feed_decoder, 4, FEED, "state, order, chunk, capacity", \
-      "Decode the next chunk of a stream of UTF-16.") \
-    X(feed_encoder, 4, FEED, "state, order, chunk, capacity", \
-      "Encode the next chunk of a stream of UTF-8.") \
-    X(finish_decoder, 2, STATE, "state, order", "End a stream of UTF-16.") \
-    X(finish_encoder, 2, STATE, "state, order", "End a stream of UTF-8.") \
-    X(decode, 2, DATA, "data, byteorder, errors='strict'", \
+    X(decode, "data, byteorder, errors='strict'", \
       "Return the text of UTF-16; errors are as in ``bytes.decode``. A BOM is a character.") \
-    X(encode, 2, TEXT, "text, byteorder, errors='strict'", \
+    X(encode, "text, byteorder, errors='strict'", \
       "Return the UTF-16 of a text, without a BOM; errors are as in ``str.encode``.") \
-    X(decode_to_utf8, 2, UTF16_ERRORS, "utf16, byteorder, errors='strict'", \
+    X(decode_to_utf8, "utf16, byteorder, errors='strict'", \
       "Return the UTF-8 of UTF-16: ``decode(utf16, byteorder, errors).encode(\"utf-8\", " \
       "errors)``.\n\n" \
       "A ``str`` is made only of ill-formed input, and not with ``replace``.") \
-    X(encode_from_utf8, 2, UTF8_ERRORS, "utf8, byteorder, errors='strict'", \
+    X(encode_from_utf8, "utf8, byteorder, errors='strict'", \
       "Return the UTF-16 of UTF-8: ``encode(str(utf8, \"utf-8\", errors), byteorder, errors)``." \
-      "\n\nA ``str`` is made only of ill-formed input, and not with ``replace``.") \
-    X(utf_16_le_decode, 1, INPUT_FINAL, "input, errors=None, final=False", \
+      "\n\nA ``str`` is made only of ill-formed input, and not with ``replace``.")
+
+/* Those that only the package calls. */
+#define EACH_HELPER(X) \
+    X(next_error, "utf16, byteorder, at", \
+      "Return the first ill-formed sequence of the bytes from an offset on, or None.") \
+    X(order_number, "byteorder", "Return the library's number of a byte order.") \
+    X(feed_decoder, "state, order, chunk, capacity", \
+      "Decode the next chunk of a stream of UTF-16.") \
+    X(feed_encoder, "state, order, chunk, capacity", \
+      "Encode the next chunk of a stream of UTF-8.") \
+    X(finish_decoder, "state, order", "End a stream of UTF-16.") \
+    X(finish_encoder, "state, order", "End a stream of UTF-8.") \
+    X(utf_16_le_decode, "input, errors=None, final=False", \
       "Decode UTF-16LE; return the text and how many bytes were read.\n\n" \
       "Unless it is final, an incomplete character at the end is not read.") \
-    X(utf_16_be_decode, 1, INPUT_FINAL, "input, errors=None, final=False", \
+    X(utf_16_be_decode, "input, errors=None, final=False", \
       "Decode UTF-16BE; return the text and how many bytes were read.\n\n" \
       "Unless it is final, an incomplete character at the end is not read.") \
-    X(utf_16_ex_decode, 1, INPUT_ORDER_FINAL, "input, errors=None, byteorder=0, final=False", \
+    X(utf_16_ex_decode, "input, errors=None, byteorder=0, final=False", \
       "Decode UTF-16; return the text, how many bytes were read, and the byte order.\n\n" \
       "-1 is little endian, 1 is big endian. 0 leaves it to the BOM, and is\n" \
       "returned if there is none: in that case the byte order is the machine's.") \
-    X(utf_16_le_decode_all, 1, INPUT, "input, errors='strict'", "Decode UTF-16LE to its end.") \
-    X(utf_16_be_decode_all, 1, INPUT, "input, errors='strict'", "Decode UTF-16BE to its end.") \
-    X(utf_16_decode_all, 1, INPUT, "input, errors='strict'", "Decode UTF-16 to its end.") \
-    X(utf_16_le_encode, 1, INPUT, "input, errors=None", \
+    X(utf_16_le_decode_all, "input, errors='strict'", "Decode UTF-16LE to its end.") \
+    X(utf_16_be_decode_all, "input, errors='strict'", "Decode UTF-16BE to its end.") \
+    X(utf_16_decode_all, "input, errors='strict'", "Decode UTF-16 to its end.") \
+    X(utf_16_le_encode, "input, errors=None", \
       "Encode to UTF-16LE; return the bytes and the length of the text.") \
-    X(utf_16_be_encode, 1, INPUT, "input, errors=None", \
+    X(utf_16_be_encode, "input, errors=None", \
       "Encode to UTF-16BE; return the bytes and the length of the text.") \
-    X(utf_16_encode, 1, INPUT_ORDER, "input, errors=None, byteorder=0", \
+    X(utf_16_encode, "input, errors=None, byteorder=0", \
       "Encode to UTF-16; return the bytes and the length of the text.\n\n" \
       "-1 is little endian, 1 is big endian. 0 is the machine's byte order, after a BOM.")
 
+/* The functions of a call by its shape, as in `EACH_FUNCTION`. */
+#define FUNCTIONS_bytes(X, name, first, documentation) X(name, first, documentation)
+#define FUNCTIONS_bytesForUtf16 FUNCTIONS_bytes
+#define FUNCTIONS_inAnyOrder FUNCTIONS_bytes
+#define FUNCTIONS_utf32 FUNCTIONS_bytes
+#define FUNCTIONS_utf32ForUtf16 FUNCTIONS_bytes
+#define FUNCTIONS_utf16(X, name, first, documentation) X(name, first ", byteorder", documentation)
+#define FUNCTIONS_utf16At(X, name, first, documentation) \
+    X(name, first ", byteorder, at", documentation)
+#define FUNCTIONS_utf16ToUtf8(X, name, first, documentation) \
+    X(name, first ", byteorder, capacity=None", documentation) \
+    X(name##_into, first ", byteorder, buffer", INTO(#name))
+#define FUNCTIONS_utf16ToLatin1 FUNCTIONS_utf16ToUtf8
+#define FUNCTIONS_utf16ToUtf32 FUNCTIONS_utf16ToUtf8
+#define FUNCTIONS_bytesToUtf16 FUNCTIONS_utf16ToUtf8
+#define FUNCTIONS_utf32ToUtf16 FUNCTIONS_utf16ToUtf8
+
+#define DEFINE(shape, kind, name, symbol, first, documentation) DEFINE_##shape(kind, name, symbol)
+EACH_CALL(DEFINE)
+EACH_CALL_OF_UTF32(DEFINE)
+
+/* The place of each function in the table of methods. */
+#define PLACE(name, signature, documentation) AT_##name,
+#define PLACES(shape, kind, name, symbol, first, documentation) \
+    FUNCTIONS_##shape(PLACE, name, first, documentation)
+enum {
+    EACH_CALL(PLACES) EACH_CALL_OF_UTF32(PLACES) EACH_FUNCTION(PLACE)
+    PUBLIC, /* How many functions are public. */
+    LAST_PUBLIC = PUBLIC - 1,
+    EACH_HELPER(PLACE)
+    COUNT
+};
+
 #define MOST_ARGUMENTS 5
-/* The names of the parameters, and NULL after them. */
-typedef const char *parameters[MOST_ARGUMENTS + 1];
-static const parameters NONE = {NULL};
-static const parameters UTF16 = {"utf16", "byteorder"};
-static const parameters UTF16_AT = {"utf16", "byteorder", "at"};
-static const parameters UTF16_CAPACITY = {"utf16", "byteorder", "capacity"};
-static const parameters UTF16_ERRORS = {"utf16", "byteorder", "errors"};
-static const parameters UTF16_INTO = {"utf16", "byteorder", "buffer"};
-static const parameters UTF8 = {"utf8"};
-static const parameters UTF8_CAPACITY = {"utf8", "byteorder", "capacity"};
-static const parameters UTF8_ERRORS = {"utf8", "byteorder", "errors"};
-static const parameters UTF8_INTO = {"utf8", "byteorder", "buffer"};
-static const parameters WTF8 = {"wtf8"};
-static const parameters WTF8_CAPACITY = {"wtf8", "byteorder", "capacity"};
-static const parameters WTF8_INTO = {"wtf8", "byteorder", "buffer"};
-static const parameters UTF32 = {"utf32"};
-static const parameters UTF32_CAPACITY = {"utf32", "byteorder", "capacity"};
-static const parameters UTF32_INTO = {"utf32", "byteorder", "buffer"};
-static const parameters LATIN1_CAPACITY = {"latin1", "byteorder", "capacity"};
-static const parameters LATIN1_INTO = {"latin1", "byteorder", "buffer"};
-static const parameters AROUND = {"around", "byteorder", "at"};
-static const parameters SHARDS = {"length", "count", "index"};
-static const parameters COMPARE = {"first", "first_byteorder", "second", "second_byteorder"};
-static const parameters SEARCH = {"utf16", "pattern", "byteorder", "start", "end"};
-static const parameters BOM = {"data", "default"};
-static const parameters ORDER = {"byteorder"};
-static const parameters ANY_ORDER = {"utf16"};
-static const parameters STATE = {"state", "order"};
-static const parameters FEED = {"state", "order", "chunk", "capacity"};
-static const parameters DATA = {"data", "byteorder", "errors"};
-static const parameters TEXT = {"text", "byteorder", "errors"};
-static const parameters INPUT = {"input", "errors"};
-static const parameters INPUT_FINAL = {"input", "errors", "final"};
-static const parameters INPUT_ORDER = {"input", "errors", "byteorder"};
-static const parameters INPUT_ORDER_FINAL = {"input", "errors", "byteorder", "final"};
+/* The parameters of a function. */
+typedef struct {
+    char names[MOST_ARGUMENTS][24]; /* Those that are required come first. */
+    Py_ssize_t required;
+    Py_ssize_t count;
+} parameters;
+
+/* The state of a module. */
+typedef struct {
+    native native;
+    parameters functions[COUNT];
+} state;
+
+/* Reads the parameters after `($module` in the first line of a documentation. */
+static void read_parameters(const char *line, parameters *found) {
+    const char *at = strchr(line, ' ');
+    while (*at == ' ') {
+        size_t len = strspn(++at, "abcdefghijklmnopqrstuvwxyz0123456789_");
+        if (len != 0) {
+            memcpy(found->names[found->count++], at, len);
+            found->required += at[len] != '=';
+        }
+        at += strcspn(at, " \n");
+    }
+}
 
 /* Puts arguments into the order of the parameters, or raises what is wrong. Returns whether they
  * fit. */
-static bool in_order(const char *function, const char *const *names, Py_ssize_t required,
-                     PyObject *const *given, Py_ssize_t count, PyObject *keywords,
-                     PyObject **found) {
-    Py_ssize_t most = 0;
-    while (names[most]) {
-        most++;
-    }
-    if (count > most) {
+static bool in_order(const char *function, const parameters *those, PyObject *const *given,
+                     Py_ssize_t count, PyObject *keywords, PyObject **found) {
+    if (count > those->count) {
         PyErr_Format(PyExc_TypeError, "%s() takes at most %zd arguments (%zd given)", function,
-                     most, count);
+                     those->count, count);
         return false;
     }
     for (Py_ssize_t at = 0; at < count; at++) {
@@ -258,21 +196,23 @@ static bool in_order(const char *function, const char *const *names, Py_ssize_t 
     for (Py_ssize_t each = 0; each < named; each++) {
         PyObject *name = PyTuple_GET_ITEM(keywords, each);
         Py_ssize_t at = 0;
-        while (at < most && PyUnicode_CompareWithASCIIString(name, names[at]) != 0) {
+        while (at < those->count
+               && PyUnicode_CompareWithASCIIString(name, those->names[at]) != 0) {
             at++;
         }
-        if (at == most || found[at]) {
-            const char *wrong = at == most ? "%s() got an unexpected keyword argument '%U'"
-                                           : "%s() got multiple values for argument '%U'";
+        if (at == those->count || found[at]) {
+            const char *wrong = at == those->count
+                ? "%s() got an unexpected keyword argument '%U'"
+                : "%s() got multiple values for argument '%U'";
             PyErr_Format(PyExc_TypeError, wrong, function, name);
             return false;
         }
         found[at] = given[count + each];
     }
-    for (Py_ssize_t at = 0; at < required; at++) {
+    for (Py_ssize_t at = 0; at < those->required; at++) {
         if (!found[at]) {
             PyErr_Format(PyExc_TypeError, "%s() missing required argument '%s' (pos %zd)",
-                         function, names[at], at + 1);
+                         function, those->names[at], at + 1);
             return false;
         }
     }
@@ -280,28 +220,35 @@ static bool in_order(const char *function, const char *const *names, Py_ssize_t 
 }
 
 /* Calls a function of the module. */
-static inline PyObject *call(PyObject *module, const char *function, action *act,
-                             const char *const *names, Py_ssize_t required, PyObject *const *given,
-                             Py_ssize_t count, PyObject *keywords) {
+static inline PyObject *call(PyObject *module, const char *function, int place, action *act,
+                             PyObject *const *given, Py_ssize_t count, PyObject *keywords) {
+    const state *it = PyModule_GetState(module);
     PyObject *found[MOST_ARGUMENTS] = {NULL};
-    if (!in_order(function, names, required, given, count, keywords, found)) {
+    if (!in_order(function, &it->functions[place], given, count, keywords, found)) {
         return NULL;
     }
-    return act(PyModule_GetState(module), found);
+    return act(&it->native, found);
 }
 
-#define FUNCTION(name, required, names, signature, documentation) \
+#define CALLED(name, signature, documentation) \
     static PyObject *call_##name(PyObject *module, PyObject *const *given, Py_ssize_t count, \
                                  PyObject *keywords) { \
-        return call(module, #name, name, names, required, given, count, keywords); \
+        return call(module, #name, AT_##name, name, given, count, keywords); \
     }
-EACH_FUNCTION(FUNCTION)
+#define ALL_CALLED(shape, kind, name, symbol, first, documentation) \
+    FUNCTIONS_##shape(CALLED, name, first, documentation)
+EACH_CALL(ALL_CALLED)
+EACH_CALL_OF_UTF32(ALL_CALLED)
+EACH_FUNCTION(CALLED)
+EACH_HELPER(CALLED)
 
-#define METHOD(name, required, names, signature, documentation) \
+#define METHOD(name, signature, documentation) \
     {#name, (PyCFunction) (void (*)(void)) call_##name, METH_FASTCALL | METH_KEYWORDS, \
      #name "($module, " signature ")\n--\n\n" documentation},
+#define METHODS(shape, kind, name, symbol, first, documentation) \
+    FUNCTIONS_##shape(METHOD, name, first, documentation)
 static PyMethodDef methods[] = {
-    EACH_FUNCTION(METHOD)
+    EACH_CALL(METHODS) EACH_CALL_OF_UTF32(METHODS) EACH_FUNCTION(METHOD) EACH_HELPER(METHOD)
     {NULL, NULL, 0, NULL},
 };
 
@@ -355,13 +302,31 @@ static bool find_types(native *it) {
     return is_found;
 }
 
+/* Gives a module the names of its public functions as `__all__`. Returns whether it did. */
+static bool list_names(PyObject *module) {
+    PyObject *names = PyList_New(0);
+    bool is_listed = names;
+    for (int place = 0; is_listed && place < PUBLIC; place++) {
+        PyObject *name = PyUnicode_FromString(methods[place].ml_name);
+        is_listed = name && PyList_Append(names, name) == 0;
+        Py_XDECREF(name);
+    }
+    is_listed = is_listed && PyObject_SetAttrString(module, "__all__", names) == 0;
+    Py_XDECREF(names);
+    return is_listed;
+}
+
 /* Fills the state of a new module. */
 static int fill(PyObject *module) {
-    native *it = PyModule_GetState(module);
+    state *all = PyModule_GetState(module);
+    native *it = &all->native;
+    for (int place = 0; place < COUNT; place++) {
+        read_parameters(methods[place].ml_doc, &all->functions[place]);
+    }
     bool is_filled = (it->little = PyUnicode_InternFromString("little"))
         && (it->big = PyUnicode_InternFromString("big"))
         && (it->strict = PyUnicode_InternFromString("strict")) && find_types(it)
-        && find_handlers(it);
+        && find_handlers(it) && list_names(module);
     return is_filled ? 0 : -1;
 }
 
@@ -402,7 +367,7 @@ static PyModuleDef definition = {
     PyModuleDef_HEAD_INIT,
     .m_name = "dethrux._native",
     .m_doc = "The functions of dethrux in C.",
-    .m_size = sizeof(native),
+    .m_size = sizeof(state),
     .m_methods = methods,
     .m_slots = slots,
     .m_traverse = traverse,

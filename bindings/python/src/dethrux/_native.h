@@ -283,29 +283,125 @@ static PyObject *kernel(const native *it, arguments given) {
     return PyUnicode_FromString(dethrux_kernel());
 }
 
-/* The properties of a text. */
+/* What a call finds in its input. */
 
-/* Returns a `Validity`. */
-static PyObject *validity_of(const native *it, const dethrux_validity *found) {
-    PyObject *fields[] = {PyLong_FromSize_t(found->valid_up_to),
-                          member(it->statuses, found->status),
-                          PyLong_FromUnsignedLong(found->error_len)};
+/* The result of a call that only reads. */
+typedef union {
+    size_t size;
+    bool truth;
+    dethrux_validity validity;
+    dethrux_inspection inspection;
+} finding;
+
+/* Makes such a call: of a text in a byte order, of bytes, or about an offset in a text. */
+typedef void find_in_text(dethrux_byte_order order, const void *, size_t len, finding *);
+typedef void find_in_bytes(const void *, size_t len, finding *);
+typedef void find_at(dethrux_byte_order order, const void *, size_t len, size_t at, finding *);
+
+/* Returns a result as an object. */
+typedef PyObject *shown(const native *it, const finding *found);
+
+static PyObject *show_size(const native *it, const finding *found) {
+    (void) it;
+    return PyLong_FromSize_t(found->size);
+}
+
+static PyObject *show_truth(const native *it, const finding *found) {
+    (void) it;
+    return PyBool_FromLong(found->truth);
+}
+
+static PyObject *show_validity(const native *it, const finding *found) {
+    const dethrux_validity *all = &found->validity;
+    PyObject *fields[] = {PyLong_FromSize_t(all->valid_up_to), member(it->statuses, all->status),
+                          PyLong_FromUnsignedLong(all->error_len)};
     return named_tuple(it->validity, fields, 3);
 }
 
-static PyObject *validate(const native *it, arguments given) {
+static PyObject *show_inspection(const native *it, const finding *found) {
+    const dethrux_inspection *all = &found->inspection;
+    PyObject *fields[] = {PyLong_FromSize_t(all->valid_up_to), PyLong_FromSize_t(all->chars),
+                          member(it->repertoires, all->repertoire),
+                          member(it->statuses, all->status),
+                          PyLong_FromUnsignedLong(all->error_len)};
+    return named_tuple(it->inspection, fields, 5);
+}
+
+/* Returns what a call finds in UTF-16. */
+static PyObject *found_in_text(const native *it, arguments given, find_in_text *find,
+                               shown *show) {
     int order = order_of(it, given[1]);
     input utf16;
     if (order < 0 || !hold(given[0], &utf16)) {
         return NULL;
     }
+    finding found;
     PyThreadState *saved = without_gil(utf16.without_gil);
-    dethrux_validity found =
-        dethrux_validate((dethrux_byte_order) order, utf16.bytes, utf16.len);
+    find((dethrux_byte_order) order, utf16.bytes, utf16.len, &found);
     with_gil(saved);
     release(&utf16);
-    return validity_of(it, &found);
+    return show(it, &found);
 }
+
+/* Returns what a call finds in bytes that `take` holds. */
+static PyObject *found_in_bytes(const native *it, arguments given,
+                                bool (*take)(PyObject *, input *), find_in_bytes *find,
+                                shown *show) {
+    input data;
+    if (!take(given[0], &data)) {
+        return NULL;
+    }
+    finding found;
+    PyThreadState *saved = without_gil(data.without_gil);
+    find(data.bytes, data.len, &found);
+    with_gil(saved);
+    release(&data);
+    return show(it, &found);
+}
+
+/* Returns what a call, which reads a few bytes, finds about an offset in UTF-16. */
+static PyObject *found_at(const native *it, arguments given, find_at *find, shown *show) {
+    int order = order_of(it, given[1]);
+    size_t at;
+    input utf16;
+    if (order < 0 || !size_of(given[2], "at", &at) || !hold(given[0], &utf16)) {
+        return NULL;
+    }
+    finding found;
+    find((dethrux_byte_order) order, utf16.bytes, utf16.len, at, &found);
+    release(&utf16);
+    return show(it, &found);
+}
+
+/* Define the function of a call by its shape. */
+#define DEFINE_utf16(kind, name, symbol) \
+    static void find_##name(dethrux_byte_order order, const void *utf16, size_t len, \
+                            finding *found) { \
+        found->kind = symbol(order, utf16, len); \
+    } \
+    static PyObject *name(const native *it, arguments given) { \
+        return found_in_text(it, given, find_##name, show_##kind); \
+    }
+#define DEFINE_IN_BYTES(kind, name, symbol, take) \
+    static void find_##name(const void *bytes, size_t len, finding *found) { \
+        found->kind = symbol(bytes, len); \
+    } \
+    static PyObject *name(const native *it, arguments given) { \
+        return found_in_bytes(it, given, take, find_##name, show_##kind); \
+    }
+#define DEFINE_bytes(kind, name, symbol) DEFINE_IN_BYTES(kind, name, symbol, hold)
+#define DEFINE_bytesForUtf16 DEFINE_bytes
+#define DEFINE_inAnyOrder DEFINE_bytes
+#define DEFINE_utf32(kind, name, symbol) DEFINE_IN_BYTES(kind, name, symbol, hold_utf32)
+#define DEFINE_utf32ForUtf16 DEFINE_utf32
+#define DEFINE_utf16At(kind, name, symbol) \
+    static void find_##name(dethrux_byte_order order, const void *utf16, size_t len, size_t at, \
+                            finding *found) { \
+        found->kind = symbol(order, utf16, len, at); \
+    } \
+    static PyObject *name(const native *it, arguments given) { \
+        return found_at(it, given, find_##name, show_##kind); \
+    }
 
 /* Returns the first ill-formed sequence from an offset on, or None. */
 static PyObject *next_error(const native *it, arguments given) {
@@ -334,123 +430,69 @@ static PyObject *next_error(const native *it, arguments given) {
     return named_tuple(it->ill_formed, fields, 3);
 }
 
-static PyObject *inspect(const native *it, arguments given) {
-    int order = order_of(it, given[1]);
-    input utf16;
-    if (order < 0 || !hold(given[0], &utf16)) {
-        return NULL;
-    }
-    PyThreadState *saved = without_gil(utf16.without_gil);
-    dethrux_inspection found =
-        dethrux_inspect((dethrux_byte_order) order, utf16.bytes, utf16.len);
-    with_gil(saved);
-    release(&utf16);
-    PyObject *fields[] = {PyLong_FromSize_t(found.valid_up_to), PyLong_FromSize_t(found.chars),
-                          member(it->repertoires, found.repertoire),
-                          member(it->statuses, found.status),
-                          PyLong_FromUnsignedLong(found.error_len)};
-    return named_tuple(it->inspection, fields, 5);
-}
+/* The calls of UTF-32, with all lengths in bytes. */
 
-static PyObject *validate_utf32(const native *it, arguments given) {
-    input utf32;
-    if (!hold_utf32(given[0], &utf32)) {
-        return NULL;
-    }
-    size_t left = utf32.len % 4;
-    PyThreadState *saved = without_gil(utf32.without_gil);
-    dethrux_validity found =
-        dethrux_validate_utf32((const void *) utf32.bytes, utf32.len / 4);
-    with_gil(saved);
-    release(&utf32);
-    found.valid_up_to *= 4;
-    found.error_len *= 4;
-    if (found.status == DETHRUX_DONE && left != 0) {
-        found.status = DETHRUX_INCOMPLETE;
-    }
-    return validity_of(it, &found);
-}
-
-/* Returns a number that a call has for UTF-16. */
-static PyObject *number_of_utf16(const native *it, arguments given,
-                                 size_t (*number)(dethrux_byte_order, const void *, size_t)) {
-    int order = order_of(it, given[1]);
-    input utf16;
-    if (order < 0 || !hold(given[0], &utf16)) {
-        return NULL;
-    }
-    PyThreadState *saved = without_gil(utf16.without_gil);
-    size_t found = number((dethrux_byte_order) order, utf16.bytes, utf16.len);
-    with_gil(saved);
-    release(&utf16);
-    return PyLong_FromSize_t(found);
-}
-
-/* Defines a function that returns such a number, by the name of its call. */
-#define NUMBER_OF_UTF16(name) \
-    static PyObject *name(const native *it, arguments given) { \
-        return number_of_utf16(it, given, dethrux_##name); \
-    }
-NUMBER_OF_UTF16(count_chars)
-NUMBER_OF_UTF16(to_utf8_lossy_len)
-NUMBER_OF_UTF16(to_utf8_replacements)
-NUMBER_OF_UTF16(to_wtf8_len)
-
-/* A code unit of UTF-32 has four bytes. */
-static size_t bytes_of_utf32(dethrux_byte_order order, const void *utf16, size_t len) {
+/* A code unit has four bytes. */
+static size_t to_utf32_lossy_len_in_bytes(dethrux_byte_order order, const void *utf16,
+                                          size_t len) {
     return dethrux_to_utf32_lossy_len(order, utf16, len) * 4;
 }
 
-static PyObject *to_utf32_lossy_len(const native *it, arguments given) {
-    return number_of_utf16(it, given, bytes_of_utf32);
-}
-
-static PyObject *is_ascii(const native *it, arguments given) {
-    int order = order_of(it, given[1]);
-    input utf16;
-    if (order < 0 || !hold(given[0], &utf16)) {
-        return NULL;
-    }
-    PyThreadState *saved = without_gil(utf16.without_gil);
-    bool found = dethrux_is_ascii((dethrux_byte_order) order, utf16.bytes, utf16.len);
-    with_gil(saved);
-    release(&utf16);
-    return PyBool_FromLong(found);
-}
-
-/* Returns a number that a call has for bytes that `take` holds, without a byte order. */
-static PyObject *number_of_bytes(arguments given, bool (*take)(PyObject *, input *),
-                                 size_t (*number)(const void *, size_t)) {
-    input data;
-    if (!take(given[0], &data)) {
-        return NULL;
-    }
-    PyThreadState *saved = without_gil(data.without_gil);
-    size_t found = number(data.bytes, data.len);
-    with_gil(saved);
-    release(&data);
-    return PyLong_FromSize_t(found);
-}
-
-#define NUMBER_OF_BYTES(name) \
-    static PyObject *name(const native *it, arguments given) { \
-        (void) it; \
-        return number_of_bytes(given, hold, dethrux_##name); \
-    }
-NUMBER_OF_BYTES(from_utf8_len)
-NUMBER_OF_BYTES(from_utf8_lossy_len)
-NUMBER_OF_BYTES(from_utf8_replacements)
-NUMBER_OF_BYTES(nul_offset)
-NUMBER_OF_BYTES(from_wtf8_len)
-
 /* An incomplete code unit at the end becomes U+FFFD. */
-static size_t bytes_from_utf32(const void *utf32, size_t len) {
+static size_t from_utf32_lossy_len_in_bytes(const void *utf32, size_t len) {
     return dethrux_from_utf32_lossy_len(utf32, len / 4) + (len % 4 != 0 ? 2 : 0);
 }
 
-static PyObject *from_utf32_lossy_len(const native *it, arguments given) {
-    (void) it;
-    return number_of_bytes(given, hold_utf32, bytes_from_utf32);
+static dethrux_validity validate_utf32_in_bytes(const void *utf32, size_t len) {
+    dethrux_validity found = dethrux_validate_utf32(utf32, len / 4);
+    found.valid_up_to *= 4;
+    found.error_len *= 4;
+    if (found.status == DETHRUX_DONE && len % 4 != 0) {
+        found.status = DETHRUX_INCOMPLETE;
+    }
+    return found;
+}
+
+static dethrux_progress to_utf32_in_bytes(
+    dethrux_byte_order order, const void *utf16, size_t len, void *to, size_t capacity) {
+    dethrux_progress done = dethrux_to_utf32(order, utf16, len, to, capacity / 4);
+    done.written *= 4;
+    return done;
+}
+
+static dethrux_progress to_utf32_lossy_in_bytes(
+    dethrux_byte_order order, const void *utf16, size_t len, void *to, size_t capacity) {
+    dethrux_progress done = dethrux_to_utf32_lossy(order, utf16, len, to, capacity / 4);
+    done.written *= 4;
+    return done;
+}
+
+/* With DETHRUX_INCOMPLETE the input ends inside a code unit. */
+static dethrux_progress from_utf32_in_bytes(
+    dethrux_byte_order order, const void *utf32, size_t len, void *to, size_t capacity) {
+    dethrux_progress done = dethrux_from_utf32(order, utf32, len / 4, to, capacity);
+    done.read *= 4;
+    done.error_len *= 4;
+    if (done.status == DETHRUX_DONE && len % 4 != 0) {
+        done.status = DETHRUX_INCOMPLETE;
+    }
+    return done;
+}
+
+/* An incomplete code unit at the end becomes U+FFFD. */
+static dethrux_progress from_utf32_lossy_in_bytes(
+    dethrux_byte_order order, const void *utf32, size_t len, void *to, size_t capacity) {
+    dethrux_progress done = dethrux_from_utf32_lossy(order, utf32, len / 4, to, capacity);
+    done.read *= 4;
+    if (done.status == DETHRUX_DONE && len % 4 != 0) {
+        const uint32_t replacement = 0xFFFD;
+        dethrux_progress last = dethrux_from_utf32_lossy(
+            order, &replacement, 1, (uint8_t *) to + done.written, capacity - done.written);
+        done.read = last.status == DETHRUX_DONE ? len : done.read;
+        done.written += last.written;
+        done.status = last.status;
+    }
+    return done;
 }
 
 /* Bytes to bytes. */
@@ -472,50 +514,6 @@ static size_t most(direction way, size_t len) {
     default:
         return DETHRUX_UTF8_MAX(len);
     }
-}
-
-/* The conversions of UTF-32, with all lengths in bytes. */
-
-static dethrux_progress to_bytes_of_utf32(
-    dethrux_byte_order order, const void *utf16, size_t len, void *to, size_t capacity) {
-    dethrux_progress done = dethrux_to_utf32(order, utf16, len, to, capacity / 4);
-    done.written *= 4;
-    return done;
-}
-
-static dethrux_progress to_bytes_of_utf32_lossy(
-    dethrux_byte_order order, const void *utf16, size_t len, void *to, size_t capacity) {
-    dethrux_progress done = dethrux_to_utf32_lossy(order, utf16, len, to, capacity / 4);
-    done.written *= 4;
-    return done;
-}
-
-/* With DETHRUX_INCOMPLETE the input ends inside a code unit. */
-static dethrux_progress from_bytes_of_utf32(
-    dethrux_byte_order order, const void *utf32, size_t len, void *to, size_t capacity) {
-    dethrux_progress done = dethrux_from_utf32(order, utf32, len / 4, to, capacity);
-    done.read *= 4;
-    done.error_len *= 4;
-    if (done.status == DETHRUX_DONE && len % 4 != 0) {
-        done.status = DETHRUX_INCOMPLETE;
-    }
-    return done;
-}
-
-/* An incomplete code unit at the end becomes U+FFFD. */
-static dethrux_progress from_bytes_of_utf32_lossy(
-    dethrux_byte_order order, const void *utf32, size_t len, void *to, size_t capacity) {
-    dethrux_progress done = dethrux_from_utf32_lossy(order, utf32, len / 4, to, capacity);
-    done.read *= 4;
-    if (done.status == DETHRUX_DONE && len % 4 != 0) {
-        const uint32_t replacement = 0xFFFD;
-        dethrux_progress last = dethrux_from_utf32_lossy(
-            order, &replacement, 1, (uint8_t *) to + done.written, capacity - done.written);
-        done.read = last.status == DETHRUX_DONE ? len : done.read;
-        done.written += last.written;
-        done.status = last.status;
-    }
-    return done;
 }
 
 /* Returns a bytes object of a capacity, to be cut to what is written.
@@ -654,28 +652,18 @@ static PyObject *into(const native *it, arguments given, conversion *convert, di
 }
 
 /* Defines a function that returns the progress of a conversion, and one that writes to a buffer. */
-#define PROGRESS(name, convert, way) \
+#define DEFINE_CONVERSION(name, symbol, way) \
     static PyObject *name(const native *it, arguments given) { \
-        return progress(it, given, convert, way); \
+        return progress(it, given, symbol, way); \
     } \
     static PyObject *name##_into(const native *it, arguments given) { \
-        return into(it, given, convert, way); \
+        return into(it, given, symbol, way); \
     }
-PROGRESS(to_utf8, dethrux_to_utf8, TO_UTF8)
-PROGRESS(to_utf8_lossy, dethrux_to_utf8_lossy, TO_UTF8)
-PROGRESS(to_utf8_partial, dethrux_to_utf8_partial, TO_UTF8)
-PROGRESS(from_utf8, dethrux_from_utf8, FROM_BYTES)
-PROGRESS(from_utf8_lossy, dethrux_from_utf8_lossy, FROM_BYTES)
-PROGRESS(to_wtf8, dethrux_to_wtf8, TO_UTF8)
-PROGRESS(to_wtf8_partial, dethrux_to_wtf8_partial, TO_UTF8)
-PROGRESS(from_wtf8, dethrux_from_wtf8, FROM_BYTES)
-PROGRESS(from_wtf8_partial, dethrux_from_wtf8_partial, FROM_BYTES)
-PROGRESS(to_utf32, to_bytes_of_utf32, TO_UTF32)
-PROGRESS(to_utf32_lossy, to_bytes_of_utf32_lossy, TO_UTF32)
-PROGRESS(from_utf32, from_bytes_of_utf32, FROM_UTF32)
-PROGRESS(from_utf32_lossy, from_bytes_of_utf32_lossy, FROM_UTF32)
-PROGRESS(to_latin1, dethrux_to_latin1, TO_LATIN1)
-PROGRESS(from_latin1, dethrux_from_latin1, FROM_BYTES)
+#define DEFINE_utf16ToUtf8(kind, name, symbol) DEFINE_CONVERSION(name, symbol, TO_UTF8)
+#define DEFINE_utf16ToLatin1(kind, name, symbol) DEFINE_CONVERSION(name, symbol, TO_LATIN1)
+#define DEFINE_utf16ToUtf32(kind, name, symbol) DEFINE_CONVERSION(name, symbol, TO_UTF32)
+#define DEFINE_bytesToUtf16(kind, name, symbol) DEFINE_CONVERSION(name, symbol, FROM_BYTES)
+#define DEFINE_utf32ToUtf16(kind, name, symbol) DEFINE_CONVERSION(name, symbol, FROM_UTF32)
 
 /* Streams. */
 

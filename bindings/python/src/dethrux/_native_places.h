@@ -10,32 +10,6 @@
 
 /* Boundaries. */
 
-static PyObject *is_char_boundary(const native *it, arguments given) {
-    int order = order_of(it, given[1]);
-    size_t at;
-    input utf16;
-    if (order < 0 || !size_of(given[2], "at", &at) || !hold(given[0], &utf16)) {
-        return NULL;
-    }
-    bool found =
-        dethrux_is_char_boundary((dethrux_byte_order) order, utf16.bytes, utf16.len, at);
-    release(&utf16);
-    return PyBool_FromLong(found);
-}
-
-static PyObject *floor_char_boundary(const native *it, arguments given) {
-    int order = order_of(it, given[1]);
-    size_t at;
-    input utf16;
-    if (order < 0 || !size_of(given[2], "at", &at) || !hold(given[0], &utf16)) {
-        return NULL;
-    }
-    size_t found =
-        dethrux_floor_char_boundary((dethrux_byte_order) order, utf16.bytes, utf16.len, at);
-    release(&utf16);
-    return PyLong_FromSize_t(found);
-}
-
 static PyObject *floor_char_boundary_around(const native *it, arguments given) {
     int order = order_of(it, given[1]);
     uint64_t at;

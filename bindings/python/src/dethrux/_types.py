@@ -6,6 +6,10 @@ from typing import TYPE_CHECKING, Any, Literal, NamedTuple, Protocol, Union, cas
 if TYPE_CHECKING:
     import _typeshed
 
+# What the package has of this module.
+__all__ = ["Bom", "BomStatus", "ByteOrder", "IllFormed", "Inspection", "Progress", "ProgressInto"]
+__all__ += ["Repertoire", "Status", "Validity"]
+
 
 class Array(Protocol):
     """An array of NumPy, or of a package that is like it."""
