@@ -1,6 +1,7 @@
 """Inputs of the tests, and what CPython's codecs make of them: the results that are expected."""
 
 import array
+import ast
 import ctypes
 import functools
 import mmap
@@ -12,7 +13,7 @@ import tracemalloc
 from pathlib import Path
 from typing import NamedTuple, Optional
 
-from dethrux import Status
+from dethrux import Status, _native
 
 TOP = Path(os.environ.get("DETHRUX_TOP") or Path(__file__).resolve().parents[3])
 CODECS = {"little": "utf-16-le", "big": "utf-16-be"}
@@ -51,6 +52,41 @@ UTF8 = (
     b"\xed\xa0\x80a\xed\xb0\x80",
     b"a" * 40 + b"\x80" + "\u4e00".encode() * 3,
 )
+
+
+# The numbers that a function of the extension is given.
+_NUMBERS = {"at": 1, "order": 0, "length": 9, "count": 2, "index": 1}
+
+
+def _stub():
+    """Yield each function of the extension, as the stub has it."""
+    text = Path(_native.__file__).with_name("_native.pyi").read_text()
+    yield from (it for it in ast.parse(text).body if isinstance(it, ast.FunctionDef))
+
+
+# The parameters of each function of the extension that have no default, and their types.
+REQUIRED = {
+    node.name: {
+        it.arg: ast.unparse(it.annotation)
+        for it in node.args.args[: len(node.args.args) - len(node.args.defaults)]
+    }
+    for node in _stub()
+}
+
+
+def values_of(name, raw=b"a\0b\0", text="ab", utf8=b"ab"):
+    """Return a value of the right type for each parameter of a function that has no default."""
+    by_type = {"ReadableBuffer": raw, "str": text, "bytearray": bytearray(4)}
+    by_type["WritableBuffer"] = raw if isinstance(raw, bytearray) else bytearray(raw)
+    by_name = {**_NUMBERS, "utf8": utf8, "wtf8": utf8, "buffer": bytearray(16), "capacity": None}
+    by_name["second_byteorder"] = "big"
+    given = REQUIRED[name].items()
+    return {it: by_name.get(it, by_type.get(kind, "little")) for it, kind in given}
+
+
+def with_parameter(kind):
+    """Return the functions with a parameter of a type, and the name of each such parameter."""
+    return [(name, it) for name in REQUIRED for it in REQUIRED[name] if REQUIRED[name][it] == kind]
 
 
 def utf16(order):

@@ -3,92 +3,71 @@
 import array
 import codecs
 import collections
-import inspect
 import itertools
 import re
 import typing
 import unittest
 
 import dethrux
-from dethrux import BomStatus, Status, _codecs
+from dethrux import BomStatus, Status, _codecs, _native
 from expected import CODECS, IN_PIECES, LARGEST, NOT_BUFFERS, ORDERS, READABLE, REPLACEMENT
-from expected import UNWRITABLE, UTF8, WRITABLE, Index, items, mapped, peak, progress, utf16
-from expected import without_memory
+from expected import REQUIRED, UNWRITABLE, UTF8, WRITABLE, Index, items, mapped, peak, progress
+from expected import utf16, values_of, with_parameter, without_memory
 
-CONVERSIONS = ("to_utf8", "to_utf8_partial", "to_utf8_lossy", "from_utf8", "from_utf8_lossy")
 DECODERS = (dethrux.Decoder, dethrux.Encoder)
 STRICT = (dethrux.StrictDecoder, dethrux.StrictEncoder)
+CONVERSIONS = [it.removesuffix("_into") for it in REQUIRED if it.endswith("_into")]
+PAIR = b"\x3d\xd8\x00\xde"
 
-# All calls that read a buffer, as functions of it and of a byte order.
-NAMES = ("validate", "count_chars", "is_ascii", "to_utf8_lossy_len", *CONVERSIONS)
-NAMES += ("to_utf8_replacements",)
-NAMES += ("decode", "decode_to_utf8", "encode_from_utf8")
-WTF8 = ("to_wtf8", "to_wtf8_partial", "from_wtf8", "from_wtf8_partial")
-NAMES += (*WTF8, "to_wtf8_len", "decode_to_wtf8", "encode_from_wtf8")
-FIXED = ("to_utf32", "to_utf32_lossy", "from_utf32", "from_utf32_lossy", "to_latin1", "from_latin1")
-NAMES += (*FIXED, "to_utf32_lossy_len", "inspect")
-INTO = [f"{name}_into" for name in (*CONVERSIONS, *WTF8, *FIXED)]
-WITH_ORDER = {name: getattr(dethrux, name) for name in NAMES}
-for name in INTO:
-    call = getattr(dethrux, name)
-    WITH_ORDER[name] = lambda data, order, call=call: call(data, order, bytearray(99))
-WITH_ORDER["iter_errors"] = lambda data, order: list(dethrux.iter_errors(data, order))
-for kind in (*DECODERS, *STRICT):
-    WITH_ORDER[kind.__name__] = lambda data, order, kind=kind: kind(order).feed(data)
-WITH_ORDER.update(
-    {
-        "is_char_boundary": lambda data, order: dethrux.is_char_boundary(data, order, 2),
-        "floor_char_boundary": lambda data, order: dethrux.floor_char_boundary(data, order, 3),
-        "floor_char_boundary_around": lambda data, order: dethrux.floor_char_boundary_around(
-            data, order, 3
-        ),
-        "compare, first": lambda data, order: dethrux.compare(data, order, b"a\0b", "little"),
-        "compare, second": lambda data, order: dethrux.compare(b"\0ab", "big", data, order),
-        "find": lambda data, order: dethrux.find(data, b"\0b", order),
-        "rfind": lambda data, order: dethrux.rfind(data, b"a\0", order),
-        "find, pattern": lambda data, order: dethrux.find(b"\0ba\0b", data, order),
-        "rfind, pattern": lambda data, order: dethrux.rfind(b"\0ba\0b", data, order),
-    }
-)
+
+def call_of(name, parameter, **more):
+    """Return a call of a function as one of a parameter and a byte order, of this one if it has."""
+    function = getattr(_native, name)
+    if name == "detect_bom":
+        return function
+    orders = {"byteorder", f"{parameter}_byteorder"} & {*REQUIRED[name]}
+
+    def call(value, order="little"):
+        given = {**values_of(name), **dict.fromkeys(orders, order), **more, parameter: value}
+        return function(**given)
+
+    return call
+
+
+# All calls that read a buffer, as functions of it and of a byte order: of the extension by their
+# types, and those in Python.
 READERS = {
-    **WITH_ORDER,
-    "from_utf8_len": lambda data, order: dethrux.from_utf8_len(data),
-    "from_utf8_lossy_len": lambda data, order: dethrux.from_utf8_lossy_len(data),
-    "from_utf8_replacements": lambda data, order: dethrux.from_utf8_replacements(data),
-    "nul_offset": lambda data, order: dethrux.nul_offset(data),
-    "from_wtf8_len": lambda data, order: dethrux.from_wtf8_len(data),
-    "validate_utf32": lambda data, order: dethrux.validate_utf32(data),
-    "from_utf32_lossy_len": lambda data, order: dethrux.from_utf32_lossy_len(data),
-    "detect_bom": lambda data, order: dethrux.detect_bom(data, order),
-    "utf_16_le_decode": lambda data, order: _codecs.utf_16_le_decode(data),
-    "utf_16_be_decode": lambda data, order: _codecs.utf_16_be_decode(data),
-    "utf_16_ex_decode": lambda data, order: _codecs.utf_16_ex_decode(data),
-    "utf_16_decode": lambda data, order: _codecs.utf_16_decode(data),
+    f"{name}, {parameter}": call_of(name, parameter)
+    for name, parameter in with_parameter("ReadableBuffer")
+}
+READERS["utf_16_decode"] = lambda data, order: _codecs.utf_16_decode(data)
+OF_PYTHON = {it.__name__: it for it in (dethrux.decode_to_wtf8, dethrux.encode_from_wtf8)}
+OF_PYTHON["iter_errors"] = lambda data, order: list(dethrux.iter_errors(data, order))
+for kind in (*DECODERS, *STRICT):
+    OF_PYTHON[kind.__name__] = lambda data, order, kind=kind: kind(order).feed(data)
+READERS |= OF_PYTHON
+WITH_ORDER = OF_PYTHON | {
+    f"{name}, {it}": call_of(name, it.removesuffix("_byteorder").replace(it, [*REQUIRED[name]][0]))
+    for name, it in with_parameter("ByteOrder")
+    if name != "order_number"
 }
 # Calls that write to a buffer.
-IN_PLACE = {
-    "swap_byte_order": lambda data, order: dethrux.swap_byte_order(data),
-    "make_well_formed": dethrux.make_well_formed,
-    "to_utf8_into": lambda data, order: dethrux.to_utf8_into(b"a\0", order, data),
-}
-PAIR = b"\x3d\xd8\x00\xde"
+IN_PLACE = {name: call_of(name, it) for name, it in with_parameter("WritableBuffer")}
 # All numbers that a call takes: the name, and a function of the number.
 CAPACITIES = [
-    ("capacity", lambda number, call=call: call(PAIR, "little", number))
-    for call in (getattr(dethrux, name) for name in (*CONVERSIONS, *WTF8, *FIXED))
+    ("capacity", lambda number, call=getattr(dethrux, name): call(PAIR, "little", number))
+    for name in CONVERSIONS
 ] + [
     ("capacity", lambda number, kind=kind: kind("little").feed_partial(PAIR, number))
     for kind in DECODERS
 ]
 OFFSETS = [
-    ("at", lambda number: dethrux.is_char_boundary(PAIR, "little", number)),
-    ("at", lambda number: dethrux.floor_char_boundary(PAIR, "little", number)),
+    (it, call_of(name, it)) for name, it in with_parameter("int") if name in _native.__all__
 ]
 OFFSETS_OF_FILES = [
-    ("at", lambda number: dethrux.floor_char_boundary_around(PAIR, "little", number)),
-    ("length", lambda number: dethrux.shard_offset(number, 2, 1)),
-    ("count", lambda number: dethrux.shard_offset(8, number, 1)),
-    ("index", lambda number: dethrux.shard_offset(8, 2, number)),
+    (it, call_of(name, it))
+    for name, it in with_parameter("int")
+    if name in ("floor_char_boundary_around", "shard_offset")
 ]
 
 
@@ -184,6 +163,11 @@ class Functions(unittest.TestCase):
         found = dethrux.validate(b"a\0\0\xdc", "little")
         self.assertEqual(found._asdict(), fields)
         self.assertIs(type(found.status), Status)
+        fields = {"valid_up_to": 2, "chars": 1, "repertoire": dethrux.Repertoire.ASCII}
+        fields |= {"status": Status.ILL_FORMED, "error_len": 2}
+        found = dethrux.inspect(b"a\0\0\xdc", "little")
+        self.assertEqual(found._asdict(), fields)
+        self.assertIs(type(found.repertoire), dethrux.Repertoire)
         fields = {"byteorder": "little", "len": 2, "status": BomStatus.PRESENT}
         self.assertEqual(dethrux.detect_bom(codecs.BOM_UTF16_LE)._asdict(), fields)
 
@@ -243,13 +227,14 @@ class InPlace(unittest.TestCase):
         self.assertEqual(buffer, raw)
 
 
-# Calls that allocate nothing for their result, as functions of a buffer and a byte order.
-LEAN = {name: call for name, call in READERS.items() if "decode" not in name.lower()}
-LEAN = {name: call for name, call in LEAN.items() if "encode" not in name.lower()}
-for name in (*CONVERSIONS, *WTF8, *FIXED):
-    LEAN[name] = lambda data, order, call=getattr(dethrux, name): call(data, order, 0)
-# A buffer of UTF-32 may also be copied because of its address.
-LEAN = {name: call for name, call in LEAN.items() if not re.search("(from|validate)_utf32", name)}
+# Calls that allocate nothing for their result, as functions of a buffer and a byte order. A buffer
+# of UTF-32 may also be copied because of its address.
+NOT_LEAN = re.compile("decode|encode|utf32$", re.IGNORECASE)
+LEAN = {name: call for name, call in READERS.items() if not NOT_LEAN.search(name)}
+for name in CONVERSIONS:
+    first = [*REQUIRED[name]][0]
+    if first != "utf32":
+        LEAN[f"{name}, {first}"] = call_of(name, first, capacity=0)
 for kind in DECODERS:
     LEAN[kind.__name__] = lambda data, order, kind=kind: kind(order).feed_partial(data, 0)
 
@@ -279,13 +264,13 @@ class Reading(unittest.TestCase):
                     held.append(len(buffer))
                     return 7
 
-            for name in (*CONVERSIONS, *WTF8, *FIXED):
+            for name in CONVERSIONS:
                 held_fails = self.assertRaises(BufferError)
                 getattr(dethrux, name)(buffer, "little", Changes())
             for kind in DECODERS:
                 held_fails = self.assertRaises(BufferError)
                 kind("little").feed_partial(buffer, Changes())
-            self.assertEqual(held, [2] * (len(CONVERSIONS + WTF8 + FIXED) + len(DECODERS)))
+            self.assertEqual(held, [2] * len([*CONVERSIONS, *DECODERS]))
             change(buffer)
 
     def test_let_go_after_the_call(self):
@@ -318,7 +303,7 @@ class Reading(unittest.TestCase):
         names = "is_char_boundary", "floor_char_boundary", "floor_char_boundary_around"
         calls = [
             lambda data, name=name: getattr(dethrux, name)(data, "big", -1)
-            for name in (*names, *CONVERSIONS, *WTF8, *FIXED)
+            for name in (*names, *CONVERSIONS)
         ]
         for kind in DECODERS:
             finished = kind("big")
@@ -363,19 +348,18 @@ class Arguments(unittest.TestCase):
                 dethrux.encode(wrong, "little")
 
     def test_byte_orders(self):
-        calls = {**WITH_ORDER, "encode": lambda data, order: dethrux.encode("a", order)}
-        calls["make_well_formed"] = lambda data, order: dethrux.make_well_formed(bytearray(), order)
-        for name, call in calls.items():
+        for name, call in WITH_ORDER.items():
+            value = {"encode": "a", "make_well_formed": bytearray()}.get(name.split(",")[0], b"a\0")
             for wrong in ("middle", "", "LITTLE", "native", "littl"):
                 message = "^byteorder must be either 'little' or 'big'$"
                 with self.subTest(name=name, wrong=wrong):
                     with self.assertRaisesRegex(ValueError, message):
-                        call(b"a\0", wrong)
+                        call(value, wrong)
             for wrong in (0, 1, None, b"little"):
                 message = f"^byteorder must be str, not {type(wrong).__name__}$"
                 with self.subTest(name=name, wrong=wrong):
                     with self.assertRaisesRegex(TypeError, message):
-                        call(b"a\0", wrong)
+                        call(value, wrong)
 
     def test_byteorder_is_a_keyword(self):
         """`test_native` tests the keywords of the functions in C."""
@@ -386,15 +370,9 @@ class Arguments(unittest.TestCase):
             for call in (dethrux.decode_to_wtf8, dethrux.encode_from_wtf8):
                 by_keyword = outcome(lambda: call(raw, byteorder=order))
                 self.assertEqual(by_keyword, outcome(call, raw, order))
-        public = (getattr(dethrux, name) for name in dethrux.__all__)
-        calls = [it for it in public if inspect.isroutine(it) or it in DECODERS + STRICT]
-        found = {it.__name__ for it in calls if "byteorder" in inspect.signature(it).parameters}
-        expected = {*WITH_ORDER, "encode", "make_well_formed"}
-        expected -= {"compare, first", "compare, second", "find, pattern", "rfind, pattern"}
-        self.assertEqual(found, expected)
 
     def test_numbers(self):
-        for name, call in CAPACITIES + OFFSETS + OFFSETS_OF_FILES:
+        for name, call in CAPACITIES + OFFSETS:
             for wrong in (-1, -(2**64), Index(-1)):
                 with self.subTest(name=name, wrong=wrong):
                     with self.assertRaisesRegex(ValueError, f"^{name} must not be negative$"):
@@ -404,7 +382,7 @@ class Arguments(unittest.TestCase):
                     call(wrong)
             for number in (0, 1, 2, 3, 4):
                 self.assertEqual(call(Index(number)), call(number))
-        for _name, call in OFFSETS + OFFSETS_OF_FILES:
+        for _name, call in OFFSETS:
             with self.assertRaises(TypeError):
                 call(None)
 
@@ -439,19 +417,6 @@ def each_stream():
 
 class Decoders(unittest.TestCase):
     """Streams of both kinds in both byte orders."""
-
-    def test_every_chunking(self):
-        for decoder, raw, source, target in each_stream():
-            with self.subTest(raw=raw, target=target):
-                whole = raw.decode(source, "replace").encode(target)
-                read = progress(raw, source, target, "incomplete", LARGEST)[1]
-                for first in range(len(raw) + 1):
-                    for second in {first, (first + len(raw)) // 2, len(raw)}:
-                        decoder.reset()
-                        parts = raw[:first], raw[first:second], raw[second:]
-                        found = b"".join(map(decoder.feed, parts))
-                        self.assertEqual(decoder.pending, raw[read:])
-                        self.assertEqual(found + decoder.finish(), whole, (first, second))
 
     def test_every_capacity(self):
         for decoder, raw, source, target in each_stream():

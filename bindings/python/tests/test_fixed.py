@@ -1,4 +1,4 @@
-"""Errors, inspection, parts of a text, UTF-32, Latin-1, buffers of the caller, strict streams."""
+"""Errors, parts of a text, UTF-32, buffers of the caller, strict streams."""
 
 import array
 import itertools
@@ -8,9 +8,9 @@ import time
 import unittest
 
 import dethrux
-from dethrux import Repertoire, Status
+from dethrux import Status
 from expected import CODECS, IN_PIECES, LARGEST, NOT_BUFFERS, ORDERS, UTF8, WRITABLE, items
-from expected import progress, utf16, without_memory
+from expected import peak, progress, utf16, without_memory
 
 UTF32 = "utf-32-le" if sys.byteorder == "little" else "utf-32-be"
 # UTF-32 in the machine's byte order: well formed, ill formed at the start and at the end, cut.
@@ -19,26 +19,8 @@ UNITS += ((0x110000,), (0x61, 0xFFFFFFFF, 0x62), (0xD7FF, 0xE000), (0xFEFF,), (0
 UTF32_SAMPLES = [
     array.array("I", units).tobytes() + b"\x61\0\0"[:odd] for units in UNITS for odd in range(4)
 ]
-LATIN1_SAMPLES = (b"", b"a", b"\0\x7f\x80\xff", bytes(range(256)))
-
-
-def conversions(order):
-    """Return each conversion with an input, and CPython's codecs of what it reads and writes."""
-    codec = CODECS[order]
-    for raw in utf16(order):
-        yield "to_utf8", raw, codec, "utf-8", "ill-formed"
-        yield "to_utf8_lossy", raw, codec, "utf-8", None
-        yield "to_utf8_partial", raw, codec, "utf-8", "incomplete"
-        yield "to_utf32", raw, codec, UTF32, "ill-formed"
-        yield "to_utf32_lossy", raw, codec, UTF32, None
-    for raw in UTF8:
-        yield "from_utf8", raw, "utf-8", codec, "ill-formed"
-        yield "from_utf8_lossy", raw, "utf-8", codec, None
-    for raw in UTF32_SAMPLES:
-        yield "from_utf32", raw, UTF32, codec, "ill-formed"
-        yield "from_utf32_lossy", raw, UTF32, codec, None
-    for raw in LATIN1_SAMPLES:
-        yield "from_latin1", raw, "latin-1", codec, None
+# The conversions of UTF-32, and where they stop.
+STOPS = {"from_utf32": "ill-formed", "from_utf32_lossy": None}
 
 
 def errors(raw, codec):
@@ -95,30 +77,6 @@ class Errors(unittest.TestCase):
             self.assertLess(taken[1], 32 * taken[0] + 0.1)
 
 
-class Inspect(unittest.TestCase):
-    def test_each(self):
-        for order, raw in ((order, raw) for order in ORDERS for raw in utf16(order)):
-            chars, length, status = "", 0, (Status.DONE, 0)
-            for item in items(raw, CODECS[order]):
-                if item.char is None:
-                    is_last = item.is_incomplete
-                    status = (Status.INCOMPLETE, 0) if is_last else (Status.ILL_FORMED, 2)
-                    break
-                chars, length = chars + item.char, length + item.length
-            most = ord(max(chars, default="a"))
-            least = sum(most > each for each in (0x7F, 0xFF, 0xFFFF))
-            found = dethrux.inspect(raw, order)
-            self.assertEqual(found, (length, len(chars), least, *status))
-            self.assertIs(type(found), dethrux.Inspection)
-            self.assertIs(type(found.repertoire), Repertoire)
-            names = ["valid_up_to", "chars", "repertoire", "status", "error_len"]
-            self.assertEqual([*found._asdict()], names)
-        for char, least in (("\x7f", 0), ("\x80", 1), ("\xff", 1), ("\u0100", 2), ("\uffff", 2)):
-            for order, codec in CODECS.items():
-                found = dethrux.inspect(("a" + char).encode(codec), order)
-                self.assertEqual(found, (4, 2, least, Status.DONE, 0))
-
-
 class Parts(unittest.TestCase):
     """`find` and `rfind` with a start and an end."""
 
@@ -157,31 +115,27 @@ class Parts(unittest.TestCase):
 
 
 class Fixed(unittest.TestCase):
-    """UTF-8, UTF-32 and Latin-1."""
+    """UTF-32, which may end inside a code unit. `check.py` tests the other conversions."""
 
     def test_conversions(self):
-        for order in ORDERS:
-            for name, raw, source, target, stops in conversions(order):
-                call = getattr(dethrux, name)
-                whole = progress(raw, source, target, stops, LARGEST)
+        for order, codec in CODECS.items():
+            for raw, (name, stops) in itertools.product(UTF32_SAMPLES, STOPS.items()):
+                call, into = getattr(dethrux, name), getattr(dethrux, f"{name}_into")
+                whole = progress(raw, UTF32, codec, stops, LARGEST)
                 self.assertEqual(call(raw, order), whole, (name, raw, order))
-                for capacity in (None, 10**30):
-                    self.assertEqual(call(raw, order, capacity), whole, (name, raw, order))
-                for capacity in range(len(whole[0]) + 2):
-                    expected = progress(raw, source, target, stops, capacity)
+                for capacity in (*range(len(whole[0]) + 2), 10**30):
+                    expected = progress(raw, UTF32, codec, stops, capacity)
                     self.assertEqual(call(raw, order, capacity), expected, (name, raw, capacity))
+                for capacity in range(len(whole[0]) + 2):
+                    buffer = bytearray(capacity)
+                    output, read, *rest = progress(raw, UTF32, codec, stops, capacity)
+                    self.assertEqual(into(raw, order, buffer), (read, len(output), *rest))
+                    self.assertEqual(buffer[: len(output)], output, (name, raw, capacity))
 
     def test_lengths(self):
-        for order, codec in CODECS.items():
-            for raw in utf16(order):
-                length = len(raw.decode(codec, "replace").encode(UTF32))
-                self.assertEqual(dethrux.to_utf32_lossy_len(raw, order), length)
-            for raw in UTF32_SAMPLES:
-                length = len(raw.decode(UTF32, "replace").encode(codec))
-                self.assertEqual(dethrux.from_utf32_lossy_len(raw), length)
-
-    def test_validate_utf32(self):
         for raw in UTF32_SAMPLES:
+            length = len(raw.decode(UTF32, "replace").encode("utf-16-le"))
+            self.assertEqual(dethrux.from_utf32_lossy_len(raw), length)
             _output, read, status, error_len = progress(raw, UTF32, "utf-8", "ill-formed", LARGEST)
             self.assertEqual(dethrux.validate_utf32(raw), (read, status, error_len), raw)
 
@@ -190,6 +144,11 @@ class Fixed(unittest.TestCase):
             view = memoryview(b"\xff" * start + raw)[start:]
             self.assertEqual(dethrux.validate_utf32(view), dethrux.validate_utf32(raw))
             self.assertEqual(dethrux.from_utf32(view, "big"), dethrux.from_utf32(raw, "big"))
+        # The library does not take any address: what has a wrong one is copied.
+        raw = b"a\0\0\0" * 10_000
+        view = memoryview(b"a" + raw)[1:]
+        for call in (dethrux.validate_utf32, dethrux.from_utf32_lossy_len):
+            self.assertGreater(peak(call, view), len(raw))
 
     def test_arrays(self):
         units = array.array("I", [0x61, 0x1F600])
@@ -197,61 +156,9 @@ class Fixed(unittest.TestCase):
         self.assertEqual(dethrux.from_utf32(units, "big"), (raw, 8, Status.DONE, 0))
         self.assertEqual(array.array("I", dethrux.to_utf32(raw, "big").output), units)
 
-    def test_to_latin1(self):
-        for order, codec in CODECS.items():
-            texts = ["", "a", "a\x7f\x80\xff", "a\u0100b", "\u4e00", "a\U0001f600", "a\ud800b"]
-            for text, odd in itertools.product([*texts, "a\udc00", "\xe9" * 40], (b"", b"\xd8")):
-                raw = text.encode(codec, "surrogatepass") + odd
-                output, read, status, error_len = b"", 0, Status.DONE, 0
-                for item in items(raw, codec):
-                    if item.char is None:
-                        status = Status.INCOMPLETE if item.is_incomplete else Status.ILL_FORMED
-                        error_len = 0 if item.is_incomplete else item.length
-                        break
-                    if ord(item.char) > 0xFF:
-                        status = Status.NOT_LATIN1
-                        break
-                    output, read = output + item.char.encode("latin-1"), read + item.length
-                expected = output, read, status, error_len
-                self.assertEqual(dethrux.to_latin1(raw, order), expected, (raw, order))
-                self.assertEqual(dethrux.to_latin1(raw, order, 10**30), expected)
-                for capacity in range(len(output)):
-                    expected = output[:capacity], 2 * capacity, Status.NO_SPACE, 0
-                    self.assertEqual(dethrux.to_latin1(raw, order, capacity), expected)
-
 
 class Into(unittest.TestCase):
     """Conversions to a buffer of the caller."""
-
-    def test_each(self):
-        """At the start of a longer buffer, whose rest stays as it was."""
-        for order in ORDERS:
-            for name, raw, source, target, stops in conversions(order):
-                call = getattr(dethrux, f"{name}_into")
-                whole = progress(raw, source, target, stops, LARGEST)[0]
-                for capacity in {0, 1, 2, 3, 4, 5, 7, len(whole), len(whole) + 9}:
-                    buffer = bytearray(b"\xaa" * (capacity + 4))
-                    output, read, status, error_len = progress(raw, source, target, stops, capacity)
-                    found = call(raw, order, memoryview(buffer)[:capacity])
-                    expected = read, len(output), status, error_len
-                    self.assertEqual(found, expected, (name, raw, capacity))
-                    self.assertEqual(buffer[: len(output)], output, (name, raw, capacity))
-                    self.assertEqual(buffer[capacity:], b"\xaa" * 4)
-
-    def test_the_others(self):
-        """WTF-8 and Latin-1 like the calls that return bytes, which other tests compare."""
-        for order, name in itertools.product(ORDERS, ("to_wtf8", "to_wtf8_partial", "to_latin1")):
-            for raw in utf16(order):
-                self.check(name, raw, order)
-        for order, name in itertools.product(ORDERS, ("from_wtf8", "from_wtf8_partial")):
-            for raw in UTF8:
-                self.check(name, raw, order)
-
-    def check(self, name, raw, order):
-        buffer = bytearray(200)
-        read, written, status, error_len = getattr(dethrux, f"{name}_into")(raw, order, buffer)
-        found = bytes(buffer[:written]), read, status, error_len
-        self.assertEqual(found, getattr(dethrux, name)(raw, order))
 
     def test_buffers(self):
         for kind in WRITABLE:

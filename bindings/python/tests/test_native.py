@@ -12,6 +12,7 @@ import os
 import pickle
 import platform
 import random
+import re
 import resource
 import shutil
 import subprocess
@@ -27,7 +28,7 @@ from unittest import mock
 
 import dethrux
 from dethrux import _native, _types
-from expected import CODECS, ORDERS, TOP, in_threads, mapped, peak, without_memory
+from expected import CODECS, ORDERS, TOP, in_threads, mapped, peak, values_of, without_memory
 from test_calls import outcome
 from test_codecs import outcome as outcome_or_class
 
@@ -92,23 +93,9 @@ def parameters(name):
     return list(inspect.signature(C[name]).parameters)
 
 
-def arguments(name, raw=b"a\0b\0", text="ab", utf8=b"ab"):
+def arguments(*given):
     """Return arguments of the right types for a function."""
-    rest = {"byteorder": "little", "first_byteorder": "little", "second_byteorder": "big"}
-    rest |= {"state": bytearray(4), "order": 0, "chunk": raw, "at": 1, "pattern": raw}
-    rest |= {"length": 9, "count": 2, "index": 1, "second": raw, "default": "little"}
-    rest |= {"buffer": bytearray(16)}
-    names = parameters(name)
-    if name.startswith("feed_"):
-        return bytearray(4), 0, raw, None
-    if names[0] in rest:
-        return tuple(rest[each] for each in names)
-    first = text if names[0] == "text" or name.endswith("_encode") else raw
-    first = utf8 if names[0] in ("utf8", "wtf8") else first
-    if name in IN_PLACE:
-        first = raw if isinstance(raw, bytearray) else bytearray(raw)
-    more = [] if name.startswith("utf_16") else names[1:]
-    return (first, *(rest[each] for each in more if each in rest))
+    return tuple(values_of(*given).values())
 
 
 class Texts(unittest.TestCase):
@@ -495,71 +482,37 @@ class Buffers(unittest.TestCase):
             self.assertLess(peak(C[name], data, "little"), room + BLOCK + 4096, name)
 
 
-# A library whose calls tell whether the thread has the GIL, and need no proof.
-TELLS_GIL = r"""
+# What a call returns of a library whose calls only tell whether the thread has the GIL. `len` and
+# `capacity` are parameters, or 0 without them.
+TELLS = {
+    "dethrux_progress": "(dethrux_progress) {len, capacity, DETHRUX_DONE, 0}",
+    "dethrux_validity": "(dethrux_validity) {len, DETHRUX_DONE, 0}",
+    "dethrux_inspection": "(dethrux_inspection) {len, len / 2, repertoire, DETHRUX_DONE, 0}",
+    "dethrux_bom": "(dethrux_bom) {0, default_order, DETHRUX_BOM_ABSENT}",
+    **dict.fromkeys(("size_t", "bool", "uint64_t", "int32_t", "uint32_t"), "len"),
+}
+TELLS_GIL = """
 #include "dethrux.h"
 int PyGILState_Check(void);
 /* One more than whether each call had the GIL, joined by "or"; and what `inspect` finds. */
 int held, repertoire;
-#define HELD (held |= 1 + PyGILState_Check())
-#define P dethrux_byte_order order, const void *bytes, size_t len
-#define TO void *to, size_t capacity
-static dethrux_progress p(size_t len, size_t capacity) {
-    HELD;
-    dethrux_progress done = {len, capacity, DETHRUX_DONE, 0};
-    return done;
-}
+static const size_t len, capacity;
 const char *dethrux_kernel(void) { return ""; }
-dethrux_validity dethrux_validate(P) { HELD; dethrux_validity v = {len, 0, 0}; return v; }
-dethrux_validity dethrux_validate_utf32(const uint32_t *u, size_t len) {
-    HELD;
-    dethrux_validity v = {len, 0, 0};
-    return v;
-}
-#define SIZE(name) size_t dethrux_##name(P) { HELD; return len; }
-SIZE(count_chars) SIZE(to_utf8_lossy_len) SIZE(to_utf8_replacements) SIZE(to_wtf8_len)
-SIZE(to_utf32_lossy_len)
-bool dethrux_is_ascii(P) { HELD; return len; }
-size_t dethrux_from_utf8_len(const void *b, size_t len) { HELD; return len; }
-size_t dethrux_from_utf8_lossy_len(const void *b, size_t len) { HELD; return len; }
-size_t dethrux_from_utf8_replacements(const void *b, size_t len) { HELD; return len; }
-size_t dethrux_from_wtf8_len(const void *b, size_t len) { HELD; return len; }
-#define PROGRESS(name) dethrux_progress dethrux_##name(P, TO) { return p(len, capacity); }
-PROGRESS(to_utf8) PROGRESS(to_utf8_lossy) PROGRESS(to_utf8_partial)
-PROGRESS(from_utf8) PROGRESS(from_utf8_lossy) PROGRESS(to_latin1) PROGRESS(from_latin1)
-PROGRESS(to_wtf8) PROGRESS(to_wtf8_partial) PROGRESS(from_wtf8) PROGRESS(from_wtf8_partial)
-dethrux_progress dethrux_decoder_feed(dethrux_decoder *d, P, TO) { return p(len, capacity); }
-dethrux_progress dethrux_encoder_feed(dethrux_encoder *d, P, TO) { return p(len, capacity); }
-dethrux_progress dethrux_decoder_finish(dethrux_decoder *d, dethrux_byte_order o, TO) {
-    return p(0, 0);
-}
-dethrux_progress dethrux_encoder_finish(dethrux_encoder *d, dethrux_byte_order o, TO) {
-    return p(0, 0);
-}
-dethrux_inspection dethrux_inspect(P) {
-    HELD;
-    dethrux_inspection found = {len, len / 2, (dethrux_repertoire) repertoire, DETHRUX_DONE, 0};
-    return found;
-}
-dethrux_progress dethrux_to_utf32(P, uint32_t *to, size_t capacity) { return p(len, capacity); }
-dethrux_progress dethrux_to_utf32_lossy(P, uint32_t *to, size_t capacity) { return p(len, 0); }
-dethrux_progress dethrux_from_utf32(dethrux_byte_order order, const uint32_t *utf32, size_t len,
-                                    TO) { return p(len, capacity); }
-dethrux_progress dethrux_from_utf32_lossy(dethrux_byte_order order, const uint32_t *utf32,
-                                          size_t len, TO) { return p(len, capacity); }
-size_t dethrux_from_utf32_lossy_len(const uint32_t *u, size_t len) { HELD; return 4 * len; }
-void dethrux_swap_byte_order(void *utf16, size_t len) { HELD; }
-size_t dethrux_make_well_formed(dethrux_byte_order o, void *b, size_t len) { HELD; return len; }
-dethrux_bom dethrux_detect_bom(P) { dethrux_bom bom = {0, order, DETHRUX_BOM_ABSENT}; return bom; }
-bool dethrux_is_char_boundary(P, size_t at) { HELD; return at; }
-size_t dethrux_floor_char_boundary(P, size_t at) { HELD; return at; }
-uint64_t dethrux_floor_char_boundary_around(P, uint64_t at) { HELD; return at; }
-uint64_t dethrux_shard_offset(uint64_t len, uint64_t count, uint64_t index) { HELD; return len; }
-int32_t dethrux_compare(P, dethrux_byte_order o, const void *b, size_t n) { HELD; return 0; }
-size_t dethrux_find(P, const void *pattern, size_t n) { HELD; return 0; }
-size_t dethrux_rfind(P, const void *pattern, size_t n) { HELD; return 0; }
-size_t dethrux_nul_offset(const void *b, size_t len) { HELD; return len; }
 """
+
+
+def gil_library():
+    """Return such a library in C, with each call of the header. A BOM is found with the GIL."""
+    calls = (TOP / "dist" / "src" / "calls.inc").read_text()
+    found = re.findall(r"(?:(\w+), )?(dethrux_\w+), (\([^()]*\)), \(", calls)
+    lines = [TELLS_GIL]
+    for result, name, parameters in found:
+        tells = "" if name == "dethrux_detect_bom" else "held |= 1 + PyGILState_Check();"
+        head = f"{result if result in TELLS else 'void'} {name}{parameters}"
+        lines.append(f"{head} {{ {tells} return {TELLS.get(result, '')}; }}")
+    return "\n".join(lines)
+
+
 # Prints each call that does not give up the GIL if it should, or gives it up if it should not.
 ASKS_GIL = r"""
 import ctypes, sys
@@ -638,7 +591,7 @@ class Gil(unittest.TestCase):
             if not sources.joinpath("_native.c").is_file():
                 sources = TOP / "bindings" / "python" / "src" / "dethrux"
             library = Path(folder) / "tells.c"
-            library.write_text(TELLS_GIL)
+            library.write_text(gil_library())
             words = ["cc", "-std=c11", "-shared", "-fPIC", "-w", f"-I{TOP / 'dist/include'}"]
             words += [f"-I{sysconfig.get_path('include')}", str(sources / "_native.c")]
             made = package / f"_native{sysconfig.get_config_var('EXT_SUFFIX')}"
