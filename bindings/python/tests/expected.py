@@ -2,6 +2,7 @@
 
 import array
 import ast
+import codecs
 import ctypes
 import functools
 import mmap
@@ -10,9 +11,11 @@ import sys
 import tempfile
 import threading
 import tracemalloc
+import unittest
 from pathlib import Path
 from typing import NamedTuple, Optional
 
+import dethrux
 from dethrux import Status, _native
 
 TOP = Path(os.environ.get("DETHRUX_TOP") or Path(__file__).resolve().parents[3])
@@ -139,6 +142,82 @@ def progress(raw, source, target, stops, capacity):
             return output, read, Status.NO_SPACE, 0
         output, read = output + written, read + item.length
     return output, read, Status.DONE, 0
+
+
+def outcome(call, *arguments):
+    """Return what a call returns, or the exception with all that it says."""
+    try:
+        return call(*arguments)
+    except UnicodeError as error:
+        if "does not start with BOM" in str(error):
+            # The class and the words depend on the version of CPython.
+            return "no BOM"
+        return type(error), error.args
+    except (TypeError, LookupError) as error:
+        # `str.encode` and `bytes.decode` put the words after some about the codec.
+        return type(error), str(error).rpartition(": ")[2].rstrip(")")
+
+
+def size(text):
+    """Return what tells the kinds of equal texts apart, or nothing for what is not a text.
+
+    It is not the size of the text itself: since Python 3.12 those of one character have UTF-8 too.
+    """
+    return sys.getsizeof(text * 2) if isinstance(text, str) else None
+
+
+class Comparison(unittest.TestCase):
+    """Compares decoding and encoding in a byte order with CPython: results, kinds and errors."""
+
+    outcome = staticmethod(outcome)
+
+    def assert_same(self, call, expected, *shown):
+        """Compare what two calls return or raise, and which kind of str."""
+        found, wanted = self.outcome(call), self.outcome(expected)
+        self.assertEqual((found, size(found)), (wanted, size(wanted)), shown)
+
+    def assert_decoded(self, data, order, errors="strict", raw=None):
+        """Decode to a str, also as a codec does, and to UTF-8. Data that is not bytes has these."""
+        codec, raw = CODECS[order], data if raw is None else raw
+        name, handler = codec.replace("-", "_") + "_decode", "strict" if errors is None else errors
+        shown, decode = (raw[:99], order, errors), lambda: raw.decode(codec, handler)
+        self.assert_same(lambda: dethrux.decode(data, order, errors), decode, *shown)
+        self.assert_same(lambda: raw.decode(f"dethrux-{codec}", handler), decode, *shown)
+        to_utf8 = lambda: decode().encode("utf-8", handler)
+        self.assert_same(lambda: dethrux.decode_to_utf8(data, order, errors), to_utf8, *shown)
+        for final in (False, True):
+            call, expected = getattr(_native, name), getattr(codecs, name)
+            self.assert_same(
+                lambda: call(data, errors, final), lambda: expected(raw, errors, final), *shown
+            )
+
+    def assert_encoded(self, text, order, errors="strict"):
+        """Encode a str, also as a codec does."""
+        codec = CODECS[order]
+        name, handler = codec.replace("-", "_") + "_encode", "strict" if errors is None else errors
+        shown, encode = (text[:99], order, errors), lambda: text.encode(codec, handler)
+        self.assert_same(lambda: dethrux.encode(text, order, errors), encode, *shown)
+        self.assert_same(lambda: text.encode(f"dethrux-{codec}", handler), encode, *shown)
+        call, expected = getattr(_native, name), getattr(codecs, name)
+        self.assert_same(lambda: call(text, errors), lambda: expected(text, errors), *shown)
+
+    def assert_from_utf8(self, utf8, order, errors="strict"):
+        """Encode UTF-8."""
+        self.assert_same(
+            lambda: dethrux.encode_from_utf8(utf8, order, errors),
+            lambda: utf8.decode("utf-8", errors).encode(CODECS[order], errors),
+            utf8,
+            order,
+            errors,
+        )
+
+    def assert_both_ways(self, text):
+        """Encode and decode a text in both byte orders, also with a BOM."""
+        for order, codec in CODECS.items():
+            self.assert_encoded(text, order)
+            self.assert_decoded(text.encode(codec), order)
+            raw = ("\ufeff" + text).encode(codec)
+            self.assertEqual(_native.utf_16_decode_all(raw), (text, len(raw)))
 
 
 class Bytes(bytes):

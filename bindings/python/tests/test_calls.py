@@ -11,8 +11,8 @@ import unittest
 import dethrux
 from dethrux import BomStatus, Status, _codecs, _native
 from expected import CODECS, IN_PIECES, LARGEST, NOT_BUFFERS, ORDERS, READABLE, REPLACEMENT
-from expected import REQUIRED, UNWRITABLE, UTF8, WRITABLE, Index, items, mapped, peak, progress
-from expected import utf16, values_of, with_parameter, without_memory
+from expected import REQUIRED, UNWRITABLE, UTF8, WRITABLE, Index, items, mapped, outcome, peak
+from expected import progress, utf16, values_of, with_parameter, without_memory
 
 DECODERS = (dethrux.Decoder, dethrux.Encoder)
 STRICT = (dethrux.StrictDecoder, dethrux.StrictEncoder)
@@ -71,61 +71,11 @@ OFFSETS_OF_FILES = [
 ]
 
 
-def each_utf16():
-    """Return each byte order, each sample and CPython's codec."""
-    return [(order, raw, codec) for order, codec in CODECS.items() for raw in utf16(order)]
-
-
-# Error handlers of CPython. ``None`` is not one, since ``bytes.decode`` takes only a ``str``.
-HANDLERS = ("strict", "replace", "ignore", "backslashreplace", "surrogatepass", "surrogateescape")
-
-
-def outcome(call, *arguments):
-    """Return what a call returns, or the exception with all that it says."""
-    try:
-        return call(*arguments)
-    except UnicodeError as error:
-        return type(error), error.args
-
-
 class Functions(unittest.TestCase):
-    """The results, compared with CPython's codecs for each sample in both byte orders."""
-
-    def check_errors(self, call, data, order, expected):
-        """Compare with CPython, with its error handlers and without one."""
-        for errors in HANDLERS:
-            found = outcome(call, data, order, errors)
-            self.assertEqual(found, outcome(expected, errors), (call, data, order, errors))
-        self.assertEqual(outcome(call, data, order), outcome(expected, "strict"))
-
-    def check_decoding(self, raw, order, codec):
-        """Compare with CPython, to a str and to UTF-8."""
-        self.check_errors(dethrux.decode, raw, order, lambda it: raw.decode(codec, it))
-        self.check_errors(
-            dethrux.decode_to_utf8, raw, order, lambda it: raw.decode(codec, it).encode("utf-8", it)
-        )
-
-    def test_decode_and_encode(self):
-        for order, raw, codec in each_utf16():
-            self.check_decoding(raw, order, codec)
-        among = ("", "a" * 9, "\u4e00", "\U0001f600")
-        wrong = ("", "\ud800", "\udc00", "\ud83d\ude00", "\udfff\ud800", "\udbff")
-        texts = ["\ufeffa\x80\u0800\U0010ffff"]
-        texts += map("".join, itertools.product(among, wrong, among))
-        for order, codec in CODECS.items():
-            for text in texts:
-                self.check_errors(dethrux.encode, text, order, lambda it: text.encode(codec, it))
-                self.check_decoding(text.encode(codec, "surrogatepass"), order, codec)
-            for utf8 in UTF8:
-                self.check_errors(
-                    dethrux.encode_from_utf8,
-                    utf8,
-                    order,
-                    lambda it: utf8.decode("utf-8", it).encode(codec, it),
-                )
+    """Results that no table has."""
 
     def test_offsets_after_the_end(self):
-        for order, raw, _codec in each_utf16():
+        for order, raw in ((order, raw) for order in ORDERS for raw in utf16(order)):
             past = len(raw) + 1, 2 * len(raw) + 2, 2**63, LARGEST, 2**64, 2**64 + 2, 10**30
             for at in past:
                 self.assertIs(dethrux.is_char_boundary(raw, order, at), False, at)

@@ -8,7 +8,8 @@ import tempfile
 import unittest
 
 import dethrux._codecs
-from expected import CODECS, Index, in_threads, spread, without_memory
+from expected import CODECS, UTF8, Comparison, Index, in_threads, outcome, spread, utf16
+from expected import without_memory
 
 NAMES = ("utf-16-le", "utf-16-be", "utf-16")
 UNITS = (0x41, 0xE9, 0x4E00, 0xD83D, 0xDE00, 0xFEFF, 0xFFFE)
@@ -59,19 +60,6 @@ HANDLERS = (
 )
 
 
-def outcome(call, *arguments):
-    """What a call returns, or the exception with all that it says."""
-    try:
-        return call(*arguments)
-    except UnicodeError as error:
-        if "does not start with BOM" in str(error):
-            # The class and the words depend on the version of CPython.
-            return "no BOM"
-        return type(error), error.args
-    except (TypeError, IndexError, LookupError) as error:
-        return type(error), str(error)
-
-
 def utf16_of(text, order):
     """Return the code units of a text, of which each surrogate is one."""
     units = ((ord(char),) if ord(char) < 0x10000 else pair_of(ord(char)) for char in text)
@@ -83,48 +71,62 @@ def pair_of(number):
     return 0xD800 + (number - 0x10000 >> 10), 0xDC00 + (number & 0x3FF)
 
 
-class Functions(unittest.TestCase):
-    """The functions of ``codecs``, compared with CPython's."""
+class Functions(Comparison):
+    """The functions, compared with CPython's."""
 
-    def assert_same(self, name, *arguments):
-        found = outcome(getattr(dethrux._codecs, name), *arguments)
-        expected = outcome(getattr(codecs, name), *arguments)
-        self.assertEqual(found, expected, (name, *arguments))
+    def assert_like(self, name, *arguments):
+        """Compare a function of ``codecs``."""
+        own, other = getattr(dethrux._codecs, name), getattr(codecs, name)
+        self.assert_same(lambda: own(*arguments), lambda: other(*arguments), name, *arguments)
 
     def test_decode(self):
         for length, odd in itertools.product(range(4), (b"", b"\xd8")):
             among = LIMITS if length == 2 else UNITS
             for units in (*itertools.product(among, repeat=length), UNITS[3:5]):
-                little = b"".join(unit.to_bytes(2, "little") for unit in units) + odd
-                big = b"".join(unit.to_bytes(2, "big") for unit in units) + odd
-                for errors, final in itertools.product(HANDLERS, (False, True)):
-                    self.assert_same("utf_16_le_decode", little, errors, final)
-                    self.assert_same("utf_16_be_decode", big, errors, final)
-                for raw, errors in itertools.product((little, big), ("replace", None)):
+                raws = {it: b"".join(one.to_bytes(2, it) for one in units) + odd for it in CODECS}
+                for (order, raw), errors in itertools.product(raws.items(), HANDLERS):
+                    self.assert_decoded(raw, order, errors)
+                for raw, errors in itertools.product(raws.values(), ("replace", None)):
                     for final in (False, True):
-                        self.assert_same("utf_16_decode", raw, errors, final)
+                        self.assert_like("utf_16_decode", raw, errors, final)
                         for order in (-1, 0, 1, True):
-                            self.assert_same("utf_16_ex_decode", raw, errors, order, final)
+                            self.assert_like("utf_16_ex_decode", raw, errors, order, final)
+
+    def test_samples(self):
+        for order, errors in itertools.product(CODECS, HANDLERS):
+            for raw in utf16(order):
+                self.assert_decoded(raw, order, errors)
+            for utf8 in UTF8 if errors is not None else ():
+                self.assert_from_utf8(utf8, order, errors)
 
     def test_defaults(self):
         for name in ("le_decode", "be_decode", "decode", "ex_decode"):
             for raw in (b"a\0", b"a\0\x3d\xd8", b"\xfe\xff\0a\xd8", b"\xdc\xdc"):
-                self.assert_same(f"utf_16_{name}", raw)
-                self.assert_same(f"utf_16_{name}", raw, "replace")
+                self.assert_like(f"utf_16_{name}", raw)
+                self.assert_like(f"utf_16_{name}", raw, "replace")
         for name in ("le_encode", "be_encode", "encode"):
             for text in ("", "a", "\ud800"):
-                self.assert_same(f"utf_16_{name}", text)
+                self.assert_like(f"utf_16_{name}", text)
+        for order, codec in CODECS.items():
+            raw = "a\udc00".encode(codec, "surrogatepass")
+            for call, given in (
+                (dethrux.decode, raw),
+                (dethrux.decode_to_utf8, raw),
+                (dethrux.encode, "a\udc00"),
+                (dethrux.encode_from_utf8, b"a\xff"),
+            ):
+                self.assert_same(lambda: call(given, order), lambda: call(given, order, "strict"))
 
     def test_encode(self):
         chars = "A\xe9\u4e00\U0001f600\ud83d\ude00"
         for length in range(4):
             for text in map("".join, itertools.product(chars, repeat=length)):
                 for errors in HANDLERS:
-                    self.assert_same("utf_16_le_encode", text, errors)
-                    self.assert_same("utf_16_be_encode", text, errors)
-                    self.assert_same("utf_16_encode", text, errors)
+                    for order in CODECS:
+                        self.assert_encoded(text, order, errors)
+                    self.assert_like("utf_16_encode", text, errors)
                 for order in (-2, -1, 0, 1, 2):
-                    self.assert_same("utf_16_encode", text, "surrogatepass", order)
+                    self.assert_like("utf_16_encode", text, "surrogatepass", order)
 
     def test_wrong_types(self):
         for wrong in (5, None, [1], "a"):
@@ -145,9 +147,9 @@ class Functions(unittest.TestCase):
         codecs.register_error("dethrux.test.longer", longer)
         for final in (False, True):
             raw = b"a\0\x00\xdcb\0\x3d"
-            self.assert_same("utf_16_le_decode", raw, "dethrux.test.longer", final)
+            self.assert_like("utf_16_le_decode", raw, "dethrux.test.longer", final)
             raw = b"\0a\xdc\x00\0b\x3d"
-            self.assert_same("utf_16_be_decode", raw, "dethrux.test.longer", final)
+            self.assert_like("utf_16_be_decode", raw, "dethrux.test.longer", final)
 
     def test_one_exception_for_all_errors(self):
         for name, wrong in (("decode", b"\x00\xdca\0\x00\xd8a\0"), ("encode", "\ud800a\udc00")):
@@ -159,7 +161,7 @@ class Functions(unittest.TestCase):
                     return errors(error)
 
                 codecs.register_error("dethrux.test.seen", handler)
-                self.assert_same(f"utf_16_le_{name}", wrong, "dethrux.test.seen")
+                self.assert_like(f"utf_16_le_{name}", wrong, "dethrux.test.seen")
                 own, other = ([each[1:] for each in seen[at : at + 2]] for at in (0, 2))
                 self.assertEqual((len(seen), own), (4, other))
                 self.assertIs(seen[0][0], seen[1][0])
@@ -167,97 +169,44 @@ class Functions(unittest.TestCase):
     def test_a_handler_under_the_name_replace(self):
         codecs.register_error("replace", lambda error: ("!", error.end))
         self.addCleanup(codecs.register_error, "replace", codecs.replace_errors)
-        self.assert_same("utf_16_le_decode", b"\x00\xdcb\0", "replace", True)
-
-    def test_long(self):
-        for text in ("a" * 70000, "a\xe9" * 70000, "\u4e00\U0001f600" * 70000):
-            for name in NAMES:
-                raw = text.encode(name)
-                self.assertEqual(text.encode(f"dethrux-{name}"), raw)
-                self.assertEqual(raw.decode(f"dethrux-{name}"), text)
-                wrong = raw + b"\xd8\xd8" + raw
-                for errors in ("replace", "backslashreplace"):
-                    decoded = wrong.decode(f"dethrux-{name}", errors)
-                    self.assertEqual(decoded, wrong.decode(name, errors))
+        self.assert_like("utf_16_le_decode", b"\x00\xdcb\0", "replace", True)
 
 
-class Handlers(unittest.TestCase):
-    """Names of handlers that are odd, and buffers that a handler changes."""
-
-    NAMES = ("ignore\0x", "\0", "\ud800", "\xe4", "\xe4\0", 5, 1.5, b"ignore", ["ignore"], "", "no")
+class Names(Comparison):
+    """Names of handlers that are odd: which class an exception has."""
 
     @staticmethod
-    def kind(call):
+    def outcome(call):
         """Return the result of a call, or the class of its exception."""
         try:
             return call()
         except Exception as error:
             return type(error)
 
-    def assert_same_kinds(self, shown, *pairs):
-        for found, expected in pairs:
-            self.assertEqual(self.kind(found), self.kind(expected), shown)
-
-    def assert_decoded(self, data, order, errors, raw=None):
-        """Compare with CPython, to a str and to UTF-8. Data that is not bytes has these bytes."""
-        codec, raw = CODECS[order], data if raw is None else raw
-        found = outcome(dethrux.decode, data, order, errors)
-        self.assertEqual(found, outcome(raw.decode, codec, errors))
-        found = outcome(dethrux.decode_to_utf8, data, order, errors)
-        self.assertEqual(found, outcome(lambda: raw.decode(codec, errors).encode("utf-8", errors)))
-
     def test_odd_names(self):
         """They are refused also for well-formed input, but not if they are just unknown."""
-        raws = b"", b"a\0", b"a\0\0\xdc", b"a\0\0\xd8", b"a"
-        texts = "", "a", "a\udc00", "\u4e00", "\U0001f600"
-        utf8s = b"", b"a", b"\xff", b"a\xed\xb0\x80"
-        own = dethrux._codecs
-        for name, (order, codec) in itertools.product(self.NAMES, CODECS.items()):
-            short = codec.replace("-", "_")
-            functions = f"{short}_decode", f"{short}_encode"
-            decode, encode = ((getattr(own, it), getattr(codecs, it)) for it in functions)
-            for raw in raws:
-                text_of = lambda: raw.decode(codec, name)
-                self.assert_same_kinds(
-                    (name, raw),
-                    (lambda: decode[0](raw, name, True), lambda: decode[1](raw, name, True)),
-                    (lambda: dethrux.decode(raw, order, name), text_of),
-                    (lambda: raw.decode(f"dethrux-{codec}", name), text_of),
-                    (
-                        lambda: dethrux.decode_to_utf8(raw, order, name),
-                        lambda: text_of().encode("utf-8", name),
-                    ),
-                )
-            for text in texts:
-                raw_of = lambda: text.encode(codec, name)
-                self.assert_same_kinds(
-                    (name, text),
-                    (lambda: encode[0](text, name), lambda: encode[1](text, name)),
-                    (lambda: dethrux.encode(text, order, name), raw_of),
-                    (lambda: text.encode(f"dethrux-{codec}", name), raw_of),
-                    (
-                        lambda: text.encode("dethrux-utf-16", name),
-                        lambda: text.encode("utf-16", name),
-                    ),
-                )
-            for utf8 in utf8s:
-                self.assert_same_kinds(
-                    (name, utf8),
-                    (
-                        lambda: dethrux.encode_from_utf8(utf8, order, name),
-                        lambda: utf8.decode("utf-8", name).encode(codec, name),
-                    ),
-                )
+        names = "ignore\0x", "\0", "\ud800", "\xe4", "\xe4\0", 5, 1.5, b"ignore", ["ignore"], "", "no"
+        for name, order in itertools.product(names, CODECS):
+            for raw in (b"", b"a\0", b"a\0\0\xdc", b"a\0\0\xd8", b"a"):
+                self.assert_decoded(raw, order, name)
+            for text in ("", "a", "a\udc00", "\u4e00", "\U0001f600"):
+                self.assert_encoded(text, order, name)
+                with_bom = [lambda it=it: text.encode(it, name) for it in ("dethrux-utf-16", "utf-16")]
+                self.assert_same(*with_bom)
+            for utf8 in (b"", b"a", b"\xff", b"a\xed\xb0\x80"):
+                self.assert_from_utf8(utf8, order, name)
+
+
+class Handlers(Comparison):
+    """Handlers under any names, and buffers that a handler changes."""
 
     def test_a_name_that_is_not_ascii(self):
         codecs.register_error("\xe4", lambda error: ("?", error.end))
         self.addCleanup(codecs.register_error, "\xe4", codecs.strict_errors)
         for order, codec in CODECS.items():
-            raw = "a\udc00".encode(codec, "surrogatepass")
-            self.assertEqual(dethrux.decode(raw, order, "\xe4"), "a?")
-            self.assertEqual(dethrux.decode_to_utf8(raw, order, "\xe4"), b"a?")
-            self.assertEqual(dethrux.encode("a\udc00", order, "\xe4"), "a?".encode(codec))
-            self.assertEqual(dethrux.encode_from_utf8(b"a\xff", order, "\xe4"), "a?".encode(codec))
+            self.assert_decoded("a\udc00".encode(codec, "surrogatepass"), order, "\xe4")
+            self.assert_encoded("a\udc00", order, "\xe4")
+            self.assert_from_utf8(b"a\xff", order, "\xe4")
 
     def test_handlers_of_cpython_under_other_names(self):
         """A handler is what is registered, whatever its name is."""
@@ -287,13 +236,9 @@ class Handlers(unittest.TestCase):
 
     def test_room_for_backslashes(self):
         """They take more bytes of UTF-8 than any code unit."""
-        for order, codec in CODECS.items():
-            for count, length in itertools.product((1, 2, 3, 40), range(40)):
-                raw = utf16_of("\udc00" * count + "\u4e00" * length, order)
-                expected = raw.decode(codec, "backslashreplace")
-                self.assertEqual(dethrux.decode(raw, order, "backslashreplace"), expected)
-                found = dethrux.decode_to_utf8(raw, order, "backslashreplace")
-                self.assertEqual(found, expected.encode())
+        for order, count, length in itertools.product(CODECS, (1, 2, 3, 40), range(40)):
+            raw = utf16_of("\udc00" * count + "\u4e00" * length, order)
+            self.assert_decoded(raw, order, "backslashreplace")
 
     def test_buffers(self):
         """A handler sees a copy of a buffer, and what it does to the buffer has no effect."""
@@ -375,28 +320,6 @@ class Streams(unittest.TestCase):
             # The byte order of the interrupted call is forgotten.
             self.assertEqual(decoder.decode("\ufeffb".encode("utf-16-be")), "b")
 
-    def test_every_chunking(self):
-        for name in NAMES:
-            raw = "a\ud83d\U0001f600\ude00".encode(name, "surrogatepass") + b"\x3d"
-            expected = codecs.getincrementaldecoder(name)("replace").decode(raw, True)
-            for at in range(len(raw) + 1):
-                decoder = codecs.getincrementaldecoder(f"dethrux-{name}")("replace")
-                text = decoder.decode(raw[:at])
-                resumed = codecs.getincrementaldecoder(f"dethrux-{name}")("replace")
-                resumed.setstate(decoder.getstate())
-                self.assertEqual(text + resumed.decode(raw[at:], True), expected)
-
-    def test_state(self):
-        for name in NAMES:
-            raw = "a\U0001f600".encode(name)
-            for at in range(len(raw) + 1):
-                states = []
-                for prefix in ("", "dethrux-"):
-                    decoder = codecs.getincrementaldecoder(prefix + name)()
-                    decoder.decode(raw[:at])
-                    states.append(decoder.getstate())
-                self.assertEqual(states[0], states[1])
-
     def run_both(self, name, make, steps):
         """Run the steps, each a method and its arguments, on an object of both codecs."""
         objects = [make(codecs.lookup(prefix + name)) for prefix in ("", "dethrux-")]
@@ -437,10 +360,27 @@ class Streams(unittest.TestCase):
             [("setstate", (b"", 2)), ("decode", b"\xff\xfea\0")],
         ]
         for stream, end in itertools.product(streams, ends):
-            steps = [each for step in stream + end for each in (step, ("getstate",))]
-            for name, errors in itertools.product(NAMES, ("strict", "replace", "surrogatepass")):
-                self.run_both(name, lambda info: info.incrementaldecoder(errors), steps)
-                self.run_both(name, lambda info: info.incrementaldecoder(), steps)
+            self.run_decoders(NAMES, stream + end)
+        for name in NAMES:
+            raw = "a\ud83d\U0001f600\ude00".encode(name, "surrogatepass") + b"\x3d"
+            for at in range(len(raw) + 1):
+                self.run_decoders([name], [("decode", raw[:at]), ("decode", raw[at:], True)])
+
+    def run_decoders(self, names, steps):
+        """Run the steps, with the state after each, and with each handler."""
+        steps = [each for step in steps for each in (step, ("getstate",))]
+        for name, errors in itertools.product(names, ("strict", "replace", "surrogatepass")):
+            self.run_both(name, lambda info: info.incrementaldecoder(errors), steps)
+            self.run_both(name, lambda info: info.incrementaldecoder(), steps)
+
+    def test_a_state_is_restored(self):
+        for name in NAMES:
+            raw = "a\U0001f600".encode(name)
+            for at in range(len(raw) + 1):
+                decoder, resumed = (codecs.getincrementaldecoder(f"dethrux-{name}")() for _ in "ab")
+                text = decoder.decode(raw[:at])
+                resumed.setstate(decoder.getstate())
+                self.assertEqual(text + resumed.decode(raw[at:], True), "a\U0001f600")
 
     def test_without_memory(self):
         """Each allocation of a call fails: nothing changes, and the next call does all of it."""

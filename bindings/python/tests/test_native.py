@@ -11,7 +11,6 @@ import itertools
 import os
 import pickle
 import platform
-import random
 import re
 import resource
 import shutil
@@ -28,9 +27,8 @@ from unittest import mock
 
 import dethrux
 from dethrux import _native, _types
-from expected import CODECS, ORDERS, TOP, in_threads, mapped, peak, values_of, without_memory
-from test_calls import outcome
-from test_codecs import outcome as outcome_or_class
+from expected import CODECS, ORDERS, TOP, Comparison, in_threads, mapped, outcome, peak, values_of
+from expected import without_memory
 
 # How many calls may not take memory: a million with DETHRUX_CALLS=1000000.
 CALLS = int(os.environ.get("DETHRUX_CALLS") or 200_000)
@@ -47,14 +45,6 @@ CHARS = {1: "a\0\x7f", 2: "\xe9\x80\xff", 3: "\u4e00\u0100\ud7ff\ue000\uffff\ufe
 CHARS[4] = "\U0001f600\U00010000\U0010ffff"
 LENGTHS = (*range(40), 63, 64, 65, 127, 128, 129, 341, 342, 511, 512, 513, 1024)
 LONG_LENGTHS = (BLOCK // 2 + 1, BLOCK + 1, LONG // 4 - 1, LONG // 2 - 1, LONG // 2, LONG + 1)
-
-
-def size(text):
-    """Return what tells the kinds of equal texts apart.
-
-    It is not the size of the text itself: since Python 3.12 those of one character have UTF-8 too.
-    """
-    return sys.getsizeof(text * 2)
 
 
 def texts():
@@ -98,41 +88,18 @@ def arguments(*given):
     return tuple(values_of(*given).values())
 
 
-class Texts(unittest.TestCase):
-    """Every kind of str in both byte orders, compared with CPython."""
+class Texts(Comparison):
+    """Every kind of str in both byte orders."""
 
     def test_each_kind(self):
         for text in texts():
+            self.assert_both_ways(text)
             for order, codec in CODECS.items():
                 raw = text.encode(codec)
-                self.assertEqual(dethrux.encode(text, order), raw)
-                found = dethrux.decode(raw, order)
-                self.assertEqual(found, text)
-                self.assertEqual(size(found), size(raw.decode(codec)))
-                name = codec.replace("-", "_")
-                self.assertEqual(C[f"{name}_encode"](text), (raw, len(text)))
-                self.assertEqual(C[f"{name}_decode"](raw), (text, len(raw)))
-                self.assertEqual(C[f"{name}_decode_all"](raw), (text, len(raw)))
-                self.assertEqual(C["utf_16_decode_all"]("\ufeff".encode(codec) + raw)[0], text)
+                self.assertEqual(C[f"{codec.replace('-', '_')}_decode_all"](raw), (text, len(raw)))
             self.assertEqual(C["utf_16_encode"](text), (text.encode("utf-16"), len(text)))
             native = text.encode(CODECS[sys.byteorder])
             self.assertEqual(C["utf_16_decode_all"](native), codecs.utf_16_decode(native))
-
-    def test_any_units(self):
-        chooser = random.Random(16)
-        kinds = (0x61, 0xE9, 0x4E00, 0xD83D, 0xDE00, 0xFFFD)
-        for _ in range(2000):
-            among = chooser.sample(kinds, chooser.randint(1, 4))
-            units = chooser.choices(among, k=chooser.choice((3, 20, 300)))
-            for order, codec in CODECS.items():
-                raw = b"".join(unit.to_bytes(2, order) for unit in units) + b"\xd8"
-                raw = raw[: len(raw) - chooser.randint(0, 1)]
-                errors = chooser.choice(("strict", "replace", "surrogatepass", "ignore"))
-                expected = outcome(raw.decode, codec, errors)
-                self.assertEqual(outcome(dethrux.decode, raw, order, errors), expected)
-                partial = getattr(codecs, codec.replace("-", "_") + "_decode")
-                found = C[codec.replace("-", "_") + "_decode"]
-                self.assertEqual(outcome(found, raw, errors), outcome(partial, raw, errors))
 
     def test_subclasses(self):
         class Text(str):
@@ -143,8 +110,8 @@ class Texts(unittest.TestCase):
         self.assertEqual(dethrux.decode(b"a\0", Text("little")), "a")
 
 
-class Blocks(unittest.TestCase):
-    """Texts that change where a block ends, compared with CPython."""
+class Blocks(Comparison):
+    """Texts that change where a block ends."""
 
     # The number of code units of a block, and lengths around one and two of them.
     UNITS = BLOCK // 2
@@ -152,57 +119,19 @@ class Blocks(unittest.TestCase):
     KINDS = ("a", "\xe9", "\u4e00", "\U0001f600")
     ERRORS = ("strict", "replace", "ignore", "backslashreplace", "surrogatepass")
 
-    def check_text(self, text):
-        """Decode and encode a text in both byte orders."""
-        for order, codec in CODECS.items():
-            raw = text.encode(codec)
-            found = dethrux.decode(raw, order)
-            self.assertEqual(found, text)
-            self.assertEqual(size(found), size(raw.decode(codec)))
-            self.assertEqual(dethrux.encode(text, order), raw)
-            self.assertEqual(dethrux.decode_to_utf8(raw, order), text.encode())
-            with_bom = "\ufeff".encode(codec) + raw
-            self.assertEqual(C["utf_16_decode_all"](with_bom), (text, len(with_bom)))
-
-    def check_bytes(self, raw, order, errors):
-        """Decode bytes that may be ill formed, to the end and up to an incomplete character."""
-        codec = CODECS[order]
-        expected, found = outcome(raw.decode, codec, errors), outcome(
-            dethrux.decode, raw, order, errors
-        )
-        self.assertEqual(found, expected)
-        if isinstance(found, str):
-            self.assertEqual(size(found), size(expected))
-        name = codec.replace("-", "_") + "_decode"
-        expected = outcome(getattr(codecs, name), raw, errors)
-        self.assertEqual(outcome(C[name], raw, errors), expected)
-        expected = outcome(lambda: raw.decode(codec, errors).encode("utf-8", errors))
-        self.assertEqual(outcome(dethrux.decode_to_utf8, raw, order, errors), expected)
-
-    def check_handler(self, raw, codec, errors):
-        """Decode with a handler that may resume outside of the input."""
-
-        def call(functions):
-            try:
-                return outcome(functions[codec.replace("-", "_") + "_decode"], raw, errors, True)
-            except IndexError as error:
-                return str(error)
-
-        self.assertEqual(call(C), call(vars(codecs)))
-
     def test_a_wider_character(self):
         """The first one is at each place around a border, and the last one or not."""
         for first, second in itertools.product(self.KINDS, repeat=2):
             for length, more in itertools.product(self.LENGTHS, (1, 2, self.UNITS)):
                 count = length // len(first.encode("utf-16-le")) * 2
-                self.check_text(first * count + second * more)
-                self.check_text(first * (count - 1) + "b" + second * more)
+                self.assert_both_ways(first * count + second * more)
+                self.assert_both_ways(first * (count - 1) + "b" + second * more)
 
     def test_each_order_of_kinds(self):
         for kinds in itertools.permutations(self.KINDS):
             for length in self.LENGTHS:
-                self.check_text("".join(kind * length for kind in kinds))
-                self.check_text("".join(kind * length + "a" for kind in kinds))
+                self.assert_both_ways("".join(kind * length for kind in kinds))
+                self.assert_both_ways("".join(kind * length + "a" for kind in kinds))
 
     def test_errors_at_a_border(self):
         """A surrogate that is not in a pair, and a pair, begin at each place around a border."""
@@ -213,9 +142,9 @@ class Blocks(unittest.TestCase):
                 for order, codec in CODECS.items():
                     raw = text.encode(codec, "surrogatepass")
                     for errors in self.ERRORS:
-                        self.check_bytes(raw, order, errors)
-                    self.check_bytes(raw + b"\xd8", order, "replace")
-                    self.check_bytes(raw[:-1], order, "ignore")
+                        self.assert_decoded(raw, order, errors)
+                    self.assert_decoded(raw + b"\xd8", order, "replace")
+                    self.assert_decoded(raw[:-1], order, "ignore")
 
     def test_errors_among_pairs(self):
         """The characters that are left are counted, but not all that replaces an error."""
@@ -224,7 +153,7 @@ class Blocks(unittest.TestCase):
             for order, codec in CODECS.items():
                 raw = text.encode(codec, "surrogatepass")
                 for errors in self.ERRORS:
-                    self.check_bytes(raw, order, errors)
+                    self.assert_decoded(raw, order, errors)
 
     def test_many_errors(self):
         """Eight times the errors take less than 32 times as long: a copy for each takes 64."""
@@ -239,22 +168,21 @@ class Blocks(unittest.TestCase):
                 taken.append(time.process_time() - before)
                 self.assertEqual(found, ("a" + answer) * count)
             self.assertLess(taken[1], 32 * taken[0] + 0.1)
-            self.check_bytes(raw * 16, order, "backslashreplace")
+            self.assert_decoded(raw * 16, order, "backslashreplace")
 
     def test_surrogates_at_a_border(self):
         """Two of them are not a pair in a str, also if a block ends between them."""
+        handlers = "strict", "ignore", "surrogatepass"
         for length, char in itertools.product(self.LENGTHS, "a\u4e00"):
             for wrong in ("\ud83d\ude00", "\ud83d", "\ude00"):
                 for text in (char * length + wrong, char * length + wrong + "\u4e00" * length):
-                    for order, codec in CODECS.items():
-                        for errors in ("strict", "ignore", "surrogatepass"):
-                            expected = outcome(text.encode, codec, errors)
-                            self.assertEqual(outcome(dethrux.encode, text, order, errors), expected)
+                    for order, errors in itertools.product(CODECS, handlers):
+                        self.assert_encoded(text, order, errors)
 
     def test_a_handler_that_jumps(self):
         """Once it resumes before or after the error, in another block, and at odd offsets."""
         text = "a" * self.UNITS + "\udc00" + "\u4e00" * self.UNITS + "\ud800" + "\U0001f600" * 9
-        for codec in CODECS.values():
+        for order, codec in CODECS.items():
             raw = text.encode(codec, "surrogatepass")
             for place in (0, 1, 2, BLOCK - 1, BLOCK, BLOCK + 1, BLOCK + 2, BLOCK + 3, 2 * BLOCK):
                 for at in (place, place - len(raw), len(raw), -1, len(raw) + 1, -len(raw) - 1):
@@ -267,10 +195,10 @@ class Blocks(unittest.TestCase):
                             return answer, at if is_first else error.end
 
                         codecs.register_error("dethrux.test.jump", jump)
-                        self.check_handler(raw, codec, "dethrux.test.jump")
+                        self.assert_decoded(raw, order, "dethrux.test.jump")
 
     def test_a_handler_that_changes_the_input(self):
-        for codec in CODECS.values():
+        for order, codec in CODECS.items():
             raw = ("a" * self.UNITS + "\udc00").encode(codec, "surrogatepass")
             for other in (b"", b"a", raw + b"\0" * BLOCK, ("\u4e00" * BLOCK).encode(codec)):
                 for at in (0, 1, len(raw), -1):
@@ -280,7 +208,7 @@ class Blocks(unittest.TestCase):
                         return "\xe9", at if first else error.end
 
                     codecs.register_error("dethrux.test.other", change)
-                    self.check_handler(raw, codec, "dethrux.test.other")
+                    self.assert_decoded(raw, order, "dethrux.test.other")
 
 
 class Functions(unittest.TestCase):
@@ -405,8 +333,8 @@ class Functions(unittest.TestCase):
             self.assertEqual(C[name](*arguments(name), "not known"), C[name](*arguments(name)))
             wrong = arguments(name, b"a\0\0\xdc", "a\udc00", b"a\xff")
             for errors in ("replace", "surrogatepass", "not known", "strict"):
-                expected = outcome_or_class(C[name], *wrong, errors)
-                self.assertEqual(outcome_or_class(C[name], *wrong, Name(errors)), expected)
+                expected = outcome(C[name], *wrong, errors)
+                self.assertEqual(outcome(C[name], *wrong, Name(errors)), expected)
 
     def test_the_numbers_of_small_buffers(self):
         """Around the capacity that goes through the stack."""
