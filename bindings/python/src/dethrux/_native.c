@@ -88,6 +88,15 @@
       "Return the UTF-16 of UTF-8: ``encode(str(utf8, \"utf-8\", errors), byteorder, errors)``." \
       "\n\nA ``str`` is made only of ill-formed input, and not with ``replace``.")
 
+/* Those of a codec for a byte order. */
+#define CODEC_FUNCTIONS(X, name, encoding) \
+    X(name##_decode, "input, errors=None, final=False", \
+      "Decode " encoding "; return the text and how many bytes were read.\n\n" \
+      "Unless it is final, an incomplete character at the end is not read.") \
+    X(name##_decode_all, "input, errors='strict'", "Decode " encoding " to its end.") \
+    X(name##_encode, "input, errors=None", \
+      "Encode to " encoding "; return the bytes and the length of the text.")
+
 /* Those that only the package calls. */
 #define EACH_HELPER(X) \
     X(next_error, "utf16, byteorder, at", \
@@ -99,23 +108,13 @@
       "Encode the next chunk of a stream of UTF-8.") \
     X(finish_decoder, "state, order", "End a stream of UTF-16.") \
     X(finish_encoder, "state, order", "End a stream of UTF-8.") \
-    X(utf_16_le_decode, "input, errors=None, final=False", \
-      "Decode UTF-16LE; return the text and how many bytes were read.\n\n" \
-      "Unless it is final, an incomplete character at the end is not read.") \
-    X(utf_16_be_decode, "input, errors=None, final=False", \
-      "Decode UTF-16BE; return the text and how many bytes were read.\n\n" \
-      "Unless it is final, an incomplete character at the end is not read.") \
+    CODEC_FUNCTIONS(X, utf_16_le, "UTF-16LE") \
+    CODEC_FUNCTIONS(X, utf_16_be, "UTF-16BE") \
     X(utf_16_ex_decode, "input, errors=None, byteorder=0, final=False", \
       "Decode UTF-16; return the text, how many bytes were read, and the byte order.\n\n" \
       "-1 is little endian, 1 is big endian. 0 leaves it to the BOM, and is\n" \
       "returned if there is none: in that case the byte order is the machine's.") \
-    X(utf_16_le_decode_all, "input, errors='strict'", "Decode UTF-16LE to its end.") \
-    X(utf_16_be_decode_all, "input, errors='strict'", "Decode UTF-16BE to its end.") \
     X(utf_16_decode_all, "input, errors='strict'", "Decode UTF-16 to its end.") \
-    X(utf_16_le_encode, "input, errors=None", \
-      "Encode to UTF-16LE; return the bytes and the length of the text.") \
-    X(utf_16_be_encode, "input, errors=None", \
-      "Encode to UTF-16BE; return the bytes and the length of the text.") \
     X(utf_16_encode, "input, errors=None, byteorder=0", \
       "Encode to UTF-16; return the bytes and the length of the text.\n\n" \
       "-1 is little endian, 1 is big endian. 0 is the machine's byte order, after a BOM.")
@@ -268,13 +267,15 @@ static bool take_members(PyObject *module, const char *name, PyObject **found) {
     return *found;
 }
 
-/* Keeps the error handlers of CPython that need no exception. Returns whether it did. */
+/* Keeps the error handlers of CPython that need no exception, and its encoder. Returns whether it
+ * did. */
 static bool find_handlers(native *it) {
     PyObject *codecs = PyImport_ImportModule("codecs");
     bool is_found = codecs && take(codecs, "lookup_error", &it->lookup_error)
         && take(codecs, "replace_errors", &it->replace_errors)
         && take(codecs, "ignore_errors", &it->ignore_errors)
-        && take(codecs, "backslashreplace_errors", &it->backslashreplace_errors);
+        && take(codecs, "backslashreplace_errors", &it->backslashreplace_errors)
+        && take(codecs, "utf_16_encode", &it->utf_16_encode);
     Py_XDECREF(codecs);
     /* The module has no name for this one, and a program may have registered another. */
     PyObject *function = is_found ? PyCodec_LookupError("surrogatepass") : NULL;
@@ -335,7 +336,7 @@ static int fill(PyObject *module) {
     X(validity) X(progress) X(bom) X(ill_formed) X(inspection) X(progress_into) X(statuses) \
     X(bom_statuses) X(repertoires) X(little) X(big) X(strict) \
     X(lookup_error) X(replace_errors) X(ignore_errors) X(backslashreplace_errors) \
-    X(surrogatepass_errors)
+    X(surrogatepass_errors) X(utf_16_encode)
 
 #define VISIT(name) Py_VISIT(it->name);
 static int traverse(PyObject *module, visitproc visit, void *arg) {

@@ -46,6 +46,7 @@ typedef struct {
     PyObject *ignore_errors;
     PyObject *backslashreplace_errors;
     PyObject *surrogatepass_errors; /* NULL if a program has put another one there. */
+    PyObject *utf_16_encode;        /* `codecs.utf_16_encode`. */
 } native;
 
 /* The arguments of a function, in the order of its parameters. NULL is one that was not given. */

@@ -3,8 +3,9 @@
 /*
  * UTF-16 to and from `str`, with the error handlers of `codecs`.
  *
- * A `str` is made by its kind and filled by the library, and encoded from its kind. For ill-formed
- * input a result is made of parts, and the exception and its handler are used as CPython uses them.
+ * A `str` is made by its kind and filled by the library, and encoded from its kind. The handlers of
+ * CPython that need no exception have their results here. What raises one or calls another handler
+ * is left to CPython's own codec, which takes the whole input again.
  */
 #ifndef DETHRUX_NATIVE_TEXT_H
 #define DETHRUX_NATIVE_TEXT_H
@@ -13,25 +14,15 @@
 
 /* Error handlers. */
 
-/* The error handler of a call, with the exception that it is given. */
-typedef struct {
-    PyObject *function;
-    PyObject *exception;
-} handler;
-
-/* Drops a handler and its exception. */
-static void drop(handler *errors) {
-    Py_XDECREF(errors->function);
-    Py_XDECREF(errors->exception);
+/* Returns the handler of a name, or raises an exception if there is none. */
+static PyObject *handler_of(const native *it, PyObject *name) {
+    PyObject *word = name && name != Py_None ? name : it->strict;
+    return PyObject_CallFunctionObjArgs(it->lookup_error, word, NULL);
 }
 
-/* Finds the handler of a name, if it was not found yet. Returns whether there is one. */
-static bool find_handler(const native *it, handler *errors, PyObject *name) {
-    if (!errors->function) {
-        PyObject *word = name && name != Py_None ? name : it->strict;
-        errors->function = PyObject_CallFunctionObjArgs(it->lookup_error, word, NULL);
-    }
-    return errors->function;
+/* Returns the name of a handler for CPython. `is_name` has made its UTF-8. */
+static const char *utf8_of(PyObject *name) {
+    return name && name != Py_None ? PyUnicode_AsUTF8(name) : NULL;
 }
 
 /* Returns whether something can be the name of a handler, known or not. Otherwise it raises what
@@ -53,65 +44,6 @@ static bool is_name(const native *it, PyObject *name) {
         return true;
     }
     return function;
-}
-
-/* Makes the exception, or sets the next place of the one that is there. Returns whether it did. */
-static bool prepare(handler *errors, bool is_decoding, const char *encoding, PyObject *object,
-                    size_t start, size_t end, const char *reason) {
-    Py_ssize_t from = (Py_ssize_t) start, to = (Py_ssize_t) end;
-    if (!errors->exception) {
-        PyObject *type = is_decoding ? PyExc_UnicodeDecodeError : PyExc_UnicodeEncodeError;
-        errors->exception =
-            PyObject_CallFunction(type, "sOnns", encoding, object, from, to, reason);
-        return errors->exception;
-    }
-    PyObject *exception = errors->exception;
-    if (is_decoding) {
-        return PyUnicodeDecodeError_SetStart(exception, from) == 0
-            && PyUnicodeDecodeError_SetEnd(exception, to) == 0
-            && PyUnicodeDecodeError_SetReason(exception, reason) == 0;
-    }
-    return PyUnicodeEncodeError_SetStart(exception, from) == 0
-        && PyUnicodeEncodeError_SetEnd(exception, to) == 0
-        && PyUnicodeEncodeError_SetReason(exception, reason) == 0;
-}
-
-/* Returns what the handler has instead of the input at fault, and sets where it resumes. */
-static PyObject *replacement(handler *errors, bool is_decoding, Py_ssize_t *position) {
-    const char *format = is_decoding
-        ? "On;decoding error handler must return (str, int) tuple"
-        : "On;encoding error handler must return (str/bytes, int) tuple";
-    PyObject *result = PyObject_CallFunctionObjArgs(errors->function, errors->exception, NULL);
-    PyObject *found = NULL;
-    if (!result) {
-        return NULL;
-    }
-    bool is_right = PyTuple_Check(result);
-    if (is_right && !PyArg_ParseTuple(result, format, &found, position)) {
-        Py_DECREF(result);
-        return NULL;
-    }
-    is_right = is_right && (PyUnicode_Check(found) || (!is_decoding && PyBytes_Check(found)));
-    if (is_right) {
-        Py_INCREF(found);
-    } else {
-        PyErr_SetString(PyExc_TypeError, format + strlen("On;"));
-        found = NULL;
-    }
-    Py_DECREF(result);
-    return found;
-}
-
-/* Turns a position of a handler into an offset; a negative one counts from the end. Returns whether
- * it is in the input. */
-static bool resume_at(Py_ssize_t position, size_t len, size_t *at) {
-    Py_ssize_t offset = position < 0 ? position + (Py_ssize_t) len : position;
-    if (offset < 0 || (size_t) offset > len) {
-        PyErr_Format(PyExc_IndexError, "position %zd from error handler out of bounds", offset);
-        return false;
-    }
-    *at = (size_t) offset;
-    return true;
 }
 
 /* Gives a text its kind, which one of an old call may lack before CPython 3.12. Returns whether it
@@ -305,22 +237,6 @@ static bool write_text(decoding *from, PyObject *text) {
     return is_written;
 }
 
-/* Makes the exception for what follows the bytes before `at`. Returns whether it did. */
-static bool prepare_decoding(handler *errors, dethrux_byte_order order, PyObject *object, size_t at,
-                             dethrux_status status) {
-    const uint8_t *utf16 = (const uint8_t *) PyBytes_AS_STRING(object);
-    size_t len = (size_t) PyBytes_GET_SIZE(object), end = at + 2;
-    const char *reason = "illegal UTF-16 surrogate";
-    if (status == DETHRUX_INCOMPLETE) {
-        end = len;
-        reason = len - at == 1 ? "truncated data" : "unexpected end of data";
-    } else if ((utf16[at + (order == DETHRUX_LITTLE_ENDIAN)] & 0xFC) == 0xDC) {
-        reason = "illegal encoding";
-    }
-    const char *encoding = order == DETHRUX_BIG_ENDIAN ? "utf-16-be" : "utf-16-le";
-    return prepare(errors, true, encoding, object, at, end, reason);
-}
-
 /* What an error handler has for an error, and how many bytes it reads. */
 typedef struct {
     uint8_t utf8[12]; /* A surrogate has three bytes, as CPython writes it with `surrogatepass`. */
@@ -368,16 +284,6 @@ static bool is_known(const native *it, PyObject *function, dethrux_byte_order or
  * which is slower for a few of them and faster for many. */
 #define FEW 16
 
-/* What the errors of a text need. */
-typedef struct {
-    PyObject *name; /* The name of the handler, NULL or None. */
-    handler errors;
-    PyObject *object;  /* The bytes object of the exception, which a handler may change. */
-    bool is_constant;  /* Whether the bytes are long, and nobody can write to them. */
-    bool final;        /* Whether an incomplete character at the end is an error. */
-    size_t count;      /* How many errors there were. */
-} errors_met;
-
 /* Returns the text of the bytes that are left, with U+FFFD for what is ill formed. */
 static PyObject *replaced(const decoding *from, bool is_constant) {
     size_t len = from->len - from->at, capacity = DETHRUX_UTF32_MAX(len);
@@ -395,99 +301,80 @@ static PyObject *replaced(const decoding *from, bool is_constant) {
     return text;
 }
 
-/* Decodes a bytes object from now on, whose reference it takes. Returns whether it is one. */
-static bool decode_object(decoding *from, errors_met *met, PyObject *object) {
-    if (!object) {
-        return false;
+/* Returns what a handler has as a str. */
+static PyObject *text_of(const substitute *found) {
+    const uint8_t *utf8 = found->utf8;
+    if (utf8[0] == 0xED) {
+        /* CPython decodes a surrogate only with a handler. */
+        return PyUnicode_FromOrdinal(0xD000 | (utf8[1] & 0x3F) << 6 | (utf8[2] & 0x3F));
     }
-    Py_XSETREF(met->object, object);
-    from->bytes = (const uint8_t *) PyBytes_AS_STRING(object);
-    from->len = (size_t) PyBytes_GET_SIZE(object);
-    met->is_constant = true;
-    return true;
+    return PyUnicode_DecodeUTF8((const char *) utf8, (Py_ssize_t) found->len, NULL);
 }
 
-/* Returns a bytes object of these bytes, which may be the one that has them. */
-static PyObject *as_bytes(PyObject *object, const uint8_t *bytes, size_t len) {
-    if (PyBytes_CheckExact(object)) {
-        Py_INCREF(object);
-        return object;
-    }
-    return PyBytes_FromStringAndSize((const char *) bytes, (Py_ssize_t) len);
-}
-
-/* Writes what the error handler returns for the error that follows, and resumes where it says.
- * Returns whether it did. */
-static bool call_handler(decoding *from, errors_met *met, PyObject *object,
-                         dethrux_status status) {
-    if (!met->object && !decode_object(from, met, as_bytes(object, from->bytes, from->len))) {
-        return false;
-    }
-    Py_ssize_t position;
-    if (!prepare_decoding(&met->errors, from->order, met->object, from->at, status)) {
-        return false;
-    }
-    PyObject *text = replacement(&met->errors, true, &position);
-    if (text && decode_object(from, met, PyUnicodeDecodeError_GetObject(met->errors.exception))
-        && resume_at(position, from->len, &from->at)) {
-        return write_text(from, text);
-    }
-    Py_XDECREF(text);
-    return false;
-}
-
-/* Does what the error handler has for the error that follows. Returns whether it did. */
-static bool handle(const native *it, decoding *from, errors_met *met, PyObject *object,
-                   dethrux_status status) {
-    if (!find_handler(it, &met->errors, met->name)) {
-        return false;
-    }
-    if (met->count++ >= FEW && met->final && met->errors.function == it->replace_errors) {
-        PyObject *rest = replaced(from, met->is_constant);
-        from->at = from->len;
-        return write_text(from, rest);
-    }
+/* Does what a handler of CPython has for the error that follows. Returns whether it did. */
+static bool handle(const native *it, decoding *from, PyObject *function, dethrux_status status) {
     substitute found;
     const uint8_t *utf16 = from->bytes + from->at;
-    /* `surrogatepass` may raise its exception, which then also has the place of the first error. */
-    if (met->errors.function == it->surrogatepass_errors
-        || !is_known(it, met->errors.function, from->order, utf16, from->len - from->at, status,
-                     &found)) {
-        return call_handler(from, met, object, status);
+    if (!is_known(it, function, from->order, utf16, from->len - from->at, status, &found)) {
+        return false;
     }
     from->at += found.read;
-    const char *utf8 = (const char *) found.utf8;
-    return found.len == 0
-        || write_text(from, PyUnicode_DecodeUTF8(utf8, (Py_ssize_t) found.len, NULL));
+    return found.len == 0 || write_text(from, text_of(&found));
 }
 
-/* Decodes from the first error on. Returns whether it did. */
-static bool decode_rest(const native *it, decoding *from, errors_met *met, PyObject *object,
+/* Returns whether a handler is asked. An incomplete character at the end may be no error. */
+static bool is_error(dethrux_status status, bool final) {
+    return status == DETHRUX_ILL_FORMED || (status == DETHRUX_INCOMPLETE && final);
+}
+
+/* Decodes from the first error on. Returns whether it did: it does not for a handler that is not
+ * known and for an error that a handler raises. */
+static bool decode_rest(const native *it, decoding *from, PyObject *function, bool final,
                         dethrux_status status) {
+    bool is_constant = from->without_gil;
     /* The many parts of a long text keep the GIL. */
     from->without_gil = false;
-    while (status == DETHRUX_ILL_FORMED || (status == DETHRUX_INCOMPLETE && met->final)) {
-        if (!handle(it, from, met, object, status) || !decode_prefix(from, &status)) {
+    for (size_t count = 0; is_error(status, final); count++) {
+        if (count >= FEW && final && function == it->replace_errors) {
+            PyObject *rest = replaced(from, is_constant);
+            from->at = from->len;
+            return write_text(from, rest);
+        }
+        if (!handle(it, from, function, status) || !decode_prefix(from, &status)) {
             return false;
         }
     }
     return true;
 }
 
+/* Returns the text that CPython decodes, or NULL with what it or a handler raises. */
+static PyObject *decoded_by_python(dethrux_byte_order order, const input *utf16, size_t start,
+                                   PyObject *name, bool final, size_t *read) {
+    /* With 0 it reads the BOM, as in the offsets of its exception. */
+    int number = start != 0 ? 0 : order == DETHRUX_BIG_ENDIAN ? 1 : -1;
+    Py_ssize_t len = (Py_ssize_t) utf16->len, consumed = len;
+    PyObject *text = PyUnicode_DecodeUTF16Stateful(
+        (const char *) utf16->bytes, len, utf8_of(name), &number, final ? NULL : &consumed);
+    *read = (size_t) consumed;
+    return text;
+}
+
 /* Returns the text of UTF-16 from an offset on, and sets how many bytes were read: all if it is
  * final, else those before an incomplete character. */
-static PyObject *decoded(const native *it, dethrux_byte_order order, PyObject *object,
-                         const input *utf16, size_t start, PyObject *name, bool final,
-                         size_t *read) {
+static PyObject *decoded(const native *it, dethrux_byte_order order, const input *utf16,
+                         size_t start, PyObject *name, bool final, size_t *read) {
     decoding from = {.bytes = utf16->bytes, .len = utf16->len, .at = start, .order = order,
                      .without_gil = utf16->without_gil};
     dethrux_status status;
     bool is_decoded = is_name(it, name) && decode_prefix(&from, &status);
-    if (is_decoded && status != DETHRUX_DONE) {
-        errors_met met = {.name = name, .is_constant = utf16->without_gil, .final = final};
-        is_decoded = decode_rest(it, &from, &met, object, status);
-        drop(&met.errors);
-        Py_XDECREF(met.object);
+    if (is_decoded && is_error(status, final)) {
+        PyObject *function = handler_of(it, name);
+        is_decoded = function && decode_rest(it, &from, function, final, status);
+        Py_XDECREF(function);
+        if (!is_decoded && !PyErr_Occurred()) {
+            Py_CLEAR(from.to.text);
+            return decoded_by_python(order, utf16, start, name, final, read);
+        }
     }
     *read = final ? utf16->len : from.at;
     return finished(&from.to, is_decoded);
@@ -501,7 +388,7 @@ static PyObject *decode(const native *it, arguments given) {
     }
     size_t read;
     PyObject *text =
-        decoded(it, (dethrux_byte_order) order, given[0], &utf16, 0, given[2], true, &read);
+        decoded(it, (dethrux_byte_order) order, &utf16, 0, given[2], true, &read);
     release(&utf16);
     return text;
 }
@@ -514,7 +401,7 @@ static PyObject *decoded_part(const native *it, dethrux_byte_order order, argume
         return NULL;
     }
     size_t read = 0;
-    PyObject *text = decoded(it, order, given[0], &utf16, 0, given[1], final, &read);
+    PyObject *text = decoded(it, order, &utf16, 0, given[1], final, &read);
     release(&utf16);
     return pair(text, read);
 }
@@ -525,22 +412,6 @@ static PyObject *decoded_chunk(const native *it, dethrux_byte_order order, argum
     return final < 0 ? NULL : decoded_part(it, order, given, final);
 }
 
-static PyObject *utf_16_le_decode(const native *it, arguments given) {
-    return decoded_chunk(it, DETHRUX_LITTLE_ENDIAN, given);
-}
-
-static PyObject *utf_16_be_decode(const native *it, arguments given) {
-    return decoded_chunk(it, DETHRUX_BIG_ENDIAN, given);
-}
-
-static PyObject *utf_16_le_decode_all(const native *it, arguments given) {
-    return decoded_part(it, DETHRUX_LITTLE_ENDIAN, given, true);
-}
-
-static PyObject *utf_16_be_decode_all(const native *it, arguments given) {
-    return decoded_part(it, DETHRUX_BIG_ENDIAN, given, true);
-}
-
 static PyObject *utf_16_decode_all(const native *it, arguments given) {
     input utf16;
     if (!hold(given[0], &utf16)) {
@@ -549,7 +420,7 @@ static PyObject *utf_16_decode_all(const native *it, arguments given) {
     dethrux_bom bom = dethrux_detect_bom(DETHRUX_NATIVE_ENDIAN, utf16.bytes, utf16.len);
     size_t read = 0;
     PyObject *text =
-        decoded(it, bom.byte_order, given[0], &utf16, bom.len, given[1], true, &read);
+        decoded(it, bom.byte_order, &utf16, bom.len, given[1], true, &read);
     release(&utf16);
     return pair(text, read);
 }
@@ -571,16 +442,9 @@ static PyObject *utf_16_ex_decode(const native *it, arguments given) {
             number = order == DETHRUX_LITTLE_ENDIAN ? -1 : 1;
         }
     }
-    PyObject *text = decoded(it, order, given[0], &utf16, start, given[1], final, &read);
+    PyObject *text = decoded(it, order, &utf16, start, given[1], final, &read);
     release(&utf16);
     return text ? Py_BuildValue("Nnn", text, (Py_ssize_t) read, number) : NULL;
-}
-
-/* Appends a part of the result, whose reference it takes. Returns whether it did. */
-static bool append(PyObject *parts, PyObject *part) {
-    bool is_appended = part && PyList_Append(parts, part) == 0;
-    Py_XDECREF(part);
-    return is_appended;
 }
 
 /* str to UTF-16. */
@@ -651,95 +515,14 @@ static PyObject *without_surrogates(dethrux_byte_order order, const source *text
     return utf16;
 }
 
-/* Returns the place of the first surrogate from a place on, or the length. */
-static size_t surrogate(const source *text, size_t at) {
-    Py_ssize_t place = (Py_ssize_t) at, len = (Py_ssize_t) text->len;
-    while (place < len
-           && !Py_UNICODE_IS_SURROGATE(PyUnicode_READ(text->kind, text->units, place))) {
-        place++;
-    }
-    return (size_t) place;
-}
-
-/* Returns a part of a text. */
-static source part_of(const source *text, size_t start, size_t end) {
-    const char *units = text->units;
-    source part = {units + start * (size_t) text->kind, end - start, text->kind};
-    return part;
-}
-
-/* Returns a text as a source. */
-static source source_of(PyObject *text) {
-    source all = {PyUnicode_DATA(text), (size_t) PyUnicode_GET_LENGTH(text), PyUnicode_KIND(text)};
-    return all;
-}
-
-/* Appends what a handler has: whole code units in bytes or, as CPython requires, ASCII. Otherwise
- * it raises the exception again. Returns whether it did. */
-static bool append_replacement(dethrux_byte_order order, handler *errors,
-                               const char *encoding, PyObject *text, size_t at, PyObject *found,
-                               PyObject *parts) {
-    if (PyBytes_Check(found) && PyBytes_GET_SIZE(found) % 2 == 0) {
-        return PyList_Append(parts, found) == 0;
-    }
-    if (PyUnicode_Check(found) && !is_ready(found)) {
-        return false;
-    }
-    if (PyUnicode_Check(found) && PyUnicode_IS_ASCII(found)) {
-        source ascii = source_of(found);
-        return append(parts, without_surrogates(order, &ascii, 0));
-    }
-    if (prepare(errors, false, encoding, text, at, at + 1, "surrogates not allowed")) {
-        PyCodec_StrictErrors(errors->exception);
-    }
-    return false;
-}
-
-/* Appends the UTF-16 of a text with surrogates. Returns whether it did. */
-static bool append_text(const native *it, dethrux_byte_order order, handler *errors, PyObject *name,
-                        const char *encoding, PyObject *text, PyObject *parts) {
-    source all = source_of(text);
-    size_t at = 0;
-    for (;;) {
-        size_t end = surrogate(&all, at);
-        source part = part_of(&all, at, end);
-        if (!append(parts, without_surrogates(order, &part, 0))) {
-            return false;
-        }
-        if (end == all.len) {
-            return true;
-        }
-        Py_ssize_t position;
-        if (!find_handler(it, errors, name)
-            || !prepare(errors, false, encoding, text, end, end + 1, "surrogates not allowed")) {
-            return false;
-        }
-        PyObject *found = replacement(errors, false, &position);
-        bool is_appended = found && resume_at(position, all.len, &at)
-            && append_replacement(order, errors, encoding, text, end, found, parts);
-        Py_XDECREF(found);
-        if (!is_appended) {
-            return false;
-        }
-    }
-}
-
-/* Returns the UTF-16 of a text with surrogates, after a BOM of this length. */
-static PyObject *encoded_with_errors(const native *it, dethrux_byte_order order, PyObject *text,
-                                     PyObject *name, size_t bom_len) {
-    const char *encoding =
-        bom_len ? "utf-16" : order == DETHRUX_BIG_ENDIAN ? "utf-16-be" : "utf-16-le";
-    source nothing = {"", 0, PyUnicode_1BYTE_KIND};
-    PyObject *parts = PyList_New(0), *utf16 = NULL;
-    handler errors = {NULL, NULL};
-    if (parts && append(parts, without_surrogates(order, &nothing, bom_len))
-        && append_text(it, order, &errors, name, encoding, text, parts)) {
-        PyObject *empty = PyBytes_FromStringAndSize(NULL, 0);
-        utf16 = empty ? PyObject_CallMethod(empty, "join", "O", parts) : NULL;
-        Py_XDECREF(empty);
-    }
-    drop(&errors);
-    Py_XDECREF(parts);
+/* Returns the UTF-16 that CPython encodes, or NULL with what it or a handler raises. */
+static PyObject *encoded_by_python(const native *it, dethrux_byte_order order, PyObject *text,
+                                   PyObject *name, size_t bom_len) {
+    int number = bom_len != 0 ? 0 : order == DETHRUX_BIG_ENDIAN ? 1 : -1;
+    PyObject *both = PyObject_CallFunction(it->utf_16_encode, "Ozi", text, utf8_of(name), number);
+    PyObject *utf16 = both ? PyTuple_GetItem(both, 0) : NULL;
+    Py_XINCREF(utf16);
+    Py_XDECREF(both);
     return utf16;
 }
 
@@ -749,12 +532,12 @@ static PyObject *encoded(const native *it, dethrux_byte_order order, PyObject *t
     if (!is_name(it, name) || !is_ready(text)) {
         return NULL;
     }
-    source all = source_of(text);
+    source all = {PyUnicode_DATA(text), (size_t) PyUnicode_GET_LENGTH(text), PyUnicode_KIND(text)};
     PyObject *utf16 = without_surrogates(order, &all, bom_len);
     if (utf16 || PyErr_Occurred()) {
         return utf16;
     }
-    return encoded_with_errors(it, order, text, name, bom_len);
+    return encoded_by_python(it, order, text, name, bom_len);
 }
 
 /* Returns whether an argument is a text. */
@@ -784,13 +567,19 @@ static PyObject *encoded_part(const native *it, dethrux_byte_order order, argume
     return utf16 ? pair(utf16, (size_t) PyUnicode_GET_LENGTH(given[0])) : NULL;
 }
 
-static PyObject *utf_16_le_encode(const native *it, arguments given) {
-    return encoded_part(it, DETHRUX_LITTLE_ENDIAN, given, 0);
-}
-
-static PyObject *utf_16_be_encode(const native *it, arguments given) {
-    return encoded_part(it, DETHRUX_BIG_ENDIAN, given, 0);
-}
+/* The functions of a codec for a byte order. */
+#define CODEC(name, order) \
+    static PyObject *name##_decode(const native *it, arguments given) { \
+        return decoded_chunk(it, order, given); \
+    } \
+    static PyObject *name##_decode_all(const native *it, arguments given) { \
+        return decoded_part(it, order, given, true); \
+    } \
+    static PyObject *name##_encode(const native *it, arguments given) { \
+        return encoded_part(it, order, given, 0); \
+    }
+CODEC(utf_16_le, DETHRUX_LITTLE_ENDIAN)
+CODEC(utf_16_be, DETHRUX_BIG_ENDIAN)
 
 static PyObject *utf_16_encode(const native *it, arguments given) {
     Py_ssize_t number = given[2] ? PyNumber_AsSsize_t(given[2], PyExc_OverflowError) : 0;
@@ -849,27 +638,20 @@ static bool write_rest(const native *it, dethrux_byte_order order, const input *
  * an exception for an error handler that is not known, and for errors that it raises. */
 static PyObject *utf8_of_rest(const native *it, dethrux_byte_order order, const input *utf16,
                               PyObject *prefix, dethrux_progress done, PyObject *name) {
-    handler errors = {NULL, NULL};
-    PyObject *output = NULL;
+    PyObject *function = handler_of(it, name), *output = NULL;
     /* It encodes surrogates in UTF-8 only by its name. */
-    if (find_handler(it, &errors, name)
-        && (errors.function != it->surrogatepass_errors || is_named(name, "surrogatepass"))) {
+    if (function && (function != it->surrogatepass_errors || is_named(name, "surrogatepass"))) {
         output = new_bytes(done.written + DETHRUX_UTF8_MAX(utf16->len - done.read));
     }
     if (output) {
         memcpy(PyBytes_AS_STRING(output), PyBytes_AS_STRING(prefix), done.written);
-        if (!write_rest(it, order, utf16, errors.function, done, &output)) {
+        if (!write_rest(it, order, utf16, function, done, &output)) {
             Py_CLEAR(output);
         }
     }
-    drop(&errors);
+    Py_XDECREF(function);
     Py_DECREF(prefix);
     return output;
-}
-
-/* Returns the name of the error handler that was given, as an object to pass on. */
-static PyObject *name_given(const native *it, PyObject *errors) {
-    return errors ? errors : it->strict;
 }
 
 static PyObject *decode_to_utf8(const native *it, arguments given) {
@@ -893,25 +675,19 @@ static PyObject *decode_to_utf8(const native *it, arguments given) {
     }
     PyObject *text = decode(it, given);
     if (text) {
-        utf8 = PyObject_CallMethod(text, "encode", "sO", "utf-8", name_given(it, given[2]));
+        utf8 = PyUnicode_AsEncodedString(text, "utf-8", utf8_of(given[2]));
     }
     Py_XDECREF(text);
     return utf8;
 }
 
 /* Returns the UTF-16 of ill-formed UTF-8 through a str, with what the error handler has. */
-static PyObject *through_text(const native *it, dethrux_byte_order order, PyObject *object,
-                              const input *utf8, PyObject *name) {
-    PyObject *bytes = as_bytes(object, utf8->bytes, utf8->len), *utf16 = NULL, *text = NULL;
-    if (bytes) {
-        text = PyObject_CallFunction((PyObject *) &PyUnicode_Type, "OsO", bytes, "utf-8",
-                                     name_given(it, name));
-    }
-    if (text) {
-        utf16 = encoded(it, order, text, name, 0);
-    }
+static PyObject *through_text(const native *it, dethrux_byte_order order, const input *utf8,
+                              PyObject *name) {
+    Py_ssize_t len = (Py_ssize_t) utf8->len;
+    PyObject *text = PyUnicode_DecodeUTF8((const char *) utf8->bytes, len, utf8_of(name));
+    PyObject *utf16 = text ? encoded(it, order, text, name, 0) : NULL;
     Py_XDECREF(text);
-    Py_XDECREF(bytes);
     return utf16;
 }
 
@@ -930,7 +706,7 @@ static PyObject *encode_from_utf8(const native *it, arguments given) {
                           &done);
         if (utf16 && done.status != DETHRUX_DONE) {
             Py_DECREF(utf16);
-            utf16 = through_text(it, (dethrux_byte_order) order, given[0], &utf8, given[2]);
+            utf16 = through_text(it, (dethrux_byte_order) order, &utf8, given[2]);
         }
     }
     release(&utf8);
