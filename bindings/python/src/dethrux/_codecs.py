@@ -40,63 +40,47 @@ def utf_16_decode(
     return utf_16_ex_decode(input, errors, 0, final)[:2]
 
 
-# The classes of each codec.
+# The codec of a byte order.
 
 
-class _IncrementalEncoder(codecs.IncrementalEncoder):
-    """Encodes a text in parts, in one byte order."""
+def _in_order(name: str, to_utf16: Any, from_part: Any, from_all: Any) -> codecs.CodecInfo:
+    """Return the codec that these functions make: to UTF-16, from a part of it, from all of it."""
 
-    _function = staticmethod(utf_16_le_encode)
+    class Encoder(codecs.IncrementalEncoder):
+        """Encodes a text in parts."""
 
-    def encode(self, input: str, final: bool = False) -> bytes:
-        """Return the UTF-16 of the next part."""
-        return self._function(input, self.errors)[0]
+        def encode(self, input: str, final: bool = False) -> bytes:
+            """Return the UTF-16 of the next part."""
+            encoded: bytes = to_utf16(input, self.errors)[0]
+            return encoded
 
+    class Decoder(codecs.BufferedIncrementalDecoder):
+        """Decodes UTF-16 in chunks, cut anywhere."""
 
-class Utf16LEIncrementalEncoder(_IncrementalEncoder):
-    """Encodes a text in parts to UTF-16LE."""
+        _buffer_decode = staticmethod(from_part)
 
+    class Writer(codecs.StreamWriter):
+        """Writes texts to a stream as UTF-16."""
 
-class Utf16BEIncrementalEncoder(_IncrementalEncoder):
-    """Encodes a text in parts to UTF-16BE."""
+        encode = staticmethod(to_utf16)
 
-    _function = staticmethod(utf_16_be_encode)
+    class Reader(codecs.StreamReader):
+        """Reads the text of a stream of UTF-16."""
 
+        decode = staticmethod(from_part)
 
-class Utf16LEIncrementalDecoder(codecs.BufferedIncrementalDecoder):
-    """Decodes UTF-16LE in chunks, cut anywhere."""
-
-    _buffer_decode = staticmethod(utf_16_le_decode)
-
-
-class Utf16BEIncrementalDecoder(codecs.BufferedIncrementalDecoder):
-    """Decodes UTF-16BE in chunks, cut anywhere."""
-
-    _buffer_decode = staticmethod(utf_16_be_decode)
-
-
-class Utf16LEStreamWriter(codecs.StreamWriter):
-    """Writes texts to a stream as UTF-16LE."""
-
-    encode = staticmethod(utf_16_le_encode)
-
-
-class Utf16BEStreamWriter(codecs.StreamWriter):
-    """Writes texts to a stream as UTF-16BE."""
-
-    encode = staticmethod(utf_16_be_encode)
+    return codecs.CodecInfo(
+        name=name,
+        encode=to_utf16,
+        decode=from_all,
+        incrementalencoder=Encoder,
+        incrementaldecoder=Decoder,
+        streamreader=Reader,
+        streamwriter=Writer,
+    )
 
 
-class Utf16LEStreamReader(codecs.StreamReader):
-    """Reads the text of a stream of UTF-16LE."""
-
-    decode = staticmethod(utf_16_le_decode)
-
-
-class Utf16BEStreamReader(codecs.StreamReader):
-    """Reads the text of a stream of UTF-16BE."""
-
-    decode = staticmethod(utf_16_be_decode)
+# The codec that has a BOM.
 
 
 def _encode_stream(input: str, errors: str, has_bom: bool) -> tuple[bytes, int]:
@@ -230,23 +214,11 @@ class Utf16StreamReader(codecs.StreamReader):
 # The names.
 
 _CODECS = {
-    "dethrux_utf_16_le": codecs.CodecInfo(
-        name="dethrux-utf-16-le",
-        encode=utf_16_le_encode,
-        decode=utf_16_le_decode_all,
-        incrementalencoder=Utf16LEIncrementalEncoder,
-        incrementaldecoder=Utf16LEIncrementalDecoder,
-        streamreader=Utf16LEStreamReader,
-        streamwriter=Utf16LEStreamWriter,
+    "dethrux_utf_16_le": _in_order(
+        "dethrux-utf-16-le", utf_16_le_encode, utf_16_le_decode, utf_16_le_decode_all
     ),
-    "dethrux_utf_16_be": codecs.CodecInfo(
-        name="dethrux-utf-16-be",
-        encode=utf_16_be_encode,
-        decode=utf_16_be_decode_all,
-        incrementalencoder=Utf16BEIncrementalEncoder,
-        incrementaldecoder=Utf16BEIncrementalDecoder,
-        streamreader=Utf16BEStreamReader,
-        streamwriter=Utf16BEStreamWriter,
+    "dethrux_utf_16_be": _in_order(
+        "dethrux-utf-16-be", utf_16_be_encode, utf_16_be_decode, utf_16_be_decode_all
     ),
     "dethrux_utf_16": codecs.CodecInfo(
         name="dethrux-utf-16",
