@@ -61,7 +61,7 @@ UTF8 = (
 _NUMBERS = {"at": 1, "order": 0, "length": 9, "count": 2, "index": 1}
 
 
-def _stub():
+def stub():
     """Yield each function of the extension, as the stub has it."""
     text = Path(_native.__file__).with_name("_native.pyi").read_text()
     yield from (it for it in ast.parse(text).body if isinstance(it, ast.FunctionDef))
@@ -73,7 +73,7 @@ REQUIRED = {
         it.arg: ast.unparse(it.annotation)
         for it in node.args.args[: len(node.args.args) - len(node.args.defaults)]
     }
-    for node in _stub()
+    for node in stub()
 }
 
 
@@ -124,24 +124,6 @@ def items(raw, codec):
         found += [Item(len(char.encode(codec)), char) for char in text] + ill_formed
         at = end
     return found
-
-
-def progress(raw, source, target, stops, capacity):
-    """Return what a conversion returns that replaces each ill-formed sequence.
-
-    With ``stops`` "ill-formed" it stops at each, with "incomplete" at an incomplete character.
-    """
-    output, read = b"", 0
-    for item in items(raw, source):
-        if item.is_incomplete and stops:
-            return output, read, Status.INCOMPLETE, 0
-        if item.char is None and stops == "ill-formed":
-            return output, read, Status.ILL_FORMED, item.length
-        written = (item.char or REPLACEMENT).encode(target)
-        if len(output) + len(written) > capacity:
-            return output, read, Status.NO_SPACE, 0
-        output, read = output + written, read + item.length
-    return output, read, Status.DONE, 0
 
 
 def outcome(call, *arguments):
@@ -352,6 +334,26 @@ def without_memory(start, call, *arguments):
     finally:
         remove_mem_hooks()
     return found
+
+
+class WithoutMemory(unittest.TestCase):
+    """Tests what is left if there is no memory."""
+
+    def fails_in_turn(self, made, call, state, wanted, left, count=60):
+        """Make each allocation of a call fail in turn: nothing changes, and again it succeeds."""
+        outcomes = []
+        for start in range(count):
+            it = made()
+            before = state(it)
+            found = without_memory(start, call, it)
+            outcomes.append(found is None)
+            if found is None:
+                self.assertEqual(state(it), before, start)
+                found = call(it)
+            self.assertEqual((found, state(it)), (wanted, left), start)
+        # All allocations of the call had their turn.
+        self.assertIn(True, outcomes)
+        self.assertNotIn(True, outcomes[-9:])
 
 
 def in_threads(work, arguments):

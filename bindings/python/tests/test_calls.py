@@ -11,8 +11,8 @@ import unittest
 import dethrux
 from dethrux import BomStatus, Status, _codecs, _native
 from expected import CODECS, IN_PIECES, LARGEST, NOT_BUFFERS, ORDERS, READABLE, REPLACEMENT
-from expected import REQUIRED, UNWRITABLE, UTF8, WRITABLE, Index, items, mapped, outcome, peak
-from expected import progress, utf16, values_of, with_parameter, without_memory
+from expected import REQUIRED, UNWRITABLE, UTF8, WRITABLE, Index, WithoutMemory, mapped, outcome
+from expected import peak, utf16, values_of, with_parameter
 
 DECODERS = (dethrux.Decoder, dethrux.Encoder)
 STRICT = (dethrux.StrictDecoder, dethrux.StrictEncoder)
@@ -123,23 +123,12 @@ class Functions(unittest.TestCase):
 
 
 class InPlace(unittest.TestCase):
-    def test_units_change(self):
-        for order, kind in itertools.product(ORDERS, WRITABLE):
-            codec = CODECS[order]
-            for raw in utf16(order):
-                with self.subTest(order=order, raw=raw, kind=kind):
-                    whole, odd = raw[: len(raw) // 2 * 2], raw[len(raw) // 2 * 2 :]
-                    swapped = array.array("H", whole)
-                    swapped.byteswap()
-                    buffer = kind(raw)
-                    self.assertIsNone(dethrux.swap_byte_order(buffer))
-                    self.assertEqual(bytes(memoryview(buffer)), swapped.tobytes() + odd)
-
-                    unpaired = [item for item in items(whole, codec) if item.char is None]
-                    mended = whole.decode(codec, "replace").encode(codec)
-                    buffer = kind(raw)
-                    self.assertEqual(dethrux.make_well_formed(buffer, order), len(unpaired))
-                    self.assertEqual(bytes(memoryview(buffer)), mended + odd)
+    def test_each_kind_of_buffer(self):
+        for kind in WRITABLE:
+            buffer = kind(b"a\0\0\xdc")
+            self.assertEqual(dethrux.make_well_formed(buffer, "little"), 1)
+            self.assertIsNone(dethrux.swap_byte_order(buffer))
+            self.assertEqual(bytes(memoryview(buffer)), "a\ufffd".encode("utf-16-be"))
 
     def test_only_the_view_changes(self):
         for order, codec in CODECS.items():
@@ -365,27 +354,28 @@ def each_stream():
             yield kind(order), raw, source, target
 
 
-class Decoders(unittest.TestCase):
+class Decoders(WithoutMemory):
     """Streams of both kinds in both byte orders."""
 
     def test_every_capacity(self):
+        """As many characters of the output as fit are written, and the rest with the next chunk."""
         for decoder, raw, source, target in each_stream():
-            with self.subTest(raw=raw, target=target):
-                whole = progress(raw, source, target, "incomplete", LARGEST)
-                for capacity in (*range(len(whole[0]) + 2), 10**30, None):
+            whole = decoder.feed(raw)
+            pending = decoder.pending
+            ends = {*itertools.accumulate(len(it.encode(target)) for it in whole.decode(target))}
+            for capacity in (*range(len(whole) + 2), 10**30, None):
+                with self.subTest(raw=raw, target=target, capacity=capacity):
                     decoder.reset()
                     found = decoder.feed_partial(raw, capacity)
                     limit = LARGEST if capacity is None else capacity
-                    output, read, status, _len = progress(raw, source, target, "incomplete", limit)
-                    self.assertEqual(found.output, output, capacity)
-                    if status == Status.NO_SPACE:
-                        self.assertEqual(found.status, status)
-                        self.assertLessEqual(read, found.read)
-                    else:
-                        self.assertEqual(found, (output, len(raw), Status.DONE, 0), capacity)
+                    most = max((it for it in ends if it <= limit), default=0)
+                    self.assertEqual(found.output, whole[:most])
+                    if found.status != Status.NO_SPACE:
+                        self.assertEqual(found, (whole, len(raw), Status.DONE, 0))
+                    self.assertEqual(most < len(whole), found.status == Status.NO_SPACE)
                     rest = decoder.feed(raw[found.read :])
-                    self.assertEqual(found.output + rest, whole[0], capacity)
-                    self.assertEqual(decoder.pending, raw[whole[1] :])
+                    self.assertEqual(found.output + rest, whole)
+                    self.assertEqual(decoder.pending, pending)
 
     def test_the_largest_output(self):
         """A chunk of each length, after pending bytes, that needs the capacity that is taken."""
@@ -400,44 +390,36 @@ class Decoders(unittest.TestCase):
             found = decoder.feed_partial(b"ab")
             self.assertEqual(found, ("\ufffdab".encode(codec), 2, Status.DONE, 0))
 
-    def test_finish(self):
-        for kind, order, _source, target in each_decoder():
+    def test_finish_and_reset(self):
+        for kind, order, source, target in each_decoder():
             self.assertEqual(kind(order).finish(), b"")
             for pending in unfinished(kind, order):
-                decoder = kind(order)
-                self.assertEqual(decoder.pending, b"")
-                self.assertEqual(decoder.feed(pending), b"")
-                self.assertEqual(decoder.pending, pending)
+                decoder, other = kind(order), kind(order)
+                for begun in (decoder, other):
+                    self.assertEqual((begun.pending, begun.feed(pending)), (b"", b""))
+                    self.assertEqual(begun.pending, pending)
                 self.assertEqual(decoder.finish(), REPLACEMENT.encode(target))
                 self.assertEqual(decoder.pending, b"")
+                # The other one has its own state.
+                self.assertEqual(other.pending, pending)
+                other.reset()
+                self.assertEqual(other.pending, b"")
+                self.assertEqual(other.feed("a".encode(source)), "a".encode(target))
+                self.assertEqual(other.finish(), b"")
 
     def test_finished(self):
-        for kind, order, source, target in each_decoder():
-            chunk, text = "a".encode(source), "a".encode(target)
-            decoder = kind(order)
-            self.assertEqual(decoder.feed(chunk), text)
+        message = r"^the decoder is finished: reset\(\) begins a new stream$"
+        for kind in DECODERS + STRICT:
+            decoder = kind("big")
             self.assertEqual(decoder.finish(), b"")
-            calls = (
-                lambda: decoder.feed(chunk),
-                lambda: decoder.feed_partial(chunk, 0),
-                decoder.finish,
-            )
-            message = r"^the decoder is finished: reset\(\) begins a new stream$"
+            calls = [decoder.finish, lambda: decoder.feed(b"")]
+            if kind in DECODERS:
+                calls.append(lambda: decoder.feed_partial(b"", 0))
             for call in calls:
                 with self.assertRaisesRegex(ValueError, message):
                     call()
             decoder.reset()
-            self.assertEqual(decoder.feed(chunk), text)
-
-    def test_reset(self):
-        for kind, order, source, target in each_decoder():
-            for pending in unfinished(kind, order):
-                decoder = kind(order)
-                decoder.feed(pending)
-                decoder.reset()
-                self.assertEqual(decoder.pending, b"")
-                self.assertEqual(decoder.feed("a".encode(source)), "a".encode(target))
-                self.assertEqual(decoder.finish(), b"")
+            self.assertNotEqual(decoder.feed(b"\0a"), b"")
 
     def test_an_exception_changes_nothing(self):
         for kind, order, _source, target in each_decoder():
@@ -453,23 +435,6 @@ class Decoders(unittest.TestCase):
             with self.assertRaises(TypeError):
                 decoder.feed(None)
             self.assertEqual(decoder.finish(), REPLACEMENT.encode(target))
-
-    def fails_without_memory(self, made, call, wanted, left=b""):
-        """Make each allocation of a call fail in turn: nothing changes, and again it succeeds."""
-        outcomes = []
-        for start in range(60):
-            decoder = made()
-            pending = decoder.pending
-            found = without_memory(start, call, decoder)
-            outcomes.append(found is None)
-            if found is None:
-                self.assertEqual(decoder.pending, pending, start)
-                found = call(decoder)
-            self.assertEqual(found, wanted, start)
-            self.assertEqual(decoder.pending, left, start)
-        self.assertEqual({*outcomes}, {False, True})
-        # All allocations of the call had their turn.
-        self.assertNotIn(True, outcomes[-9:])
 
     def test_without_memory(self):
         for kind, order, source, target in each_decoder():
@@ -491,15 +456,7 @@ class Decoders(unittest.TestCase):
                 )
                 for call, wanted, left in calls:
                     with self.subTest(target=target, pending=pending):
-                        self.fails_without_memory(made, call, wanted, left)
-
-    def test_decoders_are_apart(self):
-        for kind, order, source, target in each_decoder():
-            first, second = kind(order), kind(order)
-            first.feed(unfinished(kind, order)[2])
-            self.assertEqual(second.pending, b"")
-            self.assertEqual(second.feed("a".encode(source)), "a".encode(target))
-            self.assertEqual(first.finish(), REPLACEMENT.encode(target))
+                        self.fails_in_turn(made, call, lambda it: it.pending, wanted, left)
 
 
 if __name__ == "__main__":

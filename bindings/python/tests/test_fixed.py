@@ -3,24 +3,17 @@
 import array
 import itertools
 import pickle
-import sys
 import time
 import unittest
 
 import dethrux
 from dethrux import Status
-from expected import CODECS, IN_PIECES, LARGEST, NOT_BUFFERS, ORDERS, UTF8, WRITABLE, items
-from expected import peak, progress, utf16, without_memory
+from expected import CODECS, IN_PIECES, NOT_BUFFERS, ORDERS, UTF8, WRITABLE, WithoutMemory, items
+from expected import peak, utf16
 
-UTF32 = "utf-32-le" if sys.byteorder == "little" else "utf-32-be"
-# UTF-32 in the machine's byte order: well formed, ill formed at the start and at the end, cut.
+# UTF-32 that is well formed, and ill formed at the start and at the end.
 UNITS = ((), (0x61,), (0x61, 0xE9, 0xFFFF, 0x10000, 0x10FFFF), (0xD800, 0x61), (0x61, 0xDFFF))
 UNITS += ((0x110000,), (0x61, 0xFFFFFFFF, 0x62), (0xD7FF, 0xE000), (0xFEFF,), (0x61,) * 40)
-UTF32_SAMPLES = [
-    array.array("I", units).tobytes() + b"\x61\0\0"[:odd] for units in UNITS for odd in range(4)
-]
-# The conversions of UTF-32, and where they stop.
-STOPS = {"from_utf32": "ill-formed", "from_utf32_lossy": None}
 
 
 def errors(raw, codec):
@@ -117,30 +110,42 @@ class Parts(unittest.TestCase):
 class Fixed(unittest.TestCase):
     """UTF-32, which may end inside a code unit. `check.py` tests the other conversions."""
 
-    def test_conversions(self):
-        for order, codec in CODECS.items():
-            for raw, (name, stops) in itertools.product(UTF32_SAMPLES, STOPS.items()):
-                call, into = getattr(dethrux, name), getattr(dethrux, f"{name}_into")
-                whole = progress(raw, UTF32, codec, stops, LARGEST)
-                self.assertEqual(call(raw, order), whole, (name, raw, order))
-                for capacity in (*range(len(whole[0]) + 2), 10**30):
-                    expected = progress(raw, UTF32, codec, stops, capacity)
-                    self.assertEqual(call(raw, order, capacity), expected, (name, raw, capacity))
-                for capacity in range(len(whole[0]) + 2):
-                    buffer = bytearray(capacity)
-                    output, read, *rest = progress(raw, UTF32, codec, stops, capacity)
-                    self.assertEqual(into(raw, order, buffer), (read, len(output), *rest))
-                    self.assertEqual(buffer[: len(output)], output, (name, raw, capacity))
+    def test_inside_a_code_unit(self):
+        """Whole code units, in the machine's byte order, are in the tables of cases."""
+        for order, units, odd in itertools.product(ORDERS, UNITS, (1, 2, 3)):
+            whole = array.array("I", units).tobytes()
+            raw = whole + b"\x61\0\0"[:odd]
+            found = dethrux.from_utf32(whole, order)
+            if found.status == Status.DONE:
+                found = found._replace(status=Status.INCOMPLETE)
+            self.assertEqual(dethrux.from_utf32(raw, order), found)
+            validity = found.read, found.status, found.error_len
+            self.assertEqual(dethrux.validate_utf32(raw), validity)
 
-    def test_lengths(self):
-        for raw in UTF32_SAMPLES:
-            length = len(raw.decode(UTF32, "replace").encode("utf-16-le"))
-            self.assertEqual(dethrux.from_utf32_lossy_len(raw), length)
-            _output, read, status, error_len = progress(raw, UTF32, "utf-8", "ill-formed", LARGEST)
-            self.assertEqual(dethrux.validate_utf32(raw), (read, status, error_len), raw)
+    def test_replaced_at_the_end(self):
+        for order, units, odd in itertools.product(ORDERS, UNITS, (1, 2, 3)):
+            whole = array.array("I", units).tobytes()
+            raw, last = whole + b"\x61\0\0"[:odd], "\ufffd".encode(CODECS[order])
+            output = dethrux.from_utf32_lossy(whole, order).output
+            length = len(output)
+            self.assertEqual(dethrux.from_utf32_lossy_len(raw), length + 2)
+            done = output + last, len(raw), Status.DONE, 0
+            self.assertEqual(dethrux.from_utf32_lossy(raw, order), done)
+            for capacity in range(length + 4):
+                wanted = done
+                if capacity < length:
+                    wanted = dethrux.from_utf32_lossy(whole, order, capacity)
+                elif capacity < length + 2:
+                    wanted = output, len(whole), Status.NO_SPACE, 0
+                self.assertEqual(dethrux.from_utf32_lossy(raw, order, capacity), wanted)
+                buffer = bytearray(capacity)
+                found = dethrux.from_utf32_lossy_into(raw, order, buffer)
+                self.assertEqual(found, (wanted[1], len(wanted[0]), *wanted[2:]))
+                self.assertTrue(buffer.startswith(wanted[0]))
 
     def test_any_address(self):
-        for raw, start in itertools.product(UTF32_SAMPLES, range(4)):
+        for units, start in itertools.product(UNITS, range(4)):
+            raw = array.array("I", units).tobytes()
             view = memoryview(b"\xff" * start + raw)[start:]
             self.assertEqual(dethrux.validate_utf32(view), dethrux.validate_utf32(raw))
             self.assertEqual(dethrux.from_utf32(view, "big"), dethrux.from_utf32(raw, "big"))
@@ -200,7 +205,7 @@ class Into(unittest.TestCase):
             self.assertEqual(call(b"a\0", "little", view[4:]), (2, 4, Status.DONE, 0))
 
 
-class Strict(unittest.TestCase):
+class Strict(WithoutMemory):
     """Streams that raise at the first error."""
 
     def streams(self):
@@ -259,33 +264,23 @@ class Strict(unittest.TestCase):
         self.assertEqual((decoder.pending, decoder.offset), (b"\x62", 6))
 
     def test_without_memory(self):
-        """Each allocation of a call fails in turn: nothing changes, and again it succeeds."""
         char = "\U0001f600"
         for kind, raw, text in (
             (dethrux.StrictDecoder, char.encode("utf-16-le"), char.encode()),
             (dethrux.StrictEncoder, char.encode(), char.encode("utf-16-le")),
         ):
-            failed = 0
-            for start in range(60):
+
+            def made():
                 decoder = kind("little")
                 decoder.feed(raw[:3])
-                found = without_memory(start, decoder.feed, raw[3:])
-                if found is None:
-                    failed += 1
-                    self.assertEqual((decoder.pending, decoder.offset), (raw[:3], 0))
-                    found = decoder.feed(raw[3:])
-                self.assertEqual((found, decoder.pending, decoder.offset), (text, b"", 4))
-            self.assertGreater(failed, 0)
+                return decoder
 
-    def test_finished(self):
+            state = lambda it: (it.pending, it.offset)
+            self.fails_in_turn(made, lambda it: it.feed(raw[3:]), state, text, (b"", 4))
+
+    def test_reset(self):
         for kind in (dethrux.StrictDecoder, dethrux.StrictEncoder):
             decoder = kind("big")
-            self.assertEqual(decoder.finish(), b"")
-            for call in (decoder.finish, lambda: decoder.feed(b"")):
-                message = r"^the decoder is finished: reset\(\) begins a new stream$"
-                with self.assertRaisesRegex(ValueError, message):
-                    call()
-            decoder.reset()
             self.assertEqual((decoder.feed(b"\0a\0b"), decoder.offset)[1], 4)
             decoder.reset()
             self.assertEqual((decoder.pending, decoder.offset), (b"", 0))

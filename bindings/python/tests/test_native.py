@@ -27,8 +27,8 @@ from unittest import mock
 
 import dethrux
 from dethrux import _native, _types
-from expected import CODECS, ORDERS, TOP, Comparison, in_threads, mapped, outcome, peak, values_of
-from expected import without_memory
+from expected import CODECS, ORDERS, TOP, Comparison, in_threads, mapped, outcome, peak, stub
+from expected import values_of, without_memory
 
 # How many calls may not take memory: a million with DETHRUX_CALLS=1000000.
 CALLS = int(os.environ.get("DETHRUX_CALLS") or 200_000)
@@ -40,6 +40,8 @@ IN_PLACE = {"swap_byte_order", "make_well_formed"}
 OF_STREAMS = {"feed_decoder", "feed_encoder", "finish_decoder", "finish_encoder"}
 # The shortest input for which the GIL is given up, and how much is copied and swapped at a time.
 LONG, BLOCK = 1 << 16, 1 << 14
+# Around the most bytes that are converted on the stack, and more than any result has.
+CAPACITIES = (0, 3, 1023, 1024, 1025, 1 << 20)
 # A character of each kind of str, and the greatest and least ones around them.
 CHARS = {1: "a\0\x7f", 2: "\xe9\x80\xff", 3: "\u4e00\u0100\ud7ff\ue000\uffff\ufeff"}
 CHARS[4] = "\U0001f600\U00010000\U0010ffff"
@@ -215,21 +217,21 @@ class Functions(unittest.TestCase):
     """Their names, their types, and arguments that do not fit."""
 
     def test_the_types(self):
-        """`_native.pyi` has each function, with its parameters and their defaults."""
-        path = Path(dethrux.__file__).with_name("_native.pyi")
+        """The stub has each function, with its parameters and their defaults."""
         declared = {}
-        for node in ast.parse(path.read_text()).body:
-            if isinstance(node, ast.FunctionDef):
-                names = [each.arg for each in node.args.args]
-                self.assertTrue(node.returns and all(each.annotation for each in node.args.args))
-                declared[node.name] = names, [*map(ast.literal_eval, node.args.defaults)]
+        for node in stub():
+            names = [it.arg for it in node.args.args]
+            self.assertTrue(node.returns and all(it.annotation for it in node.args.args))
+            defaults = map(ast.literal_eval, node.args.defaults)
+            declared[node.name] = dict(zip(names[::-1], [*defaults][::-1])), names
         found = {}
         for name, function in C.items():
-            each = inspect.signature(function).parameters.values()
-            self.assertEqual({one.kind for one in each}, {inspect.Parameter.POSITIONAL_OR_KEYWORD})
-            defaults = [one.default for one in each if one.default is not inspect.Parameter.empty]
-            found[name] = [one.name for one in each], defaults
-        self.assertEqual({**found, "kernel": ([], [])}, declared)
+            each = inspect.signature(function).parameters
+            self.assertEqual({it.kind.name for it in each.values()}, {"POSITIONAL_OR_KEYWORD"})
+            defaults = {it: each[it].default for it in each}
+            defaults = {it: defaults[it] for it in each if defaults[it] is not inspect._empty}
+            found[name] = defaults, [*each]
+        self.assertEqual({**found, "kernel": ({}, [])}, declared)
 
     def test_names(self):
         for name, function in C.items():
@@ -338,22 +340,14 @@ class Functions(unittest.TestCase):
 
     def test_the_numbers_of_small_buffers(self):
         """Around the capacity that goes through the stack."""
-        for length in (338, 340, 341, 342, 344, 511, 512, 513, 1024):
-            for text in ("a" * length, "\u4e00" * length):
-                raw, utf8 = text.encode("utf-16-be"), text.encode()
-                self.assertEqual(dethrux.decode_to_utf8(raw, "big"), utf8)
-                self.assertEqual(dethrux.to_utf8(raw, "big"), (utf8, len(raw), 0, 0))
-                self.assertEqual(dethrux.encode_from_utf8(utf8, "big"), raw)
-                for capacity in (0, 3, 1023, 1024, 1025):
-                    found = dethrux.to_utf8(raw, "big", capacity)
-                    chars = min(capacity // len(text[0].encode()), length)
-                    status = dethrux.Status.DONE if chars == length else dethrux.Status.NO_SPACE
-                    self.assertEqual(found, (text[:chars].encode(), 2 * chars, status, 0))
-                    found = dethrux.from_utf8(utf8, "big", capacity)
-                    chars = min(capacity // 2, length)
-                    status = dethrux.Status.DONE if chars == length else dethrux.Status.NO_SPACE
-                    read = len(text[:chars].encode())
-                    self.assertEqual(found, (raw[: 2 * chars], read, status, 0))
+        lengths = 338, 340, 341, 342, 344, 511, 512, 513, 1024
+        for length, char, capacity in itertools.product(lengths, "a\u4e00", CAPACITIES):
+            utf16, utf8 = char.encode("utf-16-be"), char.encode()
+            for name, source, target in (("to_utf8", utf16, utf8), ("from_utf8", utf8, utf16)):
+                chars = min(capacity // len(target), length)
+                status = dethrux.Status.DONE if chars == length else dethrux.Status.NO_SPACE
+                found = C[name](source * length, "big", capacity)
+                self.assertEqual(found, (target * chars, len(source) * chars, status, 0))
 
 
 class Buffers(unittest.TestCase):

@@ -294,10 +294,8 @@ typedef union {
     dethrux_inspection inspection;
 } finding;
 
-/* Makes such a call: of a text in a byte order, of bytes, or about an offset in a text. */
-typedef void find_in_text(dethrux_byte_order order, const void *, size_t len, finding *);
-typedef void find_in_bytes(const void *, size_t len, finding *);
-typedef void find_at(dethrux_byte_order order, const void *, size_t len, size_t at, finding *);
+/* Makes such a call, in a byte order if it takes one, and at an offset if it takes one. */
+typedef void finder(dethrux_byte_order order, const void *, size_t len, size_t at, finding *);
 
 /* Returns a result as an object. */
 typedef PyObject *shown(const native *it, const finding *found);
@@ -328,40 +326,24 @@ static PyObject *show_inspection(const native *it, const finding *found) {
     return named_tuple(it->inspection, fields, 5);
 }
 
-/* Returns what a call finds in UTF-16. */
-static PyObject *found_in_text(const native *it, arguments given, find_in_text *find,
-                               shown *show) {
-    int order = order_of(it, given[1]);
-    input utf16;
-    if (order < 0 || !hold(given[0], &utf16)) {
+/* Returns what a call finds in the whole of an input, which `take` holds. */
+static PyObject *found_in(const native *it, arguments given, bool has_order,
+                          bool (*take)(PyObject *, input *), finder *find, shown *show) {
+    int order = has_order ? order_of(it, given[1]) : DETHRUX_NATIVE_ENDIAN;
+    input from;
+    if (order < 0 || !take(given[0], &from)) {
         return NULL;
     }
     finding found;
-    PyThreadState *saved = without_gil(utf16.without_gil);
-    find((dethrux_byte_order) order, utf16.bytes, utf16.len, &found);
+    PyThreadState *saved = without_gil(from.without_gil);
+    find((dethrux_byte_order) order, from.bytes, from.len, 0, &found);
     with_gil(saved);
-    release(&utf16);
-    return show(it, &found);
-}
-
-/* Returns what a call finds in bytes that `take` holds. */
-static PyObject *found_in_bytes(const native *it, arguments given,
-                                bool (*take)(PyObject *, input *), find_in_bytes *find,
-                                shown *show) {
-    input data;
-    if (!take(given[0], &data)) {
-        return NULL;
-    }
-    finding found;
-    PyThreadState *saved = without_gil(data.without_gil);
-    find(data.bytes, data.len, &found);
-    with_gil(saved);
-    release(&data);
+    release(&from);
     return show(it, &found);
 }
 
 /* Returns what a call, which reads a few bytes, finds about an offset in UTF-16. */
-static PyObject *found_at(const native *it, arguments given, find_at *find, shown *show) {
+static PyObject *found_at(const native *it, arguments given, finder *find, shown *show) {
     int order = order_of(it, given[1]);
     size_t at;
     input utf16;
@@ -374,21 +356,24 @@ static PyObject *found_at(const native *it, arguments given, find_at *find, show
     return show(it, &found);
 }
 
+/* Defines what makes a call. */
+#define DEFINE_FINDER(kind, name, call) \
+    static void find_##name(dethrux_byte_order order, const void *bytes, size_t len, size_t at, \
+                            finding *found) { \
+        (void) order; \
+        (void) at; \
+        found->kind = call; \
+    }
 /* Define the function of a call by its shape. */
 #define DEFINE_utf16(kind, name, symbol) \
-    static void find_##name(dethrux_byte_order order, const void *utf16, size_t len, \
-                            finding *found) { \
-        found->kind = symbol(order, utf16, len); \
-    } \
+    DEFINE_FINDER(kind, name, symbol(order, bytes, len)) \
     static PyObject *name(const native *it, arguments given) { \
-        return found_in_text(it, given, find_##name, show_##kind); \
+        return found_in(it, given, true, hold, find_##name, show_##kind); \
     }
 #define DEFINE_IN_BYTES(kind, name, symbol, take) \
-    static void find_##name(const void *bytes, size_t len, finding *found) { \
-        found->kind = symbol(bytes, len); \
-    } \
+    DEFINE_FINDER(kind, name, symbol(bytes, len)) \
     static PyObject *name(const native *it, arguments given) { \
-        return found_in_bytes(it, given, take, find_##name, show_##kind); \
+        return found_in(it, given, false, take, find_##name, show_##kind); \
     }
 #define DEFINE_bytes(kind, name, symbol) DEFINE_IN_BYTES(kind, name, symbol, hold)
 #define DEFINE_bytesForUtf16 DEFINE_bytes
@@ -396,10 +381,7 @@ static PyObject *found_at(const native *it, arguments given, find_at *find, show
 #define DEFINE_utf32(kind, name, symbol) DEFINE_IN_BYTES(kind, name, symbol, hold_utf32)
 #define DEFINE_utf32ForUtf16 DEFINE_utf32
 #define DEFINE_utf16At(kind, name, symbol) \
-    static void find_##name(dethrux_byte_order order, const void *utf16, size_t len, size_t at, \
-                            finding *found) { \
-        found->kind = symbol(order, utf16, len, at); \
-    } \
+    DEFINE_FINDER(kind, name, symbol(order, bytes, len, at)) \
     static PyObject *name(const native *it, arguments given) { \
         return found_at(it, given, find_##name, show_##kind); \
     }
