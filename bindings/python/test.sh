@@ -66,28 +66,9 @@ check_types() {
         "$here/src/dethrux" "$here/tests/typed.py"
 }
 
-# Runs the tests of a module, and counts each by the summary of unittest.
+# Runs the tests of a module.
 unit_tests() {
-    local module=$1 ran lost
-    (cd "$here/tests" && DETHRUX_TOP="$top" "$room/venv/bin/python" -m unittest "$module") \
-        > "$room/said" 2>&1
-    local status=$?
-    ran=$(sed -n 's/^Ran \([0-9]*\) tests\? in .*/\1/p' "$room/said")
-    lost=$(sed -n 's/^FAILED (\(.*\))$/\1/p' "$room/said" | grep -oE \
-        '(^|, )(failures|errors|unexpected successes)=[0-9]+' | grep -oE '[0-9]+' | paste -sd+)
-    lost=$((${lost:-0}))
-    if [ $status != 0 ] || [ "${ran:-0}" = 0 ]; then
-        [ $lost -gt 0 ] || lost=1
-        echo "failed: $module"
-        tail -n 40 "$room/said"
-    fi
-    passed=$((passed + (${ran:-0} > lost ? ${ran:-0} - lost : 0)))
-    failed=$((failed + lost))
-}
-
-# Whether each module of tests is run.
-runs_all() {
-    diff <(printf '%s.py\n' "${modules[@]}") <(cd "$here/tests" && ls test_*.py)
+    cd "$here/tests" && DETHRUX_TOP=$top "$room/venv/bin/python" shortest.py - "$1"
 }
 
 # Makes the source distribution, and the wheel, which pip makes of it.
@@ -161,11 +142,9 @@ check 'pip install' install_with_pip "$room/tree/bindings/python" || finish
 check 'what the tests build with' install_with_pip setuptools || finish
 check 'the first program' first_program
 check 'the page has the first program' page_has_program
-modules=(test_build test_calls test_codecs test_cpython test_fixed test_native test_package)
-modules+=(test_program test_wtf8)
-check 'each module of tests' runs_all
-for module in "${modules[@]}"; do
-    unit_tests $module
+for module in "$here"/tests/test_*.py; do
+    module=$(basename "$module" .py)
+    counts "$module" unit_tests "$module"
 done
 check 'the tables of cases' "$room/venv/bin/python" "$top/examples/c/check.py"
 check 'the warnings of the C compiler' compile_strictly

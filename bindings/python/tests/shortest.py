@@ -1,12 +1,14 @@
 """Runs tests up to the first failure, those that take least time first.
 
     python3 shortest.py TIMES MODULE..    (in this folder)
+    python3 shortest.py - MODULE..
 
 TIMES is a file with how many seconds of the processor each test took. If there is none, this runs
 all tests and writes it. A test that takes four times as long, and two seconds more, ends this
-process.
+process. With - it runs all tests in their order, and the last line is 'N passed, M failed'.
 """
 
+import io
 import json
 import signal
 import sys
@@ -35,6 +37,16 @@ def each(suite):
 
 
 path, *names = sys.argv[1:]
+if path == "-":
+    said = io.StringIO()
+    tests = unittest.defaultTestLoader.loadTestsFromNames(names)
+    result = unittest.TextTestRunner(said).run(tests)
+    failed = len([*result.failures, *result.errors, *result.unexpectedSuccesses])
+    # A module without a test fails.
+    failed += result.testsRun == 0
+    print(said.getvalue() if failed else "", end="")
+    print(f"{max(result.testsRun - failed, 0)} passed, {failed} failed")
+    sys.exit(failed != 0)
 times = json.loads(Path(path).read_text()) if Path(path).exists() else {}
 measured = {}
 tests = each(unittest.defaultTestLoader.loadTestsFromNames(names))

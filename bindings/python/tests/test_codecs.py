@@ -86,7 +86,8 @@ class Functions(Comparison):
                 raws = {it: b"".join(one.to_bytes(2, it) for one in units) + odd for it in CODECS}
                 for (order, raw), errors in itertools.product(raws.items(), HANDLERS):
                     self.assert_decoded(raw, order, errors)
-                for raw, errors in itertools.product(raws.values(), ("replace", None)):
+                handlers = "replace", None, "dethrux.test.wide"
+                for raw, errors in itertools.product(raws.values(), handlers):
                     for final in (False, True):
                         self.assert_like("utf_16_decode", raw, errors, final)
                         for order in (-1, 0, 1, True):

@@ -376,7 +376,7 @@ static PyObject *decoded(const native *it, dethrux_byte_order order, const input
             return decoded_by_python(order, utf16, start, name, final, read);
         }
     }
-    *read = final ? utf16->len : from.at;
+    *read = from.at;
     return finished(&from.to, is_decoded);
 }
 
