@@ -159,18 +159,15 @@ class Blocks(Comparison):
 
     def test_many_errors(self):
         """Eight times the errors take less than 32 times as long: a copy for each takes 64."""
-        answer = "\xe9" * (1 << 14)
-        codecs.register_error("dethrux.test.many", lambda error: (answer, error.end))
         for order, codec in CODECS.items():
             taken = []
-            for count in (1 << 7, 1 << 10):
+            for count in (1 << 13, 1 << 16):
                 raw = ("a\udc00" * count).encode(codec, "surrogatepass")
                 before = time.process_time()
-                found = dethrux.decode(raw, order, "dethrux.test.many")
+                found = dethrux.decode(raw, order, "backslashreplace")
                 taken.append(time.process_time() - before)
-                self.assertEqual(found, ("a" + answer) * count)
+                self.assertEqual(found, raw.decode(codec, "backslashreplace"))
             self.assertLess(taken[1], 32 * taken[0] + 0.1)
-            self.assert_decoded(raw * 16, order, "backslashreplace")
 
     def test_surrogates_at_a_border(self):
         """Two of them are not a pair in a str, also if a block ends between them."""

@@ -25,14 +25,8 @@ ORDERS = {"cat": "le be auto", "enc": "le be le-bom be-bom", "check": "le be aut
 # does not start; and an offset of more than 32 bits, which an int of Python has like any other.
 NOT_OF_PYTHON = "with_little_memory|with_fault|with_each|ulimit -v|< folder|head -c 4294967296"
 # What the commands of the table call.
-PRELUDE = """
-letters() { head -c "$1" /dev/zero | tr '\\0' a; }
-units() { letters "$1" | sed 's/a/a\\x0/g'; }
-reported() {
-    seq 0 2 $((2 * $1 - 2)) |
-        awk '{ printf "0x%X (%d): unpaired trailing surrogate DCDC\\n", $1, $1 }'
-}
-"""
+CALLED = re.compile(r"^(?:letters|units|reported)\(\) \{.*?\}\n", re.MULTILINE | re.DOTALL)
+PRELUDE = "".join(CALLED.findall(TABLE.with_suffix(".sh").read_text()))
 
 
 def rows():
@@ -51,25 +45,25 @@ def forked(*words, given=b"", folder="."):
 
     The output ends with what the program left of the input.
     """
-    with tempfile.TemporaryFile() as data, tempfile.TemporaryFile() as output:
-        with tempfile.TemporaryFile() as message:
-            files = data, output, message
-            data.write(given)
-            data.seek(0)
-            child = os.fork()
-            if child == 0:
-                try:
-                    os.chdir(folder)
-                    for number, file in enumerate(files):
-                        os.dup2(file.fileno(), number)
-                    os._exit(program.main([*map(os.fsdecode, words)]))
-                finally:
-                    os._exit(99)
-            status = os.waitstatus_to_exitcode(os.waitpid(child, 0)[1])
-            left = os.read(data.fileno(), len(given) + 1)
-            output.seek(0)
-            message.seek(0)
-            return status, output.read() + left, message.read()
+    with tempfile.TemporaryFile() as data, tempfile.TemporaryFile() as output, \
+            tempfile.TemporaryFile() as message:
+        files = data, output, message
+        data.write(given)
+        data.seek(0)
+        child = os.fork()
+        if child == 0:
+            try:
+                os.chdir(folder)
+                for number, file in enumerate(files):
+                    os.dup2(file.fileno(), number)
+                os._exit(program.main([*map(os.fsdecode, words)]))
+            finally:
+                os._exit(99)
+        status = os.waitstatus_to_exitcode(os.waitpid(child, 0)[1])
+        left = os.read(data.fileno(), len(given) + 1)
+        output.seek(0)
+        message.seek(0)
+        return status, output.read() + left, message.read()
 
 
 class Table(unittest.TestCase):
@@ -162,35 +156,36 @@ class Program(unittest.TestCase):
 
     def test_files(self):
         with tempfile.TemporaryDirectory() as folder:
-            path = Path(folder) / "notes.txt"
+            path, text = Path(folder) / "notes.txt", "gr\xfc\xdfe \U0001f600"
+            counts = b"bytes: 16, characters: 7, ill-formed: 0\n"
             for order, codec in (("le", "utf-16-le"), ("be", "utf-16-be")):
-                path.write_bytes("gr\xfc\xdfe \U0001f600".encode(codec))
-                expected = 0, "gr\xfc\xdfe \U0001f600".encode(), b""
-                self.assertEqual(forked("cat", order, path), expected)
-                expected = 0, b"bytes: 16, characters: 7, ill-formed: 0\n", b""
-                self.assertEqual(forked("check", order, path), expected)
-                path.write_bytes(b"le")
-                found = forked("enc", order, "notes.txt", folder=folder)
-                self.assertEqual(found, (0, "le".encode(codec), b""))
+                for name, given, expected in (
+                    ("cat", text.encode(codec), text.encode()),
+                    ("check", text.encode(codec), counts),
+                    ("enc", text.encode(), text.encode(codec)),
+                ):
+                    path.write_bytes(given)
+                    found = forked(name, order, "notes.txt", folder=folder)
+                    self.assertEqual(found, (0, expected, b""))
+                    self.assertEqual(forked(name, order, path), found)
             for name in ORDERS:
+                line = b": missing\xff: No such file or directory\n"
+                expected = 1, b"", f"dethrux {name}".encode() + line
                 for words in ([b"missing\xff"], ["le", b"missing\xff"]):
-                    line = b": missing\xff: No such file or directory\n"
-                    expected = 1, b"", f"dethrux {name}".encode() + line
                     self.assertEqual(forked(name, *words, folder=folder), expected)
                 line = f"dethrux {name}: read failed\n".encode()
                 self.assertEqual(forked(name, "le", folder), (1, b"", line))
 
     def test_the_default_byte_orders(self):
         # Only the first chunk has a BOM.
-        long = b"\xff\xfe" + b"a\0" * 100_000
-        counts = b"bytes: 200002, characters: 100000, ill-formed: 0\n"
+        long, counts = b"\xff\xfe" + b"a\0" * 100_000, b"bytes: 200002, characters: 100000"
         report = b"0x2 (2): incomplete character\nbytes: 3, characters: 0, ill-formed: 1\n"
         for name, given, status, output in (
             ("enc", b"a", 0, b"\xff\xfea\0"),
             ("cat", b"\xff\xfea\0", 0, b"a"),
             ("cat", b"\0a", 0, b"a"),
             ("cat", long, 0, b"a" * 100_000),
-            ("check", long, 0, counts),
+            ("check", long, 0, counts + b", ill-formed: 0\n"),
             ("check", b"\xff\xfea", 1, report),
         ):
             self.assertEqual(forked(name, given=given), (status, output, b""))
