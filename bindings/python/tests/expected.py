@@ -61,10 +61,10 @@ UTF8 = (
 _NUMBERS = {"at": 1, "order": 0, "length": 9, "count": 2, "index": 1}
 
 
-def stub():
-    """Yield each function of the extension, as the stub has it."""
+def stub(kind=ast.FunctionDef):
+    """Return each function of the extension, or another kind of node, as the stub has it."""
     text = Path(_native.__file__).with_name("_native.pyi").read_text()
-    yield from (it for it in ast.parse(text).body if isinstance(it, ast.FunctionDef))
+    return [it for it in ast.parse(text).body if isinstance(it, kind)]
 
 
 # The parameters of each function of the extension that have no default, and their types.

@@ -158,16 +158,16 @@ class Blocks(Comparison):
                     self.assert_decoded(raw, order, errors)
 
     def test_many_errors(self):
-        """Eight times the errors take less than 32 times as long: a copy for each takes 64."""
+        """Without more room than the next error needs it takes seven times as long as CPython."""
         for order, codec in CODECS.items():
-            taken = []
-            for count in (1 << 13, 1 << 16):
-                raw = ("a\udc00" * count).encode(codec, "surrogatepass")
-                before = time.process_time()
-                found = dethrux.decode(raw, order, "backslashreplace")
-                taken.append(time.process_time() - before)
-                self.assertEqual(found, raw.decode(codec, "backslashreplace"))
-            self.assertLess(taken[1], 32 * taken[0] + 0.1)
+            raw = ("\U0001f600\udc00" * (1 << 18)).encode(codec, "surrogatepass")
+            before = time.process_time()
+            found = dethrux.decode(raw, order, "backslashreplace")
+            between = time.process_time()
+            expected = raw.decode(codec, "backslashreplace")
+            after = time.process_time()
+            self.assertEqual(found, expected)
+            self.assertLess(between - before, 3 * (after - between) + 0.05)
 
     def test_surrogates_at_a_border(self):
         """Two of them are not a pair in a str, also if a block ends between them."""

@@ -1,5 +1,6 @@
 """The extension; the version; the program of the README; the public names."""
 
+import ast
 import os
 import re
 import shutil
@@ -11,7 +12,8 @@ import unittest
 from pathlib import Path
 
 import dethrux
-from expected import TOP
+from dethrux import _native, _types
+from expected import TOP, stub
 
 FOLDER = Path(dethrux.__file__).parent
 EXTENSION = f"_native{sysconfig.get_config_var('EXT_SUFFIX')}"
@@ -88,9 +90,13 @@ class Readme(unittest.TestCase):
 
 class Names(unittest.TestCase):
     def test_names(self):
-        public = {name for name in vars(dethrux) if not name.startswith("_")}
-        public -= {"codecs", "search"}
-        self.assertEqual(set(dethrux.__all__), {*public, "__version__"})
+        """The functions of the extension are those that type checkers see."""
+        lists = stub((ast.Assign, ast.AugAssign))
+        functions = {name for it in lists for name in ast.literal_eval(it.value)}
+        self.assertEqual({*_native.__all__}, functions)
+        names = {"Decoder", "Encoder", "StrictDecoder", "StrictEncoder", "StreamError"}
+        names |= {"decode_to_wtf8", "encode_from_wtf8", "iter_errors", "__version__"}
+        self.assertEqual(dethrux.__all__, sorted({*names, *_types.__all__, *functions}))
 
 
 if __name__ == "__main__":

@@ -29,6 +29,9 @@ def read(data: bytes, mapping: mmap.mmap, numbers: "array.array[int]", of_numpy:
     dethrux.decode_to_wtf8(of_numpy, "big")
     for error in dethrux.iter_errors(numbers, "big"):
         error.offset + error.len
+    bom: dethrux.Bom = dethrux.detect_bom(data, "little")
+    dethrux.validate(data, bom.byteorder)
+    dethrux.next_error(data, "little", 0)  # type: ignore[attr-defined]
     dethrux.validate("a", "little")  # type: ignore[arg-type]
     dethrux.validate(5, "little")  # type: ignore[arg-type]
     dethrux.validate(data, "middle")  # type: ignore[arg-type]

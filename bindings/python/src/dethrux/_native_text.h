@@ -89,7 +89,7 @@ static bool make_room(writer *it, size_t more, size_t later, dethrux_repertoire 
     }
     size_t room = it->len + more + later;
     if (it->text && repertoire <= it->repertoire) {
-        /* Else each of many errors with long replacements would copy the text. */
+        /* Else many errors with long replacements would copy the text often. */
         room += room / 4;
         repertoire = it->repertoire;
     }
