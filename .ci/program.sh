@@ -4,8 +4,9 @@
 # utf16_check in their crates; if there is none, it builds one over the crates that rt ci proved. A
 # program that is named is run over the cases of utf16_enc or utf16_check if the name of its file
 # begins so. RUN starts a program of another machine, such as `wine`, and CC compiles for it: a line
-# says how many cases need more than that. Prints each case that fails, and last a line
-# 'N passed, M failed'.
+# says how many cases need more than that. SAYS and USAGE are what the messages of a program in
+# another language begin with, for which a word besides a byte order names a file; LEFT_OUT says which
+# cases it does not have. Prints each case that fails, and last a line 'N passed, M failed'.
 set -uo pipefail
 top=$(cd "$(dirname "$0")/.." && pwd)
 room=$(mktemp -d)
@@ -22,6 +23,7 @@ case ${RUN-}${OS-} in
     *wine* | *Windows_NT) native='with_|ulimit|>&- 2>&-|\((letters|seq) .0000' preload='' ;;
     *) native='with_little_memory|ulimit -v' preload=QEMU_SET_ENV=LD_PRELOAD ;;
 esac
+native=${LEFT_OUT:-$native}
 export WINEDEBUG=-all
 [ -z "$preload" ] ||
     ${CC:-cc} -O2 -Wall -shared -fPIC -o faults.so "$top/.ci/faults.c" -ldl || exit 1
@@ -102,9 +104,9 @@ export P W A FRONT BIG preload
 # Runs a command over a file, and compares what it does with the output, the status and the message
 # of the row.
 try() {
-    local line="$name: $message\n" found
+    local line="$says: $message\n" found
     [ -n "$message" ] || line=''
-    [ "$message" != usage ] || line="usage: $name ${orders// /|}\n"
+    [ "$message" != usage ] || line="usage: $usage\n"
     # On a busy machine wine does not always start a program, so a case is tried twice.
     for _ in 1 ${RUN:+2}; do
         bash -c "$1" > found 2> errors < "$2"
@@ -130,13 +132,23 @@ make_startable() {
     fi
 }
 
+# Whether a program refuses words: all do, unless there are only a byte order and a file.
+is_refused() {
+    [ -n "${SAYS-}" ] || return 0
+    eval "set -- $1"
+    [[ " $orders " != *" $1 "* ]] || shift
+    [ $# -gt 1 ]
+}
+
 # Runs a program over the table.
 run() {
     local whose words input output status message each
     while IFS=$'\t' read -r whose words input output status message; do
         [[ $whose = all || utf16_$whose = "$name" ]] || continue
         [[ ! "$words $input" =~ $native ]] || { left_out=$((left_out + 1)) && continue; }
+        [ "$input" != ! ] || is_refused "$words" || continue
         [ "$input" != ! ] || input='h\0i\0' output='h\0i\0' status=2 message=usage
+        [ -z "${SAYS-}" ] || input=${input//\$P LE/\$P LE LE}
         W=le
         for each in words input output; do
             [ "${!each}" != - ] || printf -v $each ''
@@ -181,6 +193,9 @@ for program in "${programs[@]}"; do
         utf16_enc*) name=utf16_enc orders='le be le-bom be-bom' A=le-bom ;;
         utf16_check*) name=utf16_check BIG=trailing front=front_report ;;
     esac
+    # shellcheck disable=SC2059
+    says=$(printf "${SAYS:-utf16_%s}" "${name#utf16_}") \
+        usage=$(printf "${USAGE:-utf16_%s %s}" "${name#utf16_}" "${orders// /|}")
     run
 done
 [ $left_out = 0 ] || echo "$left_out cases are only for this machine"

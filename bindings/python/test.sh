@@ -71,6 +71,12 @@ unit_tests() {
     cd "$here/tests" && DETHRUX_TOP=$top "$room/venv/bin/python" shortest.py - "$1"
 }
 
+# Prints the folder in which pip has installed the package.
+packages() {
+    "$room/venv/bin/python" -c 'import pathlib, dethrux
+print(pathlib.Path(dethrux.__file__).parents[1])'
+}
+
 # Makes the source distribution, and the wheel, which pip makes of it.
 make_wheels() {
     WHEELS=$WHEELS PATH=$tools:$PATH "$top/packaging/wheels.sh" "$room/wheels"
@@ -146,7 +152,9 @@ for module in "$here"/tests/test_*.py; do
     module=$(basename "$module" .py)
     counts "$module" unit_tests "$module"
 done
-check 'the tables of cases' "$room/venv/bin/python" "$top/examples/c/check.py"
+counts 'the tables of cases' "$room/venv/bin/python" "$top/examples/c/check.py"
+counts 'the programs' env PYTHON="$room/venv/bin/python" PYTHONPATH="$(packages)" \
+    "$here/tests/programs.sh"
 check 'the warnings of the C compiler' compile_strictly
 test_wheels
 check 'mypy --strict' check_types

@@ -1,38 +1,22 @@
-"""``python -m dethrux cat|enc|check`` over the cases of ``.ci/program.txt``, and what it adds."""
+"""What ``python -m dethrux cat|enc|check`` adds to the programs, whose cases ``programs.sh`` runs."""
 
 import os
-import re
 import shlex
 import signal
 import subprocess
 import sys
 import tempfile
 import unittest
-from concurrent.futures import ThreadPoolExecutor
 from pathlib import Path
 from unittest import mock
 
 import dethrux
 from dethrux import __main__ as program
-from expected import TOP, peak
+from expected import peak
 
-TABLE = TOP / ".ci" / "program.txt"
 ENVIRONMENT = {**os.environ, "PYTHONPATH": str(Path(dethrux.__file__).parent.parent)}
 PYTHON = shlex.quote(sys.executable)
 ORDERS = {"cat": "le be auto", "enc": "le be le-bom be-bom", "check": "le be auto"}
-# Cases that do not apply: a fault of a call of the program's C library, which Python makes before
-# it runs this program; less memory than Python takes; a folder as standard input, with which Python
-# does not start; and an offset of more than 32 bits, which an int of Python has like any other.
-NOT_OF_PYTHON = "with_little_memory|with_fault|with_each|ulimit -v|< folder|head -c 4294967296"
-# What the commands of the table call.
-CALLED = re.compile(r"^(?:letters|units|reported)\(\) \{.*?\}\n", re.MULTILINE | re.DOTALL)
-PRELUDE = "".join(CALLED.findall(TABLE.with_suffix(".sh").read_text()))
-
-
-def rows():
-    """Return the columns of each row of the table."""
-    lines = TABLE.read_text().splitlines()
-    return [re.split(" {2,}", line) for line in lines if line and not line.startswith("#")]
 
 
 def usage(name):
@@ -66,91 +50,6 @@ def forked(*words, given=b"", folder="."):
         return status, output.read() + left, message.read()
 
 
-class Table(unittest.TestCase):
-    """Each case in a folder with the files of the table."""
-
-    @classmethod
-    def setUpClass(cls):
-        folder = tempfile.TemporaryDirectory()
-        cls.addClassCleanup(folder.cleanup)
-        cls.folder = Path(folder.name) / "files"
-        cls.folder.joinpath("folder").mkdir(parents=True)
-        for name in ORDERS:
-            script = cls.folder / name
-            script.write_text(f'#!/bin/sh\nexec {PYTHON} -S -m dethrux {name} "$@"\n')
-            script.chmod(0o755)
-        for whose, file, *command in rows():
-            if whose == "file":
-                cls.shell(f"{{ {command[0]}; }} > {file}")
-
-    @classmethod
-    def shell(cls, command, **named):
-        """Run a command of the table."""
-        words = ["bash", "-c", PRELUDE + command]
-        return subprocess.run(words, cwd=cls.folder, env=ENVIRONMENT, capture_output=True, **named)
-
-    @staticmethod
-    def printed(text):
-        """Return the bytes that printf writes."""
-        return b"" if text == "-" else text.encode().decode("unicode_escape").encode("latin-1")
-
-    def variables(self, name, order):
-        """Return what a command begins with."""
-        big, front = ("trailing", "front_report") if name == "check" else ("zeros", "front")
-        of_order = f"{front}_{order}"
-        front = of_order if (self.folder / of_order).exists() else front
-        other = "le-bom" if name == "enc" else "auto"
-        return f"P=./{name} W={order} A={other} BIG={big} FRONT={front}; "
-
-    def run_command(self, name, order, command):
-        """Run a command in a new folder. Return the status, the output and the message."""
-        place = "cd $(mktemp -d -p ..); ln -s ../files/* .; "
-        run = self.shell(self.variables(name, order) + place + command, input=b"h\0i\0")
-        return run.returncode, run.stdout, run.stderr
-
-    def is_refused(self, name, words):
-        """Return whether there is more than a byte order and a file."""
-        command = f"set -- {words}; printf '%s\\n' $# \"$1\""
-        count, first = self.run_command(name, "le", command)[1].split(b"\n")[:2]
-        return int(count) - (first.decode(errors="replace") in ORDERS[name]) > 1
-
-    def cases(self):
-        """Return each case that applies: a program, words or a command, and what is expected."""
-        for whose, words, *rest in rows():
-            given, output, status, message = (*rest, "", "", "")[:4]
-            if whose == "file" or re.search(NOT_OF_PYTHON, given):
-                continue
-            for name in ORDERS if whose == "all" else [whose]:
-                if given != "!":
-                    yield name, words, given, output, status, message
-                elif self.is_refused(name, words):
-                    command = f"$P {words}; s=$?; cat; exit $s"
-                    yield name, "$", command, r"h\0i\0", "2", "usage"
-
-    def test_each_case(self):
-        count, commands = 0, []
-        for name, words, given, output, status, message in self.cases():
-            line = usage(name) if message == "usage" else f"dethrux {name}: {message}\n".encode()
-            expected = int(status or 0), self.printed(output), line if message else b""
-            if words == "$":
-                # One word that is not a byte order names a file.
-                given = given.replace("$P LE", "$P LE LE")
-                orders = ORDERS[name].split() if "$W" in given else ["le"]
-                commands += [((name, order, given), expected) for order in orders]
-            else:
-                words = [] if words == "-" else shlex.split(words)
-                found = forked(name, *words, given=self.printed(given))
-                self.assertEqual(found, expected, (name, words, given))
-                count += 1
-        self.assertGreater(min(count, len(commands)), 90)
-        # After a failure no more commands begin.
-        pool = ThreadPoolExecutor(os.cpu_count())
-        self.addCleanup(pool.shutdown, cancel_futures=True)
-        found = pool.map(lambda command: self.run_command(*command[0]), commands)
-        for (command, expected), each in zip(commands, found):
-            self.assertEqual(each, expected, command)
-
-
 class Program(unittest.TestCase):
     """Files, the default byte orders, the help, interrupts, failures, and memory."""
 
@@ -180,13 +79,17 @@ class Program(unittest.TestCase):
         # Only the first chunk has a BOM.
         long, counts = b"\xff\xfe" + b"a\0" * 100_000, b"bytes: 200002, characters: 100000"
         report = b"0x2 (2): incomplete character\nbytes: 3, characters: 0, ill-formed: 1\n"
+        none = b"bytes: 2, characters: 0, ill-formed: 1\n"
         for name, given, status, output in (
             ("enc", b"a", 0, b"\xff\xfea\0"),
+            ("enc", b"\xef\xbb\xbfa", 0, b"\xff\xfea\0"),
+            ("enc", b"\xf0", 0, b"\xff\xfe\xfd\xff"),
             ("cat", b"\xff\xfea\0", 0, b"a"),
             ("cat", b"\0a", 0, b"a"),
             ("cat", long, 0, b"a" * 100_000),
             ("check", long, 0, counts + b", ill-formed: 0\n"),
             ("check", b"\xff\xfea", 1, report),
+            ("check", b"\xdc\0", 1, b"0x0 (0): unpaired trailing surrogate DC00\n" + none),
         ):
             self.assertEqual(forked(name, given=given), (status, output, b""))
 
