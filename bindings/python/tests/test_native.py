@@ -226,8 +226,8 @@ class Functions(unittest.TestCase):
             each = inspect.signature(function).parameters
             self.assertEqual({it.kind.name for it in each.values()}, {"POSITIONAL_OR_KEYWORD"})
             defaults = {it: each[it].default for it in each}
-            defaults = {it: defaults[it] for it in each if defaults[it] is not inspect._empty}
-            found[name] = defaults, [*each]
+            none = inspect.Parameter.empty
+            found[name] = {it: defaults[it] for it in each if defaults[it] is not none}, [*each]
         self.assertEqual({**found, "kernel": ({}, [])}, declared)
 
     def test_names(self):

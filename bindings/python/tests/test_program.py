@@ -1,4 +1,4 @@
-"""What ``python -m dethrux cat|enc|check`` adds to the programs, whose cases ``programs.sh`` runs."""
+"""What ``python -m dethrux`` adds to the programs, whose cases ``programs.sh`` runs."""
 
 import os
 import shlex
