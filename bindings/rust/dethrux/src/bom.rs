@@ -25,7 +25,7 @@ pub struct Bom {
 #[must_use]
 pub fn detect_bom(bytes: &[u8], default_order: ByteOrder) -> Option<Bom> {
     // SAFETY: the pointer and the length come from a slice.
-    let found = unsafe { ffi::dethrux_detect_bom(default_order, bytes.as_ptr(), bytes.len()) };
+    let found = unsafe { ffi::detect_bom(default_order, bytes.as_ptr(), bytes.len()) };
     let byte_order = if found.byte_order == 0 {
         ByteOrder::LittleEndian
     } else {

@@ -77,22 +77,24 @@ pub(crate) unsafe fn append(
     progress
 }
 
-/// Returns what a conversion writes to a vector of bytes or code units with this capacity.
+/// Returns the `T` that a conversion writes as `E`, in a vector with this capacity.
 ///
 /// # Safety
 ///
-/// The conversion returns as `written` how many bytes of its buffer it initialized: whole elements.
+/// The conversion returns as `written` how many `E` of its buffer it initialized: whole and valid
+/// `T`, which have the alignment of an `E` or a greater one.
 #[cfg(feature = "alloc")]
-pub(crate) unsafe fn filled<T>(
+pub(crate) unsafe fn filled<T, E>(
     capacity: usize,
-    convert: impl FnOnce(&mut [MaybeUninit<u8>]) -> Progress,
+    convert: impl FnOnce(&mut [MaybeUninit<E>]) -> Progress,
 ) -> (Vec<T>, Progress) {
+    let size = size_of::<T>() / size_of::<E>();
     let mut made: Vec<T> = Vec::with_capacity(capacity);
-    let (spare, bytes) = (made.as_mut_ptr().cast(), made.capacity() * size_of::<T>());
-    // SAFETY: the bytes of the elements may be written, and a byte needs no alignment.
-    let progress = convert(unsafe { slice::from_raw_parts_mut(spare, bytes) });
+    let (spare, len) = (made.as_mut_ptr().cast(), made.capacity() * size);
+    // SAFETY: the parts of the elements may be written, and the caller says that they are aligned.
+    let progress = convert(unsafe { slice::from_raw_parts_mut(spare, len) });
     // SAFETY: this many elements were initialized.
-    unsafe { made.set_len(progress.written / size_of::<T>()) };
+    unsafe { made.set_len(progress.written / size) };
     (trimmed(made), progress)
 }
 

@@ -1,6 +1,7 @@
 //! Conversions between buffers that the caller owns, and in place.
 
-use crate::{ffi, Buffer, ByteOrder};
+use crate::ffi::{self, safe};
+use crate::ByteOrder;
 
 /// Why a call stopped.
 #[derive(Clone, Copy, Debug, Eq, PartialEq)]
@@ -47,64 +48,39 @@ impl From<ffi::Progress> for Progress {
     }
 }
 
-/// Calls one of the library's conversions.
-pub(crate) fn convert<F, T, B: Buffer<T> + ?Sized>(
-    call: ffi::Convert<F, T>,
-    order: ByteOrder,
-    from: &[F],
-    to: &mut B,
-) -> Progress {
-    let (to, capacity) = to.raw();
-    // SAFETY: the pointers and the lengths come from two slices that do not overlap, since one is
-    // borrowed mutably. The calls write only initialized elements.
-    unsafe { call(order, from.as_ptr(), from.len(), to, capacity) }.into()
-}
+safe! {
+    /// Converts UTF-16 to UTF-8, up to the first ill-formed sequence. A capacity of
+    /// [`to_utf8_max_len`] suffices.
+    ///
+    /// ```
+    /// use dethrux::{to_utf8, ByteOrder::LittleEndian, Status};
+    ///
+    /// let mut utf8 = [0; 4];
+    /// let progress = to_utf8(LittleEndian, b"h\0i\0\0\xDC", &mut utf8);
+    /// assert_eq!(progress.status, Status::IllFormed(2));
+    /// assert_eq!((progress.read, &utf8[..progress.written]), (4, &b"hi"[..]));
+    /// ```
+    fn to_utf8(order: ByteOrder, utf16: &[u8], to: &mut [u8]) -> Progress;
 
-/// Converts UTF-16 to UTF-8, up to the first ill-formed sequence. A capacity of
-/// [`to_utf8_max_len`] suffices.
-///
-/// ```
-/// use dethrux::{to_utf8, ByteOrder::LittleEndian, Status};
-///
-/// let mut utf8 = [0; 4];
-/// let progress = to_utf8(LittleEndian, b"h\0i\0\0\xDC", &mut utf8);
-/// assert_eq!(progress.status, Status::IllFormed(2));
-/// assert_eq!((progress.read, &utf8[..progress.written]), (4, &b"hi"[..]));
-/// ```
-#[must_use]
-pub fn to_utf8<B: Buffer + ?Sized>(order: ByteOrder, utf16: &[u8], to: &mut B) -> Progress {
-    convert(ffi::dethrux_to_utf8, order, utf16, to)
-}
+    /// Converts UTF-16 to UTF-8 and replaces each unpaired surrogate, and an incomplete character
+    /// at the end, by U+FFFD: [`Status::Done`] or [`Status::NoSpace`].
+    fn to_utf8_lossy(order: ByteOrder, utf16: &[u8], to: &mut [u8]) -> Progress;
 
-/// Converts UTF-16 to UTF-8 and replaces each unpaired surrogate, and an incomplete character at
-/// the end, by U+FFFD: [`Status::Done`] or [`Status::NoSpace`].
-#[must_use]
-pub fn to_utf8_lossy<B: Buffer + ?Sized>(order: ByteOrder, utf16: &[u8], to: &mut B) -> Progress {
-    convert(ffi::dethrux_to_utf8_lossy, order, utf16, to)
-}
+    /// Converts the next chunk of a stream like [`to_utf8_lossy`], but does not read an incomplete
+    /// character at the end: [`Status::Done`], [`Status::Incomplete`] or [`Status::NoSpace`]. No
+    /// state is kept: put the 1 to 3 bytes that were not read before the next chunk. [`Decoder`]
+    /// does that.
+    ///
+    /// [`Decoder`]: crate::Decoder
+    fn to_utf8_partial(order: ByteOrder, utf16: &[u8], to: &mut [u8]) -> Progress;
 
-/// Converts the next chunk of a stream like [`to_utf8_lossy`], but does not read an incomplete
-/// character at the end: [`Status::Done`], [`Status::Incomplete`] or [`Status::NoSpace`]. No state
-/// is kept: put the 1 to 3 bytes that were not read before the next chunk. [`Decoder`] does that.
-///
-/// [`Decoder`]: crate::Decoder
-#[must_use]
-pub fn to_utf8_partial<B: Buffer + ?Sized>(order: ByteOrder, utf16: &[u8], to: &mut B) -> Progress {
-    convert(ffi::dethrux_to_utf8_partial, order, utf16, to)
-}
+    /// Converts UTF-8 to UTF-16, up to the first ill-formed sequence. A capacity of
+    /// [`from_utf8_max_len`] suffices.
+    fn from_utf8(order: ByteOrder, utf8: &[u8], to: &mut [u8]) -> Progress;
 
-/// Converts UTF-8 to UTF-16, up to the first ill-formed sequence. A capacity of
-/// [`from_utf8_max_len`] suffices.
-#[must_use]
-pub fn from_utf8<B: Buffer + ?Sized>(order: ByteOrder, utf8: &[u8], to: &mut B) -> Progress {
-    convert(ffi::dethrux_from_utf8, order, utf8, to)
-}
-
-/// Converts UTF-8 to UTF-16 and replaces each ill-formed sequence, as `String::from_utf8_lossy`
-/// does, by U+FFFD: [`Status::Done`] or [`Status::NoSpace`].
-#[must_use]
-pub fn from_utf8_lossy<B: Buffer + ?Sized>(order: ByteOrder, utf8: &[u8], to: &mut B) -> Progress {
-    convert(ffi::dethrux_from_utf8_lossy, order, utf8, to)
+    /// Converts UTF-8 to UTF-16 and replaces each ill-formed sequence, as `String::from_utf8_lossy`
+    /// does, by U+FFFD: [`Status::Done`] or [`Status::NoSpace`].
+    fn from_utf8_lossy(order: ByteOrder, utf8: &[u8], to: &mut [u8]) -> Progress;
 }
 
 /// Returns a capacity in bytes that suffices for the UTF-8 of every input of `len` bytes of UTF-16,
@@ -125,7 +101,7 @@ pub const fn from_utf8_max_len(len: usize) -> usize {
 /// the end is unchanged.
 pub fn swap_byte_order(utf16: &mut [u8]) {
     // SAFETY: the pointer and the length come from a mutable slice.
-    unsafe { ffi::dethrux_swap_byte_order(utf16.as_mut_ptr(), utf16.len()) }
+    unsafe { ffi::swap_byte_order(utf16.as_mut_ptr(), utf16.len()) }
 }
 
 /// Replaces each unpaired surrogate by U+FFFD in place, and returns how many there were. An odd
@@ -140,5 +116,5 @@ pub fn swap_byte_order(utf16: &mut [u8]) {
 /// ```
 pub fn make_well_formed(order: ByteOrder, utf16: &mut [u8]) -> usize {
     // SAFETY: the pointer and the length come from a mutable slice.
-    unsafe { ffi::dethrux_make_well_formed(order, utf16.as_mut_ptr(), utf16.len()) }
+    unsafe { ffi::make_well_formed(order, utf16.as_mut_ptr(), utf16.len()) }
 }

@@ -1,4 +1,5 @@
-//! The calls of the C library, as `include/dethrux.h` declares them, and the types that they have.
+//! The calls of the C library, as `include/dethrux.h` declares them, the types that they have, and
+//! the public functions that only pass on slices.
 
 use crate::ByteOrder;
 
@@ -56,9 +57,9 @@ impl<const N: usize> State<N> {
     }
 }
 
-/// A conversion between two buffers that the caller owns.
-pub(crate) type Convert<F = u8, T = u8> =
-    unsafe extern "C" fn(ByteOrder, *const F, usize, *mut T, usize) -> Progress;
+/// A search for a pattern.
+pub(crate) type Search =
+    unsafe extern "C" fn(ByteOrder, *const u8, usize, *const u8, usize) -> usize;
 
 /// A call that feeds a stream.
 pub(crate) type Feed<const N: usize> =
@@ -68,4 +69,81 @@ pub(crate) type Feed<const N: usize> =
 pub(crate) type Finish<const N: usize> =
     unsafe extern "C" fn(*mut State<N>, ByteOrder, *mut u8, usize) -> Progress;
 
+/// Declares the calls of `calls.rs`.
+macro_rules! calls {
+    (
+        conversions { $($name:ident($from:ident: $From:ty) -> $to:ident: $To:ty;)* }
+        others { $($other:ident($($parameter:ident: $Type:ty),*) $(-> $Result:ty)?;)* }
+    ) => {
+        extern "C" {
+            $(
+                #[link_name = concat!("dethrux_", stringify!($name))]
+                pub(crate) fn $name(
+                    order: ByteOrder,
+                    $from: *const $From,
+                    len: usize,
+                    $to: *mut $To,
+                    capacity: usize,
+                ) -> Progress;
+            )*
+            $(
+                #[link_name = concat!("dethrux_", stringify!($other))]
+                pub(crate) fn $other($($parameter: $Type),*) $(-> $Result)?;
+            )*
+        }
+    };
+}
+
 include!("calls.rs");
+
+/// Defines the public functions that do what the calls of the library with their names do. `to` may
+/// be any `Buffer`.
+macro_rules! safe {
+    () => {};
+    (
+        $(#[$doc:meta])*
+        fn $name:ident(order: ByteOrder, $from:ident: &[$From:ty], to: &mut [$To:ty]) -> Progress;
+        $($rest:tt)*
+    ) => {
+        $(#[$doc])*
+        #[must_use]
+        pub fn $name<B: crate::Buffer<$To> + ?Sized>(
+            order: ByteOrder,
+            $from: &[$From],
+            to: &mut B,
+        ) -> crate::Progress {
+            let (to, capacity) = to.raw();
+            // SAFETY: the pointers and the lengths come from two slices that do not overlap, since
+            // one is borrowed mutably. The calls write only initialized elements.
+            unsafe { ffi::$name(order, $from.as_ptr(), $from.len(), to, capacity) }.into()
+        }
+
+        $crate::ffi::safe! { $($rest)* }
+    };
+    (
+        $(#[$doc:meta])*
+        fn $name:ident(order: ByteOrder, $from:ident: &[u8] $(, $at:ident: $At:ty)?) -> $Result:ty;
+        $($rest:tt)*
+    ) => {
+        $(#[$doc])*
+        #[must_use]
+        pub fn $name(order: ByteOrder, $from: &[u8] $(, $at: $At)?) -> $Result {
+            // SAFETY: the pointer and the length come from a slice.
+            unsafe { ffi::$name(order, $from.as_ptr(), $from.len() $(, $at)?) }
+        }
+
+        $crate::ffi::safe! { $($rest)* }
+    };
+    ($(#[$doc:meta])* fn $name:ident($from:ident: &[$From:ty]) -> $Result:ty; $($rest:tt)*) => {
+        $(#[$doc])*
+        #[must_use]
+        pub fn $name($from: &[$From]) -> $Result {
+            // SAFETY: the pointer and the length come from a slice.
+            unsafe { ffi::$name($from.as_ptr(), $from.len()) }
+        }
+
+        $crate::ffi::safe! { $($rest)* }
+    };
+}
+
+pub(crate) use safe;

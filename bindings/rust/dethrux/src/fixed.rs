@@ -6,45 +6,34 @@ use core::{fmt, slice};
 
 #[cfg(feature = "alloc")]
 use crate::buffer::filled;
-use crate::convert::convert;
-use crate::{ffi, Buffer, ByteOrder, Progress};
+use crate::error::error_of_std;
+use crate::ffi::{self, safe};
+use crate::ByteOrder;
 #[cfg(feature = "alloc")]
 use crate::{from_utf8_max_len, Status, Utf16Error};
 
-/// Converts UTF-16 to UTF-32, up to the first ill-formed sequence. A capacity of
-/// [`to_utf32_max_len`] code units suffices, and a loop needs 1.
-///
-/// ```
-/// use dethrux::{to_utf32, ByteOrder::LittleEndian, Status};
-///
-/// let mut utf32 = [0; 2];
-/// let progress = to_utf32(LittleEndian, b"\x3D\xD8\0\xDEh\0i\0", &mut utf32);
-/// assert_eq!((progress.read, progress.written, progress.status), (6, 2, Status::NoSpace));
-/// assert_eq!(utf32, [0x1F600, 0x68]);
-/// ```
-#[must_use]
-pub fn to_utf32<B: Buffer<u32> + ?Sized>(order: ByteOrder, utf16: &[u8], to: &mut B) -> Progress {
-    convert(ffi::dethrux_to_utf32, order, utf16, to)
-}
+safe! {
+    /// Converts UTF-16 to UTF-32, up to the first ill-formed sequence. A capacity of
+    /// [`to_utf32_max_len`] code units suffices, and a loop needs 1.
+    ///
+    /// ```
+    /// use dethrux::{to_utf32, ByteOrder::LittleEndian, Status};
+    ///
+    /// let mut utf32 = [0; 2];
+    /// let progress = to_utf32(LittleEndian, b"\x3D\xD8\0\xDEh\0i\0", &mut utf32);
+    /// assert_eq!((progress.read, progress.written, progress.status), (6, 2, Status::NoSpace));
+    /// assert_eq!(utf32, [0x1F600, 0x68]);
+    /// ```
+    fn to_utf32(order: ByteOrder, utf16: &[u8], to: &mut [u32]) -> Progress;
 
-/// Converts UTF-16 to UTF-32 and replaces what is ill formed by U+FFFD, like
-/// [`to_utf8_lossy`](crate::to_utf8_lossy). A capacity of [`to_utf32_max_len`] code units suffices,
-/// and a loop needs 1.
-#[must_use]
-pub fn to_utf32_lossy<B: Buffer<u32> + ?Sized>(
-    order: ByteOrder,
-    utf16: &[u8],
-    to: &mut B,
-) -> Progress {
-    convert(ffi::dethrux_to_utf32_lossy, order, utf16, to)
-}
+    /// Converts UTF-16 to UTF-32 and replaces what is ill formed by U+FFFD, like
+    /// [`to_utf8_lossy`](crate::to_utf8_lossy). A capacity of [`to_utf32_max_len`] code units
+    /// suffices, and a loop needs 1.
+    fn to_utf32_lossy(order: ByteOrder, utf16: &[u8], to: &mut [u32]) -> Progress;
 
-/// Returns how many code units [`to_utf32_lossy`] writes for the whole input. For well-formed input
-/// this is the number of its characters.
-#[must_use]
-pub fn to_utf32_lossy_len(order: ByteOrder, utf16: &[u8]) -> usize {
-    // SAFETY: the pointer and the length come from a slice.
-    unsafe { ffi::dethrux_to_utf32_lossy_len(order, utf16.as_ptr(), utf16.len()) }
+    /// Returns how many code units [`to_utf32_lossy`] writes for the whole input. For well-formed
+    /// input this is the number of its characters.
+    fn to_utf32_lossy_len(order: ByteOrder, utf16: &[u8]) -> usize;
 }
 
 /// Returns a capacity in code units that suffices for the UTF-32 of every input of `len` bytes of
@@ -54,39 +43,27 @@ pub const fn to_utf32_max_len(len: usize) -> usize {
     len / 2 + len % 2
 }
 
-/// Converts UTF-32 to UTF-16, up to the first ill-formed code unit: a surrogate, or one above
-/// 0x10FFFF. A capacity of [`from_utf32_max_len`] bytes suffices, and a loop needs 4.
-///
-/// ```
-/// use dethrux::{from_utf32, ByteOrder::BigEndian, Status};
-///
-/// let mut utf16 = [0; 8];
-/// let progress = from_utf32(BigEndian, &[0x1F600, 0xD800], &mut utf16);
-/// assert_eq!((progress.read, progress.status), (1, Status::IllFormed(1)));
-/// assert_eq!(utf16[..progress.written], *b"\xD8\x3D\xDE\0");
-/// ```
-#[must_use]
-pub fn from_utf32<B: Buffer + ?Sized>(order: ByteOrder, utf32: &[u32], to: &mut B) -> Progress {
-    convert(ffi::dethrux_from_utf32, order, utf32, to)
-}
+safe! {
+    /// Converts UTF-32 to UTF-16, up to the first ill-formed code unit: a surrogate, or one above
+    /// 0x10FFFF. A capacity of [`from_utf32_max_len`] bytes suffices, and a loop needs 4.
+    ///
+    /// ```
+    /// use dethrux::{from_utf32, ByteOrder::BigEndian, Status};
+    ///
+    /// let mut utf16 = [0; 8];
+    /// let progress = from_utf32(BigEndian, &[0x1F600, 0xD800], &mut utf16);
+    /// assert_eq!((progress.read, progress.status), (1, Status::IllFormed(1)));
+    /// assert_eq!(utf16[..progress.written], *b"\xD8\x3D\xDE\0");
+    /// ```
+    fn from_utf32(order: ByteOrder, utf32: &[u32], to: &mut [u8]) -> Progress;
 
-/// Converts UTF-32 to UTF-16 and replaces each ill-formed code unit by U+FFFD. A capacity of
-/// [`from_utf32_max_len`] bytes suffices, and a loop needs 4.
-#[must_use]
-pub fn from_utf32_lossy<B: Buffer + ?Sized>(
-    order: ByteOrder,
-    utf32: &[u32],
-    to: &mut B,
-) -> Progress {
-    convert(ffi::dethrux_from_utf32_lossy, order, utf32, to)
-}
+    /// Converts UTF-32 to UTF-16 and replaces each ill-formed code unit by U+FFFD. A capacity of
+    /// [`from_utf32_max_len`] bytes suffices, and a loop needs 4.
+    fn from_utf32_lossy(order: ByteOrder, utf32: &[u32], to: &mut [u8]) -> Progress;
 
-/// Returns the length in bytes of what [`from_utf32_lossy`] writes for the whole input, in either
-/// byte order.
-#[must_use]
-pub fn from_utf32_lossy_len(utf32: &[u32]) -> usize {
-    // SAFETY: the pointer and the length come from a slice.
-    unsafe { ffi::dethrux_from_utf32_lossy_len(utf32.as_ptr(), utf32.len()) }
+    /// Returns the length in bytes of what [`from_utf32_lossy`] writes for the whole input, in
+    /// either byte order.
+    fn from_utf32_lossy_len(utf32: &[u32]) -> usize;
 }
 
 /// Returns a capacity in bytes that suffices for the UTF-16 of every input of `len` code units of
@@ -110,7 +87,7 @@ pub const fn from_utf32_max_len(len: usize) -> usize {
 /// ```
 pub fn validate_utf32(utf32: &[u32]) -> Result<(), Utf32Error> {
     // SAFETY: the pointer and the length come from a slice.
-    let found = unsafe { ffi::dethrux_validate_utf32(utf32.as_ptr(), utf32.len()) };
+    let found = unsafe { ffi::validate_utf32(utf32.as_ptr(), utf32.len()) };
     let valid_up_to = found.valid_up_to;
     match found.status {
         0 => Ok(()),
@@ -148,29 +125,25 @@ pub fn utf32_as_chars(utf32: &[u32]) -> Result<&[char], Utf32Error> {
     Ok(unsafe { slice::from_raw_parts(utf32.as_ptr().cast(), utf32.len()) })
 }
 
-/// Converts UTF-16 to Latin-1 (ISO 8859-1), a byte for each character, up to the first ill-formed
-/// sequence, or up to the first character above U+00FF, which is
-/// [`Status::NotLatin1`](crate::Status::NotLatin1). A capacity of half the length suffices, and a
-/// loop needs 1.
-///
-/// ```
-/// use dethrux::{to_latin1, ByteOrder::LittleEndian, Status};
-///
-/// let mut latin1 = [0; 3];
-/// let progress = to_latin1(LittleEndian, b"h\0\xE9\0\x05\x26", &mut latin1);
-/// assert_eq!((progress.read, progress.status), (4, Status::NotLatin1));
-/// assert_eq!(latin1[..progress.written], *b"h\xE9");
-/// ```
-#[must_use]
-pub fn to_latin1<B: Buffer + ?Sized>(order: ByteOrder, utf16: &[u8], to: &mut B) -> Progress {
-    convert(ffi::dethrux_to_latin1, order, utf16, to)
-}
+safe! {
+    /// Converts UTF-16 to Latin-1 (ISO 8859-1), a byte for each character, up to the first
+    /// ill-formed sequence, or up to the first character above U+00FF, which is
+    /// [`Status::NotLatin1`](crate::Status::NotLatin1). A capacity of half the length suffices, and
+    /// a loop needs 1.
+    ///
+    /// ```
+    /// use dethrux::{to_latin1, ByteOrder::LittleEndian, Status};
+    ///
+    /// let mut latin1 = [0; 3];
+    /// let progress = to_latin1(LittleEndian, b"h\0\xE9\0\x05\x26", &mut latin1);
+    /// assert_eq!((progress.read, progress.status), (4, Status::NotLatin1));
+    /// assert_eq!(latin1[..progress.written], *b"h\xE9");
+    /// ```
+    fn to_latin1(order: ByteOrder, utf16: &[u8], to: &mut [u8]) -> Progress;
 
-/// Converts Latin-1 (ISO 8859-1), which is never ill formed, to UTF-16. A capacity of
-/// [`from_utf8_max_len`](crate::from_utf8_max_len) suffices, and a loop needs 2.
-#[must_use]
-pub fn from_latin1<B: Buffer + ?Sized>(order: ByteOrder, latin1: &[u8], to: &mut B) -> Progress {
-    convert(ffi::dethrux_from_latin1, order, latin1, to)
+    /// Converts Latin-1 (ISO 8859-1), which is never ill formed, to UTF-16. A capacity of
+    /// [`from_utf8_max_len`](crate::from_utf8_max_len) suffices, and a loop needs 2.
+    fn from_latin1(order: ByteOrder, latin1: &[u8], to: &mut [u8]) -> Progress;
 }
 
 /// The code units are not UTF-32.
@@ -193,16 +166,7 @@ impl fmt::Display for Utf32Error {
     }
 }
 
-#[cfg(feature = "std")]
-impl std::error::Error for Utf32Error {}
-
-/// An error of the kind `InvalidData`. `get_ref` and `downcast_ref` return the [`Utf32Error`].
-#[cfg(feature = "std")]
-impl From<Utf32Error> for std::io::Error {
-    fn from(error: Utf32Error) -> Self {
-        std::io::Error::new(std::io::ErrorKind::InvalidData, error)
-    }
-}
+error_of_std! { Utf32Error }
 
 /// Returns the characters of UTF-16.
 ///
@@ -219,7 +183,10 @@ impl From<Utf32Error> for std::io::Error {
 /// ```
 #[cfg(feature = "alloc")]
 pub fn decode_to_chars(order: ByteOrder, utf16: &[u8]) -> Result<Vec<char>, Utf16Error> {
-    let (chars, progress) = chars_by(ffi::dethrux_to_utf32, order, utf16);
+    let len = to_utf32_lossy_len(order, utf16);
+    // SAFETY: the library initializes what it wrote, and writes the numbers of characters.
+    let (chars, progress) =
+        unsafe { filled::<char, u32>(len, |spare| to_utf32(order, utf16, spare)) };
     Utf16Error::after(progress).map_or(Ok(chars), Err)
 }
 
@@ -228,22 +195,9 @@ pub fn decode_to_chars(order: ByteOrder, utf16: &[u8]) -> Result<Vec<char>, Utf1
 #[cfg(feature = "alloc")]
 #[must_use]
 pub fn decode_to_chars_lossy(order: ByteOrder, utf16: &[u8]) -> Vec<char> {
-    chars_by(ffi::dethrux_to_utf32_lossy, order, utf16).0
-}
-
-/// Returns the characters that a conversion to UTF-32 writes, and how far it came. The vector has
-/// no spare capacity for well-formed input.
-#[cfg(feature = "alloc")]
-fn chars_by(call: ffi::Convert<u8, u32>, order: ByteOrder, utf16: &[u8]) -> (Vec<char>, Progress) {
-    let mut chars: Vec<char> = Vec::with_capacity(to_utf32_lossy_len(order, utf16));
-    let (to, capacity) = (chars.as_mut_ptr().cast(), chars.capacity());
-    // SAFETY: the pointers and the lengths are a slice's and the vector's, and a `char` has the
-    // size and the alignment of a `u32`.
-    let progress =
-        Progress::from(unsafe { call(order, utf16.as_ptr(), utf16.len(), to, capacity) });
-    // SAFETY: the library initialized this many elements, each with the number of a character.
-    unsafe { chars.set_len(progress.written) };
-    (chars, progress)
+    let len = to_utf32_lossy_len(order, utf16);
+    // SAFETY: the library initializes what it wrote, and writes the numbers of characters.
+    unsafe { filled::<char, u32>(len, |spare| to_utf32_lossy(order, utf16, spare)).0 }
 }
 
 /// Returns UTF-32 in UTF-16. For characters: `encode_from_utf32(order, chars_as_utf32(chars))`.

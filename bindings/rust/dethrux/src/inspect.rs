@@ -2,7 +2,8 @@
 
 use core::cmp::Ordering;
 
-use crate::{ffi, ByteOrder, Utf16Error};
+use crate::ffi::{self, safe};
+use crate::{ByteOrder, Utf16Error};
 
 /// Tests that the bytes are UTF-16.
 ///
@@ -20,7 +21,7 @@ use crate::{ffi, ByteOrder, Utf16Error};
 /// ```
 pub fn validate(order: ByteOrder, utf16: &[u8]) -> Result<(), Utf16Error> {
     // SAFETY: the pointer and the length come from a slice.
-    let found = unsafe { ffi::dethrux_validate(order, utf16.as_ptr(), utf16.len()) };
+    let found = unsafe { ffi::validate(order, utf16.as_ptr(), utf16.len()) };
     error(found.valid_up_to, found.status, found.error_len).map_or(Ok(()), Err)
 }
 
@@ -74,7 +75,7 @@ pub struct Inspection {
 #[must_use]
 pub fn inspect(order: ByteOrder, utf16: &[u8]) -> Inspection {
     // SAFETY: the pointer and the length come from a slice.
-    let found = unsafe { ffi::dethrux_inspect(order, utf16.as_ptr(), utf16.len()) };
+    let found = unsafe { ffi::inspect(order, utf16.as_ptr(), utf16.len()) };
     Inspection {
         valid_up_to: found.valid_up_to,
         chars: found.chars,
@@ -88,72 +89,55 @@ pub fn inspect(order: ByteOrder, utf16: &[u8]) -> Inspection {
     }
 }
 
-/// Returns the number of characters (scalar values). For ill-formed input: the number of complete
-/// code units that are not trailing surrogates.
-#[must_use]
-pub fn count_chars(order: ByteOrder, utf16: &[u8]) -> usize {
-    // SAFETY: the pointer and the length come from a slice.
-    unsafe { ffi::dethrux_count_chars(order, utf16.as_ptr(), utf16.len()) }
-}
+safe! {
+    /// Returns the number of characters (scalar values). For ill-formed input: the number of
+    /// complete code units that are not trailing surrogates.
+    fn count_chars(order: ByteOrder, utf16: &[u8]) -> usize;
 
-/// Returns whether the bytes are UTF-16 whose characters are all ASCII.
-#[must_use]
-pub fn is_ascii(order: ByteOrder, utf16: &[u8]) -> bool {
-    // SAFETY: the pointer and the length come from a slice.
-    unsafe { ffi::dethrux_is_ascii(order, utf16.as_ptr(), utf16.len()) }
-}
+    /// Returns whether the bytes are UTF-16 whose characters are all ASCII.
+    fn is_ascii(order: ByteOrder, utf16: &[u8]) -> bool;
 
-/// Returns whether `at` is a boundary between characters: the length, or a smaller even offset that
-/// is neither inside a surrogate pair nor between a leading surrogate and a single byte at the end.
-/// An unpaired surrogate counts as a character, and so does an incomplete one at the end, of 1 to 3
-/// bytes.
-///
-/// ```
-/// use dethrux::{is_char_boundary, ByteOrder::BigEndian};
-///
-/// // "a", and three bytes of U+1F600.
-/// let utf16 = b"\0a\xD8\x3D\xDE";
-/// let boundaries = (0..9).filter(|at| is_char_boundary(BigEndian, utf16, *at));
-/// assert!(boundaries.eq([0, 2, 5]));
-/// ```
-#[must_use]
-pub fn is_char_boundary(order: ByteOrder, utf16: &[u8], at: usize) -> bool {
-    // SAFETY: the pointer and the length come from a slice.
-    unsafe { ffi::dethrux_is_char_boundary(order, utf16.as_ptr(), utf16.len(), at) }
-}
+    /// Returns whether `at` is a boundary between characters: the length, or a smaller even offset
+    /// that is neither inside a surrogate pair nor between a leading surrogate and a single byte at
+    /// the end. An unpaired surrogate counts as a character, and so does an incomplete one at the
+    /// end, of 1 to 3 bytes.
+    ///
+    /// ```
+    /// use dethrux::{is_char_boundary, ByteOrder::BigEndian};
+    ///
+    /// // "a", and three bytes of U+1F600.
+    /// let utf16 = b"\0a\xD8\x3D\xDE";
+    /// let boundaries = (0..9).filter(|at| is_char_boundary(BigEndian, utf16, *at));
+    /// assert!(boundaries.eq([0, 2, 5]));
+    /// ```
+    fn is_char_boundary(order: ByteOrder, utf16: &[u8], at: usize) -> bool;
 
-/// Returns the greatest boundary at or before `at`: at most 3 bytes before the smaller of `at` and
-/// the length.
-///
-/// ```
-/// use dethrux::ByteOrder::LittleEndian;
-///
-/// // "a", then U+1F600 of four bytes.
-/// let utf16 = b"a\0\x3D\xD8\0\xDE";
-/// assert_eq!(dethrux::floor_char_boundary(LittleEndian, utf16, 5), 2);
-/// ```
-#[must_use]
-pub fn floor_char_boundary(order: ByteOrder, utf16: &[u8], at: usize) -> usize {
-    // SAFETY: the pointer and the length come from a slice.
-    unsafe { ffi::dethrux_floor_char_boundary(order, utf16.as_ptr(), utf16.len(), at) }
-}
+    /// Returns the greatest boundary at or before `at`: at most 3 bytes before the smaller of `at`
+    /// and the length.
+    ///
+    /// ```
+    /// use dethrux::ByteOrder::LittleEndian;
+    ///
+    /// // "a", then U+1F600 of four bytes.
+    /// let utf16 = b"a\0\x3D\xD8\0\xDE";
+    /// assert_eq!(dethrux::floor_char_boundary(LittleEndian, utf16, 5), 2);
+    /// ```
+    fn floor_char_boundary(order: ByteOrder, utf16: &[u8], at: usize) -> usize;
 
-/// Returns the greatest boundary at or before offset `at` of a file, from a few of its bytes: the
-/// four from `(at / 2 * 2).saturating_sub(2)` on, or as many as the file has. With these bytes, and
-/// if `at` is at most the length of the file, the result is the one of [`floor_char_boundary`] over
-/// the whole file. For any bytes it is at most 3 bytes before `at`.
-///
-/// ```
-/// use dethrux::ByteOrder::LittleEndian;
-///
-/// // The file's bytes from 998 on: U+1F600 of four bytes.
-/// let around = b"\x3D\xD8\0\xDE";
-/// assert_eq!(dethrux::floor_char_boundary_around(LittleEndian, around, 1000), 998);
-/// ```
-#[must_use]
-pub fn floor_char_boundary_around(order: ByteOrder, around: &[u8], at: u64) -> u64 {
-    // SAFETY: the pointer and the length come from a slice.
-    unsafe { ffi::dethrux_floor_char_boundary_around(order, around.as_ptr(), around.len(), at) }
+    /// Returns the greatest boundary at or before offset `at` of a file, from a few of its bytes:
+    /// the four from `(at / 2 * 2).saturating_sub(2)` on, or as many as the file has. With these
+    /// bytes, and if `at` is at most the length of the file, the result is the one of
+    /// [`floor_char_boundary`] over the whole file. For any bytes it is at most 3 bytes before
+    /// `at`.
+    ///
+    /// ```
+    /// use dethrux::ByteOrder::LittleEndian;
+    ///
+    /// // The file's bytes from 998 on: U+1F600 of four bytes.
+    /// let around = b"\x3D\xD8\0\xDE";
+    /// assert_eq!(dethrux::floor_char_boundary_around(LittleEndian, around, 1000), 998);
+    /// ```
+    fn floor_char_boundary_around(order: ByteOrder, around: &[u8], at: u64) -> u64;
 }
 
 /// Returns the offset where part `index` of `count` parts begins in a file of `len` bytes: `len`
@@ -167,59 +151,42 @@ pub fn floor_char_boundary_around(order: ByteOrder, around: &[u8], at: u64) -> u
 #[must_use]
 pub fn shard_offset(len: u64, count: u64, index: u64) -> u64 {
     // SAFETY: the call takes only numbers.
-    unsafe { ffi::dethrux_shard_offset(len, count, index) }
+    unsafe { ffi::shard_offset(len, count, index) }
 }
 
-/// Returns the length of what [`to_utf8_lossy`](crate::to_utf8_lossy) writes for the whole input.
-#[must_use]
-pub fn to_utf8_lossy_len(order: ByteOrder, utf16: &[u8]) -> usize {
-    // SAFETY: the pointer and the length come from a slice.
-    unsafe { ffi::dethrux_to_utf8_lossy_len(order, utf16.as_ptr(), utf16.len()) }
-}
+safe! {
+    /// Returns the length of what [`to_utf8_lossy`](crate::to_utf8_lossy) writes for the whole
+    /// input.
+    fn to_utf8_lossy_len(order: ByteOrder, utf16: &[u8]) -> usize;
 
-/// Returns the length of what [`from_utf8`](crate::from_utf8) writes for the longest well-formed
-/// prefix, in either byte order.
-#[must_use]
-pub fn from_utf8_len(utf8: &[u8]) -> usize {
-    // SAFETY: the pointer and the length come from a slice.
-    unsafe { ffi::dethrux_from_utf8_len(utf8.as_ptr(), utf8.len()) }
-}
+    /// Returns the length of what [`from_utf8`](crate::from_utf8) writes for the longest
+    /// well-formed prefix, in either byte order.
+    fn from_utf8_len(utf8: &[u8]) -> usize;
 
-/// Returns the length of what [`from_utf8_lossy`](crate::from_utf8_lossy) writes for the whole
-/// input, in either byte order.
-#[must_use]
-pub fn from_utf8_lossy_len(utf8: &[u8]) -> usize {
-    // SAFETY: the pointer and the length come from a slice.
-    unsafe { ffi::dethrux_from_utf8_lossy_len(utf8.as_ptr(), utf8.len()) }
-}
+    /// Returns the length of what [`from_utf8_lossy`](crate::from_utf8_lossy) writes for the whole
+    /// input, in either byte order.
+    fn from_utf8_lossy_len(utf8: &[u8]) -> usize;
 
-/// Returns how many U+FFFD [`to_utf8_lossy`](crate::to_utf8_lossy) writes for ill-formed sequences
-/// of the whole input: 0 exactly if the input is UTF-16.
-///
-/// ```
-/// use dethrux::ByteOrder::LittleEndian;
-///
-/// // U+FFFD, an unpaired surrogate, and half a code unit.
-/// let utf16 = b"\xFD\xFF\0\xDCa";
-/// assert_eq!(dethrux::to_utf8_replacements(LittleEndian, utf16), 2);
-/// ```
-#[must_use]
-pub fn to_utf8_replacements(order: ByteOrder, utf16: &[u8]) -> usize {
-    // SAFETY: the pointer and the length come from a slice.
-    unsafe { ffi::dethrux_to_utf8_replacements(order, utf16.as_ptr(), utf16.len()) }
-}
+    /// Returns how many U+FFFD [`to_utf8_lossy`](crate::to_utf8_lossy) writes for ill-formed
+    /// sequences of the whole input: 0 exactly if the input is UTF-16.
+    ///
+    /// ```
+    /// use dethrux::ByteOrder::LittleEndian;
+    ///
+    /// // U+FFFD, an unpaired surrogate, and half a code unit.
+    /// let utf16 = b"\xFD\xFF\0\xDCa";
+    /// assert_eq!(dethrux::to_utf8_replacements(LittleEndian, utf16), 2);
+    /// ```
+    fn to_utf8_replacements(order: ByteOrder, utf16: &[u8]) -> usize;
 
-/// Returns how many U+FFFD [`from_utf8_lossy`](crate::from_utf8_lossy) writes for ill-formed
-/// sequences of the whole input: 0 exactly if the input is UTF-8.
-///
-/// ```
-/// // U+FFFD, a byte that begins nothing, and the start of U+4E00.
-/// assert_eq!(dethrux::from_utf8_replacements(b"\xEF\xBF\xBD\xFF\xE4\xB8"), 2);
-/// ```
-#[must_use]
-pub fn from_utf8_replacements(utf8: &[u8]) -> usize {
-    // SAFETY: the pointer and the length come from a slice.
-    unsafe { ffi::dethrux_from_utf8_replacements(utf8.as_ptr(), utf8.len()) }
+    /// Returns how many U+FFFD [`from_utf8_lossy`](crate::from_utf8_lossy) writes for ill-formed
+    /// sequences of the whole input: 0 exactly if the input is UTF-8.
+    ///
+    /// ```
+    /// // U+FFFD, a byte that begins nothing, and the start of U+4E00.
+    /// assert_eq!(dethrux::from_utf8_replacements(b"\xEF\xBF\xBD\xFF\xE4\xB8"), 2);
+    /// ```
+    fn from_utf8_replacements(utf8: &[u8]) -> usize;
 }
 
 /// Compares two texts by their scalar values, each in its byte order: the order of `str` on what
@@ -242,7 +209,7 @@ pub fn compare(
 ) -> Ordering {
     // SAFETY: the pointers and the lengths come from slices.
     let found = unsafe {
-        ffi::dethrux_compare(
+        ffi::compare(
             first_order,
             first.as_ptr(),
             first.len(),
@@ -274,16 +241,7 @@ pub fn compare(
 /// ```
 #[must_use]
 pub fn find(order: ByteOrder, utf16: &[u8], pattern: &[u8]) -> Option<usize> {
-    // SAFETY: the pointers and the lengths come from slices.
-    offset(unsafe {
-        ffi::dethrux_find(
-            order,
-            utf16.as_ptr(),
-            utf16.len(),
-            pattern.as_ptr(),
-            pattern.len(),
-        )
-    })
+    search(ffi::find, order, utf16, pattern)
 }
 
 /// Returns the greatest offset at which a pattern occurs as in [`find`]. For the empty pattern it
@@ -296,37 +254,29 @@ pub fn find(order: ByteOrder, utf16: &[u8], pattern: &[u8]) -> Option<usize> {
 /// ```
 #[must_use]
 pub fn rfind(order: ByteOrder, utf16: &[u8], pattern: &[u8]) -> Option<usize> {
+    search(ffi::rfind, order, utf16, pattern)
+}
+
+safe! {
+    /// Returns the offset of the first NUL (U+0000), or the length if there is none. So
+    /// `&utf16[..nul_offset(utf16)]` is the string in a buffer of fixed size, in either byte order.
+    ///
+    /// A NUL is two zero bytes at an even offset. An odd byte at the end is not part of one.
+    ///
+    /// ```
+    /// use dethrux::nul_offset;
+    ///
+    /// assert_eq!(nul_offset(b"a\0b\0\0\0\0\0"), 4);
+    /// // U+0061 and U+0100: the zero bytes are of two code units.
+    /// assert_eq!(nul_offset(b"a\0\0\x01"), 4);
+    /// ```
+    fn nul_offset(utf16: &[u8]) -> usize;
+}
+
+/// Returns the offset that a search of the library finds, if there is one.
+fn search(call: ffi::Search, order: ByteOrder, utf16: &[u8], pattern: &[u8]) -> Option<usize> {
+    let (at, len) = (pattern.as_ptr(), pattern.len());
     // SAFETY: the pointers and the lengths come from slices.
-    offset(unsafe {
-        ffi::dethrux_rfind(
-            order,
-            utf16.as_ptr(),
-            utf16.len(),
-            pattern.as_ptr(),
-            pattern.len(),
-        )
-    })
-}
-
-/// Returns the offset of the first NUL (U+0000), or the length if there is none. So
-/// `&utf16[..nul_offset(utf16)]` is the string in a buffer of fixed size, in either byte order.
-///
-/// A NUL is two zero bytes at an even offset. An odd byte at the end is not part of one.
-///
-/// ```
-/// use dethrux::nul_offset;
-///
-/// assert_eq!(nul_offset(b"a\0b\0\0\0\0\0"), 4);
-/// // U+0061 and U+0100: the zero bytes are of two code units.
-/// assert_eq!(nul_offset(b"a\0\0\x01"), 4);
-/// ```
-#[must_use]
-pub fn nul_offset(utf16: &[u8]) -> usize {
-    // SAFETY: the pointer and the length come from a slice.
-    unsafe { ffi::dethrux_nul_offset(utf16.as_ptr(), utf16.len()) }
-}
-
-/// The offset that a search returned.
-fn offset(found: usize) -> Option<usize> {
+    let found = unsafe { call(order, utf16.as_ptr(), utf16.len(), at, len) };
     (found != ffi::NOT_FOUND).then_some(found)
 }

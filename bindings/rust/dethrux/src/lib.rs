@@ -80,43 +80,21 @@ mod units;
 mod wtf8;
 mod wtf8_stream;
 
-pub use bom::{detect_bom, Bom};
+pub use bom::*;
 pub use buffer::Buffer;
-pub use chunks::{Utf16Chunk, Utf16Chunks};
-pub use convert::{
-    from_utf8, from_utf8_lossy, from_utf8_max_len, make_well_formed, swap_byte_order, to_utf8,
-    to_utf8_lossy, to_utf8_max_len, to_utf8_partial, Progress, Status,
-};
-pub use display::{display, Display};
-pub use error::Utf16Error;
-pub use fixed::{
-    chars_as_utf32, from_latin1, from_utf32, from_utf32_lossy, from_utf32_lossy_len,
-    from_utf32_max_len, to_latin1, to_utf32, to_utf32_lossy, to_utf32_lossy_len, to_utf32_max_len,
-    utf32_as_chars, validate_utf32, Utf32Error,
-};
+pub use chunks::*;
+pub use convert::*;
+pub use display::*;
+pub use error::*;
+pub use fixed::*;
+pub use inspect::*;
+pub use order::*;
+pub use stream::*;
 #[cfg(feature = "alloc")]
-pub use fixed::{decode_to_chars, decode_to_chars_lossy, encode_from_latin1, encode_from_utf32};
-pub use inspect::{
-    compare, count_chars, find, floor_char_boundary, floor_char_boundary_around, from_utf8_len,
-    from_utf8_lossy_len, from_utf8_replacements, inspect, is_ascii, is_char_boundary, nul_offset,
-    rfind, shard_offset, to_utf8_lossy_len, to_utf8_replacements, validate, Inspection, Repertoire,
-};
-pub use order::ByteOrder;
-pub use stream::{Decoder, Encoder};
-#[cfg(feature = "alloc")]
-pub use text::{
-    decode, decode_lossy, decode_to, decode_units, encode, encode_lossy, encode_to, encode_units,
-};
-pub use units::{units_as_bytes, units_as_bytes_mut, validate_units, UnitsError};
-#[cfg(feature = "alloc")]
-pub use wtf8::{decode_to_wtf8, encode_from_wtf8, units_from_wtf8, units_to_wtf8};
-pub use wtf8::{
-    from_wtf8, from_wtf8_len, from_wtf8_partial, to_wtf8, to_wtf8_len, to_wtf8_max_len,
-    to_wtf8_partial, Wtf8Error,
-};
-#[cfg(all(feature = "std", any(unix, windows)))]
-pub use wtf8::{os_string_from_units, units_from_os_str};
-pub use wtf8_stream::{Wtf8Decoder, Wtf8Encoder};
+pub use text::*;
+pub use units::*;
+pub use wtf8::*;
+pub use wtf8_stream::*;
 
 /// Returns the version of the library: major, minor and patch.
 ///
@@ -129,7 +107,7 @@ pub use wtf8_stream::{Wtf8Decoder, Wtf8Encoder};
 #[must_use]
 pub fn version() -> (u32, u32, u32) {
     // SAFETY: the call has no precondition.
-    let version = unsafe { ffi::dethrux_version() };
+    let version = unsafe { ffi::version() };
     (
         version / 1_000_000,
         version / 1_000 % 1_000,
@@ -151,7 +129,7 @@ pub fn version() -> (u32, u32, u32) {
 pub fn kernel() -> &'static str {
     // SAFETY: the call has no precondition, and returns a constant in ASCII that ends with a zero.
     unsafe {
-        let name = ffi::dethrux_kernel();
+        let name = ffi::kernel();
         let len = (0..).take_while(|&at| *name.add(at) != 0).count();
         core::str::from_utf8_unchecked(core::slice::from_raw_parts(name, len))
     }

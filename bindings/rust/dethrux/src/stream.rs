@@ -122,7 +122,7 @@ impl Decoder {
     /// [`Status::NoSpace`]: crate::Status::NoSpace
     #[must_use]
     pub fn feed<B: Buffer + ?Sized>(&mut self, chunk: &[u8], to: &mut B) -> Progress {
-        self.stream.feed(ffi::dethrux_decoder_feed, chunk, to)
+        self.stream.feed(ffi::decoder_feed, chunk, to)
     }
 
     /// Decodes the next chunk and appends its text. It allocates at most once.
@@ -157,7 +157,7 @@ impl Decoder {
 
     /// Ends the stream and begins another. Returns how many bytes were written.
     fn finish_to(&mut self, to: &mut [u8]) -> usize {
-        self.stream.finish(ffi::dethrux_decoder_finish, to).written
+        self.stream.finish(ffi::decoder_finish, to).written
     }
 }
 
@@ -193,7 +193,7 @@ impl Encoder {
     /// [`Status::NoSpace`]: crate::Status::NoSpace
     #[must_use]
     pub fn feed<B: Buffer + ?Sized>(&mut self, chunk: &[u8], to: &mut B) -> Progress {
-        self.stream.feed(ffi::dethrux_encoder_feed, chunk, to)
+        self.stream.feed(ffi::encoder_feed, chunk, to)
     }
 
     /// Encodes the next chunk and appends its UTF-16. It allocates at most once.
@@ -227,7 +227,7 @@ impl Encoder {
 
     /// Ends the stream and begins another. Returns how many bytes were written.
     fn finish_to(&mut self, to: &mut [u8]) -> usize {
-        self.stream.finish(ffi::dethrux_encoder_finish, to).written
+        self.stream.finish(ffi::encoder_finish, to).written
     }
 }
 

@@ -1,5 +1,6 @@
-use core::{fmt, mem, slice};
+use core::{mem, slice};
 
+use crate::error::error;
 use crate::{validate, ByteOrder, Utf16Error};
 
 /// Returns the bytes of code units, without a copy. Their byte order is [`ByteOrder::NATIVE`].
@@ -32,58 +33,26 @@ pub fn units_as_bytes_mut(units: &mut [u16]) -> &mut [u8] {
     unsafe { slice::from_raw_parts_mut(units.as_mut_ptr().cast(), mem::size_of_val(units)) }
 }
 
-/// The code units are not well-formed UTF-16. It is [`Utf16Error`], but counts code units.
-#[derive(Clone, Copy, Debug, Eq, PartialEq)]
-pub struct UnitsError {
-    valid_up_to: usize,
-    error_len: Option<u8>,
-}
-
-impl UnitsError {
+error! {
+    /// The code units are not well-formed UTF-16. It is [`Utf16Error`], but counts code units.
+    pub struct UnitsError;
     /// Returns the length of the longest well-formed prefix, in code units.
-    #[must_use]
-    pub fn valid_up_to(&self) -> usize {
-        self.valid_up_to
-    }
-
+    pub fn valid_up_to;
     /// Returns the length of the ill-formed sequence after that prefix, in code units: an unpaired
     /// surrogate, of 1. Decoding resumes after it. Returns `None` if the code units end inside a
     /// surrogate pair.
-    #[must_use]
-    pub fn error_len(&self) -> Option<usize> {
-        self.error_len.map(usize::from)
-    }
+    pub fn error_len;
+    |_, at| "unpaired surrogate at code unit {at}",
+        "incomplete surrogate pair from code unit {at}";
+}
 
+impl UnitsError {
     /// Returns an error about the bytes of code units.
     pub(crate) fn of_bytes(error: Utf16Error) -> Self {
         UnitsError {
             valid_up_to: error.valid_up_to / 2,
             error_len: error.error_len.map(|len| len / 2),
         }
-    }
-}
-
-impl fmt::Display for UnitsError {
-    fn fmt(&self, f: &mut fmt::Formatter<'_>) -> fmt::Result {
-        match self.error_len {
-            Some(_) => write!(f, "unpaired surrogate at code unit {}", self.valid_up_to),
-            None => write!(
-                f,
-                "incomplete surrogate pair from code unit {}",
-                self.valid_up_to
-            ),
-        }
-    }
-}
-
-#[cfg(feature = "std")]
-impl std::error::Error for UnitsError {}
-
-/// An error of the kind `InvalidData`. `get_ref` and `downcast_ref` return the [`UnitsError`].
-#[cfg(feature = "std")]
-impl From<UnitsError> for std::io::Error {
-    fn from(error: UnitsError) -> Self {
-        std::io::Error::new(std::io::ErrorKind::InvalidData, error)
     }
 }
 

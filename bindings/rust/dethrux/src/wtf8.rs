@@ -2,75 +2,53 @@
 
 #[cfg(feature = "alloc")]
 use alloc::vec::Vec;
-use core::fmt;
 #[cfg(all(feature = "std", any(unix, windows)))]
 use std::ffi::{OsStr, OsString};
 
-use crate::convert::convert;
+use crate::error::error;
+use crate::ffi::{self, safe};
+use crate::ByteOrder;
 #[cfg(feature = "alloc")]
-use crate::{buffer::filled, from_utf8_max_len, units_as_bytes, Status, Utf16Error};
-use crate::{ffi, Buffer, ByteOrder, Progress};
+use crate::{buffer::filled, from_utf8_max_len, units_as_bytes, Progress, Utf16Error};
 
-/// Converts all code units of UTF-16 to WTF-8, with each unpaired surrogate as itself. A capacity
-/// of [`to_wtf8_max_len`] suffices. [`Status::Incomplete`](crate::Status::Incomplete) is an odd
-/// byte at the end, which is not read.
-///
-/// ```
-/// use dethrux::{to_wtf8, ByteOrder::LittleEndian};
-///
-/// let mut wtf8 = [0; 8];
-/// let progress = to_wtf8(LittleEndian, b"h\0\x3D\xD8i\0", &mut wtf8);
-/// assert_eq!(wtf8[..progress.written], *b"h\xED\xA0\xBDi");
-/// ```
-#[must_use]
-pub fn to_wtf8<B: Buffer + ?Sized>(order: ByteOrder, utf16: &[u8], to: &mut B) -> Progress {
-    convert(ffi::dethrux_to_wtf8, order, utf16, to)
-}
+safe! {
+    /// Converts all code units of UTF-16 to WTF-8, with each unpaired surrogate as itself. A
+    /// capacity of [`to_wtf8_max_len`] suffices. [`Status::Incomplete`](crate::Status::Incomplete)
+    /// is an odd byte at the end, which is not read.
+    ///
+    /// ```
+    /// use dethrux::{to_wtf8, ByteOrder::LittleEndian};
+    ///
+    /// let mut wtf8 = [0; 8];
+    /// let progress = to_wtf8(LittleEndian, b"h\0\x3D\xD8i\0", &mut wtf8);
+    /// assert_eq!(wtf8[..progress.written], *b"h\xED\xA0\xBDi");
+    /// ```
+    fn to_wtf8(order: ByteOrder, utf16: &[u8], to: &mut [u8]) -> Progress;
 
-/// Converts the next chunk of a stream like [`to_wtf8`], but does not read a leading surrogate at
-/// the end, which a trailing one may follow. With
-/// [`Status::Incomplete`](crate::Status::Incomplete) put the 1 to 3 bytes that were not read before
-/// the next chunk, and at the end of the stream pass them to [`to_wtf8`].
-#[must_use]
-pub fn to_wtf8_partial<B: Buffer + ?Sized>(order: ByteOrder, utf16: &[u8], to: &mut B) -> Progress {
-    convert(ffi::dethrux_to_wtf8_partial, order, utf16, to)
-}
+    /// Converts the next chunk of a stream like [`to_wtf8`], but does not read a leading surrogate
+    /// at the end, which a trailing one may follow. With
+    /// [`Status::Incomplete`](crate::Status::Incomplete) put the 1 to 3 bytes that were not read
+    /// before the next chunk, and at the end of the stream pass them to [`to_wtf8`].
+    fn to_wtf8_partial(order: ByteOrder, utf16: &[u8], to: &mut [u8]) -> Progress;
 
-/// Converts WTF-8 to UTF-16, up to the first ill-formed sequence, with each surrogate as one code
-/// unit. A capacity of [`from_utf8_max_len`](crate::from_utf8_max_len) suffices. A trailing
-/// surrogate directly after a leading one is ill formed: the WTF-8 of a pair is the four bytes of
-/// its character.
-#[must_use]
-pub fn from_wtf8<B: Buffer + ?Sized>(order: ByteOrder, wtf8: &[u8], to: &mut B) -> Progress {
-    convert(ffi::dethrux_from_wtf8, order, wtf8, to)
-}
+    /// Converts WTF-8 to UTF-16, up to the first ill-formed sequence, with each surrogate as one
+    /// code unit. A capacity of [`from_utf8_max_len`](crate::from_utf8_max_len) suffices. A
+    /// trailing surrogate directly after a leading one is ill formed: the WTF-8 of a pair is the
+    /// four bytes of its character.
+    fn from_wtf8(order: ByteOrder, wtf8: &[u8], to: &mut [u8]) -> Progress;
 
-/// Converts the next chunk of a stream like [`from_wtf8`], but does not read what more bytes could
-/// change at the end. With [`Status::Incomplete`](crate::Status::Incomplete) put the 1 to 6 bytes
-/// that were not read before the next chunk, and at the end of the stream pass them to
-/// [`from_wtf8`].
-#[must_use]
-pub fn from_wtf8_partial<B: Buffer + ?Sized>(
-    order: ByteOrder,
-    wtf8: &[u8],
-    to: &mut B,
-) -> Progress {
-    convert(ffi::dethrux_from_wtf8_partial, order, wtf8, to)
-}
+    /// Converts the next chunk of a stream like [`from_wtf8`], but does not read what more bytes
+    /// could change at the end. With [`Status::Incomplete`](crate::Status::Incomplete) put the 1 to
+    /// 6 bytes that were not read before the next chunk, and at the end of the stream pass them to
+    /// [`from_wtf8`].
+    fn from_wtf8_partial(order: ByteOrder, wtf8: &[u8], to: &mut [u8]) -> Progress;
 
-/// Returns the length of what [`to_wtf8`] writes for the whole input.
-#[must_use]
-pub fn to_wtf8_len(order: ByteOrder, utf16: &[u8]) -> usize {
-    // SAFETY: the pointer and the length come from a slice.
-    unsafe { ffi::dethrux_to_wtf8_len(order, utf16.as_ptr(), utf16.len()) }
-}
+    /// Returns the length of what [`to_wtf8`] writes for the whole input.
+    fn to_wtf8_len(order: ByteOrder, utf16: &[u8]) -> usize;
 
-/// Returns the length of what [`from_wtf8`] writes for the longest well-formed prefix, in either
-/// byte order.
-#[must_use]
-pub fn from_wtf8_len(wtf8: &[u8]) -> usize {
-    // SAFETY: the pointer and the length come from a slice.
-    unsafe { ffi::dethrux_from_wtf8_len(wtf8.as_ptr(), wtf8.len()) }
+    /// Returns the length of what [`from_wtf8`] writes for the longest well-formed prefix, in
+    /// either byte order.
+    fn from_wtf8_len(wtf8: &[u8]) -> usize;
 }
 
 /// Returns a capacity in bytes that suffices for the WTF-8 of every input of `len` bytes of UTF-16,
@@ -80,63 +58,28 @@ pub const fn to_wtf8_max_len(len: usize) -> usize {
     (len / 2).saturating_mul(3)
 }
 
-/// The bytes are not WTF-8. It has the fields of std's [`Utf8Error`].
-///
-/// [`Utf8Error`]: core::str::Utf8Error
-#[derive(Clone, Copy, Debug, Eq, PartialEq)]
-pub struct Wtf8Error {
-    valid_up_to: usize,
-    error_len: Option<u8>,
-}
-
-impl Wtf8Error {
+error! {
+    /// The bytes are not WTF-8. It has the fields of std's [`Utf8Error`].
+    ///
+    /// [`Utf8Error`]: core::str::Utf8Error
+    pub struct Wtf8Error;
     /// Returns the length of the longest prefix that is WTF-8, in bytes.
-    #[must_use]
-    pub fn valid_up_to(&self) -> usize {
-        self.valid_up_to
-    }
-
+    pub fn valid_up_to;
     /// Returns the length of the ill-formed sequence after that prefix, in bytes, 1 to 3. Returns
     /// `None` if the input ends inside a character or surrogate.
-    #[must_use]
-    pub fn error_len(&self) -> Option<usize> {
-        self.error_len.map(usize::from)
-    }
-}
-
-impl fmt::Display for Wtf8Error {
-    fn fmt(&self, f: &mut fmt::Formatter<'_>) -> fmt::Result {
-        let at = self.valid_up_to;
-        match self.error_len {
-            Some(len) => write!(f, "invalid wtf-8 sequence of {len} bytes from index {at}"),
-            None => write!(f, "incomplete wtf-8 byte sequence from index {at}"),
-        }
-    }
-}
-
-#[cfg(feature = "std")]
-impl std::error::Error for Wtf8Error {}
-
-/// An error of the kind `InvalidData`. `get_ref` and `downcast_ref` return the [`Wtf8Error`].
-#[cfg(feature = "std")]
-impl From<Wtf8Error> for std::io::Error {
-    fn from(error: Wtf8Error) -> Self {
-        std::io::Error::new(std::io::ErrorKind::InvalidData, error)
-    }
+    pub fn error_len;
+    |len, at| "invalid wtf-8 sequence of {len} bytes from index {at}",
+        "incomplete wtf-8 byte sequence from index {at}";
 }
 
 /// Returns what a conversion from WTF-8 made with enough capacity, or its error.
 #[cfg(feature = "alloc")]
 fn tested<T>((made, progress): (T, Progress)) -> Result<T, Wtf8Error> {
-    let error_len = match progress.status {
-        Status::Done => return Ok(made),
-        Status::IllFormed(len) => Some(len as u8),
-        _ => None,
+    let error = |error: Utf16Error| Wtf8Error {
+        valid_up_to: error.valid_up_to,
+        error_len: error.error_len,
     };
-    Err(Wtf8Error {
-        valid_up_to: progress.read,
-        error_len,
-    })
+    Utf16Error::after(progress).map_or(Ok(made), |it| Err(error(it)))
 }
 
 /// Returns all code units of UTF-16 in WTF-8.

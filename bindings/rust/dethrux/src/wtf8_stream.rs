@@ -45,7 +45,7 @@ impl Wtf8Decoder {
     /// [`Status::NoSpace`]: crate::Status::NoSpace
     #[must_use]
     pub fn feed<B: Buffer + ?Sized>(&mut self, chunk: &[u8], to: &mut B) -> Progress {
-        self.stream.feed(ffi::dethrux_wtf8_decoder_feed, chunk, to)
+        self.stream.feed(ffi::wtf8_decoder_feed, chunk, to)
     }
 
     /// Decodes the next chunk and appends its WTF-8. It allocates at most once.
@@ -67,7 +67,7 @@ impl Wtf8Decoder {
     /// [`Status::NoSpace`]: crate::Status::NoSpace
     #[must_use]
     pub fn finish<B: Buffer + ?Sized>(&mut self, to: &mut B) -> Progress {
-        self.stream.finish(ffi::dethrux_wtf8_decoder_finish, to)
+        self.stream.finish(ffi::wtf8_decoder_finish, to)
     }
 }
 
@@ -112,7 +112,7 @@ impl Wtf8Encoder {
     /// [`Status::NoSpace`]: crate::Status::NoSpace
     #[must_use]
     pub fn feed<B: Buffer + ?Sized>(&mut self, chunk: &[u8], to: &mut B) -> Progress {
-        self.stream.feed(ffi::dethrux_wtf8_encoder_feed, chunk, to)
+        self.stream.feed(ffi::wtf8_encoder_feed, chunk, to)
     }
 
     /// Drops the pending bytes, and returns how many there were.
@@ -143,6 +143,6 @@ impl Wtf8Encoder {
     /// [`Status::NoSpace`]: crate::Status::NoSpace
     #[must_use]
     pub fn finish<B: Buffer + ?Sized>(&mut self, to: &mut B) -> Progress {
-        self.stream.finish(ffi::dethrux_wtf8_encoder_finish, to)
+        self.stream.finish(ffi::wtf8_encoder_finish, to)
     }
 }

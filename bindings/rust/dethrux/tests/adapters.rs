@@ -1,7 +1,7 @@
 //! The adapters for `Read` and `Write`: chunks and buffers of any length, and errors.
 
 use dethrux::io::{Reader, Writer};
-use dethrux::ByteOrder::{self, BigEndian, LittleEndian};
+use dethrux::ByteOrder::{BigEndian, LittleEndian};
 use dethrux::{decode_lossy, encode, encode_lossy, Decoder, Encoder, Utf16Error};
 use std::io::{BufRead, Error, ErrorKind, Read, Result, Write};
 
@@ -268,31 +268,6 @@ fn a_writer_without_its_end_keeps_what_is_incomplete() {
 }
 
 #[test]
-fn each_number_of_pending_bytes_ends_both_adapters() {
-    for len in 1..=3 {
-        for (order, utf16, replacement) in [
-            (LittleEndian, b"\x3D\xD8\0\xDE", b"\xFD\xFF"),
-            (BigEndian, b"\xD8\x3D\xDE\0", b"\xFF\xFD"),
-        ] {
-            let reader = Reader::new(&utf16[..len], Decoder::new(order));
-            assert_eq!(read_all(reader, 2).0, "\u{FFFD}".as_bytes());
-            let mut writer = Writer::new(Vec::new(), Decoder::new(order));
-            writer.write_all(&utf16[..len]).unwrap();
-            writer.finish().unwrap();
-            assert_eq!(writer.into_inner(), "\u{FFFD}".as_bytes());
-
-            let utf8 = &"\u{1F600}".as_bytes()[..len];
-            let reader = Reader::new(utf8, Encoder::new(order));
-            assert_eq!(read_all(reader, 2).0, replacement);
-            let mut writer = Writer::new(Vec::new(), Encoder::new(order));
-            writer.write_all(utf8).unwrap();
-            writer.finish().unwrap();
-            assert_eq!(writer.into_inner(), replacement);
-        }
-    }
-}
-
-#[test]
 fn a_reader_returns_the_errors_of_the_inner_one() {
     for len in [1, 3, 4, 100] {
         let steps = Steps::new([Err(fault("1")), Ok(&b"a\0\0"[..]), Err(fault("3"))]);
@@ -312,81 +287,27 @@ fn a_reader_returns_the_errors_of_the_inner_one() {
     }
 }
 
-/// The bytes of code units.
-fn bytes(order: ByteOrder, units: &[u16]) -> Vec<u8> {
-    let unit_bytes = |unit: &u16| match order {
-        LittleEndian => unit.to_le_bytes(),
-        BigEndian => unit.to_be_bytes(),
-    };
-    units.iter().flat_map(unit_bytes).collect()
-}
-
-/// Texts in a byte order, well formed and ill formed, of even and of odd lengths.
-fn streams(order: ByteOrder) -> Vec<Vec<u8>> {
-    let units: [&[u16]; 7] = [
-        &[],
-        &[0x61],
-        &[0xFEFF, 0x61],
-        &[0xD83D, 0xDE00, 0x2605],
-        &[0xDC00, 0x61, 0x62],
-        &[0x61, 0xD800, 0x62],
-        &[0x61, 0x62, 0xD800],
-    ];
-    let whole = units.map(|units| bytes(order, units));
-    let odd = whole.clone().map(|utf16| [&utf16[..], b"\xD8"].concat());
-    whole.into_iter().chain(odd).collect()
-}
-
-#[test]
-fn a_mark_says_the_byte_order() {
-    for (order, mark) in [(LittleEndian, b"\xFF\xFE"), (BigEndian, b"\xFE\xFF")] {
-        for (utf16, default_order) in streams(order)
-            .iter()
-            .flat_map(|utf16| [(utf16, LittleEndian), (utf16, BigEndian)])
-        {
-            let stream = [mark, &utf16[..]].concat();
-            let expected = decode_lossy(order, utf16).into_bytes();
-            for len in 1..5 {
-                let steps = Steps::new(stream.chunks(len).map(Ok));
-                let reader = Reader::with_bom(steps, default_order).unwrap();
-                assert_eq!(read_all(reader, 3).0, expected, "{stream:X?}");
-            }
-        }
-    }
-}
-
-#[test]
-fn a_stream_without_a_mark_is_in_the_default_order() {
-    for order in [LittleEndian, BigEndian] {
-        let marks: [&[u8]; 2] = [b"\xFF\xFE", b"\xFE\xFF"];
-        let has_mark = |utf16: &[u8]| marks.iter().any(|mark| utf16.starts_with(mark));
-        for utf16 in streams(order).iter().filter(|utf16| !has_mark(utf16)) {
-            let expected = decode_lossy(order, utf16).into_bytes();
-            for len in 1..5 {
-                let steps = Steps::new(utf16.chunks(len).map(Ok));
-                let reader = Reader::with_bom(steps, order).unwrap();
-                assert_eq!(read_all(reader, 3).0, expected, "{utf16:X?}");
-            }
-        }
-        for byte in [b"a", b"\xFE", b"\xFF"] {
-            let reader = Reader::with_bom(&byte[..], order).unwrap();
-            assert_eq!(read_all(reader, 4).0, "\u{FFFD}".as_bytes());
-        }
-    }
-}
-
 #[test]
 fn a_mark_is_looked_for_in_two_bytes() {
     for stream in [
         &b""[..],
         b"a",
+        b"\xFF",
         b"a\0",
         b"\xFF\xFE",
         b"\xFE\xFF\0a",
         b"a\0b\0c\0",
     ] {
-        let reader = Reader::with_bom(stream, LittleEndian).unwrap();
-        assert_eq!(*reader.get_ref(), &stream[stream.len().min(2)..]);
+        for order in [LittleEndian, BigEndian] {
+            let reader = Reader::with_bom(stream, order).unwrap();
+            assert_eq!(*reader.get_ref(), &stream[stream.len().min(2)..]);
+            let text = match stream {
+                [0xFE, 0xFF, utf16 @ ..] => decode_lossy(BigEndian, utf16),
+                [0xFF, 0xFE, utf16 @ ..] => decode_lossy(LittleEndian, utf16),
+                _ => decode_lossy(order, stream),
+            };
+            assert_eq!(read_all(reader, 3).0, text.as_bytes());
+        }
     }
 }
 
@@ -431,60 +352,13 @@ fn fields(error: &Error) -> (usize, Option<usize>) {
     (inner.valid_up_to(), inner.error_len())
 }
 
-/// Reads through a buffer of `len` bytes to the end or to an error about the UTF-16, which comes
-/// again. Other errors are only counted.
-fn read_strictly(mut reader: impl Read, len: usize) -> (String, Option<(usize, Option<usize>)>) {
+/// Reads to an error about the UTF-16 through a buffer of `len` bytes.
+fn read_strictly(mut reader: impl Read, len: usize) -> (String, (usize, Option<usize>)) {
     let (mut all, mut buffer) = (Vec::new(), vec![0; len]);
-    let end = loop {
+    loop {
         match reader.read(&mut buffer) {
-            Ok(0) => break None,
             Ok(read) => all.extend(&buffer[..read]),
-            Err(error) if error.kind() == ErrorKind::InvalidData => break Some(fields(&error)),
-            Err(_) => {}
-        }
-    };
-    for _ in 0..2 {
-        let again = reader.read(&mut buffer);
-        assert_eq!(
-            again.map_err(|error| fields(&error)),
-            end.map_or(Ok(0), Err)
-        );
-    }
-    (String::from_utf8(all).unwrap(), end)
-}
-
-/// Code units, their text before the first error, and the error.
-type Strict = (&'static [u16], &'static str, Option<(usize, Option<usize>)>);
-
-const STRICT: [Strict; 8] = [
-    (&[], "", None),
-    (&[0x61, 0xD83D, 0xDE00, 0x2605], "a\u{1F600}★", None),
-    (&[0xFEFF, 0x61], "\u{FEFF}a", None),
-    (&[0xDC00, 0x61], "", Some((0, Some(2)))),
-    (&[0x61, 0xD800, 0x62], "a", Some((2, Some(2)))),
-    (&[0x61, 0xD800, 0xD800, 0xDC00], "a", Some((2, Some(2)))),
-    (&[0x61, 0x62, 0xDC00], "ab", Some((4, Some(2)))),
-    (&[0x61, 0xD800], "a", Some((2, None))),
-];
-
-#[test]
-fn a_strict_reader_stops_at_the_first_error_wherever_the_stream_is_cut() {
-    for order in [LittleEndian, BigEndian] {
-        for (units, text, error) in STRICT {
-            let even = bytes(order, units);
-            let odd = [&even[..], b"\xD8"].concat();
-            // An odd byte is incomplete, unless there is an error before it.
-            let odd_error = error.or(Some((even.len(), None)));
-            for (utf16, end) in [(even, error), (odd, odd_error)] {
-                for (len, buffer_len) in (1..6).flat_map(|len| (1..9).map(move |it| (len, it))) {
-                    let wanted = (text.to_string(), end);
-                    let steps = Steps::new(utf16.chunks(len).map(Ok));
-                    let reader = Reader::strict(steps, order);
-                    assert_eq!(read_strictly(reader, buffer_len), wanted, "{utf16:X?}");
-                    let reader = Reader::strict(Steps::slow(&utf16, len), order);
-                    assert_eq!(read_strictly(reader, buffer_len), wanted, "{utf16:X?}");
-                }
-            }
+            Err(error) => return (String::from_utf8(all).unwrap(), fields(&error)),
         }
     }
 }
@@ -492,25 +366,23 @@ fn a_strict_reader_stops_at_the_first_error_wherever_the_stream_is_cut() {
 #[test]
 fn a_strict_reader_counts_from_the_start_of_the_stream() {
     for order in [LittleEndian, BigEndian] {
-        let mut units: Vec<u16> = text().encode_utf16().collect();
-        let len = 2 * units.len();
-        units.extend([0xDC00, 0x61]);
+        let marked = encode(order, &format!("\u{FEFF}{}", text()));
+        let len = marked.len();
+        let surrogate = encode(order, "\u{10000}").split_off(2);
+        let marked = [marked, surrogate, encode(order, "a")].concat();
         for buffer_len in [3, 100, 100_000] {
-            let utf16 = bytes(order, &units);
-            let found = read_strictly(Reader::strict(&utf16[..], order), buffer_len);
-            assert!(found == (text(), Some((len, Some(2)))));
-            let marked = [bytes(order, &[0xFEFF]), utf16].concat();
+            let reader = Reader::strict(&marked[2..], order);
+            assert!(read_strictly(reader, buffer_len) == (text(), (len - 2, Some(2))));
+            let reader = Reader::strict_with_bom(&marked[2..], order).unwrap();
+            assert!(read_strictly(reader, buffer_len) == (text(), (len - 2, Some(2))));
             for default_order in [LittleEndian, BigEndian] {
                 let reader = Reader::strict_with_bom(&marked[..], default_order).unwrap();
-                let found = read_strictly(reader, buffer_len);
-                assert!(found == (text(), Some((len + 2, Some(2)))));
+                assert!(read_strictly(reader, buffer_len) == (text(), (len, Some(2))));
             }
-            let reader = Reader::strict_with_bom(&marked[2..], order).unwrap();
-            assert!(read_strictly(reader, buffer_len) == (text(), Some((len, Some(2)))));
         }
     }
     let reader = Reader::strict_with_bom(&b"\xFF"[..], LittleEndian).unwrap();
-    assert_eq!(read_strictly(reader, 9), (String::new(), Some((0, None))));
+    assert_eq!(read_strictly(reader, 9), (String::new(), (0, None)));
     let error = Reader::strict_with_bom(Steps::new([Err(fault("at once"))]), LittleEndian);
     assert_eq!(error.unwrap_err().to_string(), "at once");
 }

@@ -1,36 +1,75 @@
 //! Makes the calls that the tables of `cases/` name. Prints each case whose result differs, with
 //! both results, and finally how many passed. Cases of other calls, and cases with a condition on
 //! memory or devices, are not run. `cases/to_json.py` reads the tables, so this needs Python.
+//!
+//! The conversions are those of `src/calls.rs`, which follows from the header. Each is also made in
+//! the other ways that the crate has: into memory that is not initialized, with a result that the
+//! call owns, on code units, and in chunks of each length.
 
+use dethrux::io::{Reader, Transcoder, Writer};
 use dethrux::ByteOrder::{BigEndian, LittleEndian};
 use dethrux::*;
 use std::collections::BTreeSet;
+use std::io::{Chain, Read, Write};
+use std::mem::MaybeUninit;
+use std::panic::catch_unwind;
 use std::process::{Command, Stdio};
+use std::str::{self, Utf8Error};
 
-/// The words of a result, or `None` if the values are not those of the call.
-type Words = Option<Vec<String>>;
+/// Up to this many bytes of output, a conversion is made with each capacity.
+const SHORT: usize = 24;
 
-/// The bytes of a word.
-fn raw(word: &str) -> Option<Vec<u8>> {
-    let digits = if word == "-" { "" } else { word };
-    (0..digits.len())
-        .step_by(2)
-        .map(|at| u8::from_str_radix(digits.get(at..at + 2)?, 16).ok())
-        .collect()
+/// Where a stream is cut: anywhere if it is short, else at some places.
+fn cuts(raw: &[u8]) -> impl Iterator<Item = usize> {
+    (1..=raw.len()).step_by(raw.len() / SHORT + 1)
 }
 
-fn pieces(values: &[&str]) -> Option<Vec<Vec<u8>>> {
-    match values {
-        [] => Some(Vec::new()),
-        [word] => word.split(',').map(raw).collect(),
-        _ => None,
+/// The words of a result, or `None` if the values are not those of the call.
+type Found = Option<String>;
+
+/// Bytes, which the tables spell in hex.
+type Raw = Vec<u8>;
+
+/// A value of a call, as a word spells it.
+trait Value: Sized {
+    fn of(word: &str) -> Option<Self>;
+}
+
+impl Value for Raw {
+    fn of(word: &str) -> Option<Self> {
+        let digits = if word == "-" { "" } else { word };
+        (0..digits.len())
+            .step_by(2)
+            .map(|at| u8::from_str_radix(digits.get(at..at + 2)?, 16).ok())
+            .collect()
     }
 }
 
-fn number(word: &str) -> Option<usize> {
-    match word {
-        "max" => Some(usize::MAX),
-        _ => word.parse().ok(),
+/// Chunks.
+impl Value for Vec<Raw> {
+    fn of(word: &str) -> Option<Self> {
+        word.split(',').map(Raw::of).collect()
+    }
+}
+
+impl Value for usize {
+    fn of(word: &str) -> Option<Self> {
+        match word {
+            "max" => Some(usize::MAX),
+            _ => word.parse().ok(),
+        }
+    }
+}
+
+impl Value for u64 {
+    fn of(word: &str) -> Option<Self> {
+        word.parse().ok()
+    }
+}
+
+impl Value for String {
+    fn of(word: &str) -> Option<Self> {
+        Some(word.to_string())
     }
 }
 
@@ -41,139 +80,257 @@ fn hex(bytes: &[u8]) -> String {
     }
 }
 
-fn text(utf8: impl AsRef<[u8]>) -> String {
-    format!("utf8:{}", hex(utf8.as_ref()))
-}
-
-fn one(found: impl ToString) -> Words {
-    Some(vec![found.to_string()])
+fn text(utf8: &[u8]) -> String {
+    format!("utf8:{}", hex(utf8))
 }
 
 fn or_none(found: Option<usize>) -> String {
     found.map_or("none".to_string(), |number| number.to_string())
 }
 
-type Convert = fn(ByteOrder, &[u8], &mut [u8]) -> Progress;
+type Call = fn(ByteOrder, &[&str]) -> Found;
 
-/// A call, by the values that it takes.
-#[derive(Clone, Copy)]
-enum Call {
-    /// A conversion to UTF-8, and to other bytes: bytes and a capacity.
-    ToText(Convert),
-    ToBytes(Convert),
-    Raw(fn(ByteOrder, &[u8]) -> Words),
-    RawAndRaw(fn(ByteOrder, &[u8], &[u8]) -> Words),
-    RawAndWord(fn(ByteOrder, &[u8], &str) -> Words),
-    WordAndRaw(fn(ByteOrder, &str, &[u8]) -> Words),
-    Any(fn(ByteOrder, &[&str]) -> Words),
+/// Makes a table of calls, by their names in the cases and the types of their values.
+macro_rules! table {
+    ($($($name:literal)|+: |$order:tt $(, $value:ident: $Type:ty)*| $found:expr;)*) => {
+        &[$((&[$($name),+], |$order: ByteOrder, values: &[&str]| {
+            let mut words = values.iter();
+            $(let $value = <$Type>::of(words.next()?)?;)*
+            words.next().is_none().then(|| $found.to_string())
+        })),*]
+    };
 }
-
-use Call::{Any, Raw, RawAndRaw, RawAndWord, ToBytes, ToText, WordAndRaw};
 
 #[rustfmt::skip]
-const CALLS: [(&str, Call); 56] = [
-    ("to_utf8", ToText(to_utf8)),
-    ("to_utf8_partial", ToText(to_utf8_partial)),
-    ("to_utf8_lossy", ToText(to_utf8_lossy)),
-    ("from_utf8", ToBytes(from_utf8)),
-    ("from_utf8_lossy", ToBytes(from_utf8_lossy)),
-    ("to_wtf8", ToBytes(to_wtf8)),
-    ("to_wtf8_partial", ToBytes(to_wtf8_partial)),
-    ("from_wtf8", ToBytes(from_wtf8)),
-    ("from_wtf8_partial", ToBytes(from_wtf8_partial)),
-    ("every_room", WordAndRaw(every_room)),
-    ("count_chars", Raw(|order, utf16| one(count_chars(order, utf16)))),
-    ("is_ascii", Raw(|order, utf16| one(is_ascii(order, utf16)))),
-    ("WStr::is_ascii", Raw(|order, utf16| one(is_ascii(order, utf16)))),
-    ("to_utf8_lossy_len", Raw(|order, utf16| one(to_utf8_lossy_len(order, utf16)))),
-    ("to_utf8_replacements", Raw(|order, utf16| one(to_utf8_replacements(order, utf16)))),
-    ("to_wtf8_len", Raw(|order, utf16| one(to_wtf8_len(order, utf16)))),
-    ("from_utf8_len", Raw(|_, utf8| one(from_utf8_len(utf8)))),
-    ("from_utf8_lossy_len", Raw(|_, utf8| one(from_utf8_lossy_len(utf8)))),
-    ("from_wtf8_len", Raw(|_, wtf8| one(from_wtf8_len(wtf8)))),
-    ("from_utf8_replacements", Raw(|_, utf8| one(from_utf8_replacements(utf8)))),
-    ("validate_raw_utf16", Raw(|order, utf16| validity(order, utf16, "done"))),
-    ("WStr::from_utf16", Raw(|order, utf16| validity(order, utf16, &hex(utf16)))),
-    ("WStr::to_utf8", Raw(|order, utf16| one(text(decode(order, utf16).ok()?)))),
-    ("WString::from_str", Raw(|order, utf8| one(hex(&encode(order, str_of(utf8)?))))),
-    ("WStrChars::count", Any(count_the_rest)),
-    ("swap_byte_order", Raw(swapped)),
-    ("make_well_formed", Raw(well_formed)),
-    ("compare", RawAndRaw(compared)),
-    ("bytes::compare", RawAndRaw(compared)),
-    ("WStr::cmp", RawAndRaw(compared)),
-    ("WString::cmp", RawAndRaw(compared)),
-    ("search::find", RawAndRaw(|order, utf16, pattern| one(or_none(find(order, utf16, pattern))))),
-    ("search::rfind", RawAndRaw(|order, utf16, pattern| one(or_none(rfind(order, utf16, pattern))))),
-    ("nul_offset", Raw(|_, utf16| one(nul_offset(utf16)))),
-    ("bytes::is_char_boundary", RawAndWord(is_boundary)),
-    ("WStr::is_char_boundary", RawAndWord(is_boundary)),
-    ("WString::is_char_boundary", RawAndWord(is_boundary)),
-    ("bytes::floor_char_boundary", RawAndWord(|order, utf16, at| {
-        one(floor_char_boundary(order, utf16, number(at)?))
-    })),
-    ("bytes::floor_char_boundary_around", RawAndWord(|order, utf16, at| {
-        one(floor_char_boundary_around(order, utf16, at.parse().ok()?))
-    })),
-    ("shard_offset", Any(shard)),
-    ("every_chunking", Raw(cut_anywhere)),
-    ("AnyLossy::every_chunking", Raw(every_any_chunking)),
-    ("Lossy::feed", Any(lossy_feed)),
-    ("decode_pieces", Any(|order, values| one(text(fed(order, pieces(values)?))))),
-    ("feed_wtf8", Any(wtf8_decoded)),
-    ("Wtf8Stream::feed", Any(wtf8_encoded)),
-    ("inspect", Raw(inspected)),
-    ("to_utf32", RawAndWord(|order, utf16, room| in_utf32(to_utf32, order, utf16, room))),
-    ("to_utf32_lossy", RawAndWord(|order, utf16, room| in_utf32(to_utf32_lossy, order, utf16, room))),
-    ("to_utf32_lossy_len", Raw(|order, utf16| one(to_utf32_lossy_len(order, utf16)))),
-    ("from_utf32", RawAndWord(|order, raw, room| of_utf32(from_utf32, order, raw, room))),
-    ("from_utf32_lossy", RawAndWord(|order, raw, room| of_utf32(from_utf32_lossy, order, raw, room))),
-    ("from_utf32_lossy_len", Raw(|_, raw| one(from_utf32_lossy_len(&units_of(raw))))),
-    ("validate_utf32", Raw(|_, raw| utf32_validity(raw))),
-    ("to_latin1", RawAndWord(|order, utf16, room| in_latin1(to_latin1, order, utf16, room))),
-    ("from_latin1", RawAndWord(|order, latin1, room| in_latin1(from_latin1, order, latin1, room))),
-];
+const CALLS: &[(&[&str], Call)] = table! {
+    "every_room": |order, name: String, raw: Raw| every_room(&name, order, &raw);
+    "count_chars": |order, utf16: Raw| count_chars(order, &utf16);
+    "is_ascii" | "WStr::is_ascii": |order, utf16: Raw| is_ascii(order, &utf16);
+    "to_utf8_lossy_len": |order, utf16: Raw| to_utf8_lossy_len(order, &utf16);
+    "to_utf8_replacements": |order, utf16: Raw| to_utf8_replacements(order, &utf16);
+    "to_utf32_lossy_len": |order, utf16: Raw| to_utf32_lossy_len(order, &utf16);
+    "to_wtf8_len": |order, utf16: Raw| to_wtf8_len(order, &utf16);
+    "from_utf8_len": |_, utf8: Raw| from_utf8_len(&utf8);
+    "from_utf8_lossy_len": |_, utf8: Raw| from_utf8_lossy_len(&utf8);
+    "from_utf8_replacements": |_, utf8: Raw| from_utf8_replacements(&utf8);
+    "from_utf32_lossy_len": |_, utf32: Raw| from_utf32_lossy_len(&u32::units(&utf32));
+    "from_wtf8_len": |_, wtf8: Raw| from_wtf8_len(&wtf8);
+    "validate_raw_utf16": |order, utf16: Raw| validity(order, &utf16, "done");
+    "WStr::from_utf16": |order, utf16: Raw| validity(order, &utf16, &hex(&utf16));
+    "validate_utf32": |_, utf32: Raw| utf32_validity(&u32::units(&utf32));
+    "WStr::to_utf8": |order, utf16: Raw| text(decode(order, &utf16).unwrap().as_bytes());
+    "WString::from_str": |order, utf8: Raw| hex(&encode(order, str::from_utf8(&utf8).unwrap()));
+    "WStrChars::count": |order, utf16: Raw| count_the_rest(order, &utf16, "");
+    "WStrChars::count": |order, utf16: Raw, ends: String| count_the_rest(order, &utf16, &ends);
+    "swap_byte_order": |_, utf16: Raw| swapped(utf16);
+    "make_well_formed": |order, utf16: Raw| well_formed(order, utf16);
+    "compare" | "bytes::compare" | "WStr::cmp" | "WString::cmp": |order, first: Raw, second: Raw| {
+        format!("{:?}", compare(order, &first, order, &second)).to_lowercase()
+    };
+    "search::find": |order, utf16: Raw, pattern: Raw| or_none(find(order, &utf16, &pattern));
+    "search::rfind": |order, utf16: Raw, pattern: Raw| or_none(rfind(order, &utf16, &pattern));
+    "nul_offset": |_, utf16: Raw| nul_offset(&utf16);
+    "bytes::is_char_boundary" | "WStr::is_char_boundary" | "WString::is_char_boundary":
+        |order, utf16: Raw, at: usize| is_char_boundary(order, &utf16, at);
+    "bytes::floor_char_boundary": |order, utf16: Raw, at: usize| floor_char_boundary(order, &utf16, at);
+    "bytes::floor_char_boundary_around": |order, around: Raw, at: u64| {
+        floor_char_boundary_around(order, &around, at)
+    };
+    "shard_offset": |_, len: u64, count: u64, index: u64| shard_offset(len, count, index);
+    "inspect": |order, utf16: Raw| inspected(order, &utf16);
+    "every_chunking": |order, utf16: Raw| every_chunking(order, &utf16);
+    "AnyLossy::every_chunking": |_, stream: Raw| {
+        let found = detect_bom(&stream, BigEndian);
+        let (len, order) = found.map_or((0, BigEndian), |bom| (bom.len, bom.byte_order));
+        every_chunking(order, &stream[len..])
+    };
+    "Lossy::feed": |order| lossy_feed(order, Vec::new());
+    "Lossy::feed": |order, pieces: Vec<Raw>| lossy_feed(order, pieces);
+    "decode_pieces": |order| text(decoded(order, [].into_iter()).as_bytes());
+    "decode_pieces": |order, pieces: Vec<Raw>| {
+        text(decoded(order, pieces.iter().map(Vec::as_slice)).as_bytes())
+    };
+    "Stream::feed": |order, pieces: Vec<Raw>, room: usize| fed::<Decoder>(order, pieces, room);
+    "feed_utf8": |order, pieces: Vec<Raw>, room: usize| fed::<Encoder>(order, pieces, room);
+    "feed_wtf8": |order, pieces: Vec<Raw>, room: usize| fed::<Wtf8Decoder>(order, pieces, room);
+    "Wtf8Stream::feed": |order, pieces: Vec<Raw>, room: usize| fed::<Wtf8Encoder>(order, pieces, room);
+};
 
-fn call_of(name: &str) -> Option<Call> {
-    let mut found = CALLS.iter().filter(|(one, _)| *one == name);
-    found.next().map(|(_, call)| *call)
+/// A code unit of a conversion, which the tables spell by its bytes in big endian.
+trait Unit: Copy + PartialEq {
+    /// A unit that no call may write.
+    const UNTOUCHED: Self;
+
+    fn units(raw: &[u8]) -> Vec<Self>;
+    fn raw(units: &[Self]) -> Raw;
 }
 
-/// Makes a call, and returns the words of its result.
-fn made(name: &str, order: ByteOrder, values: &[&str]) -> Words {
-    match (call_of(name)?, values) {
-        (Raw(make), [source]) => make(order, &raw(source)?),
-        (RawAndRaw(make), [first, second]) => make(order, &raw(first)?, &raw(second)?),
-        (RawAndWord(make), [source, word]) => make(order, &raw(source)?, word),
-        (WordAndRaw(make), [word, source]) => make(order, word, &raw(source)?),
-        (Any(make), values) => make(order, values),
-        (_, [source, room]) => converted(name, order, &raw(source)?, room),
-        _ => None,
+impl Unit for u8 {
+    const UNTOUCHED: Self = 0xAA;
+
+    fn units(raw: &[u8]) -> Vec<Self> {
+        raw.to_vec()
+    }
+
+    fn raw(units: &[Self]) -> Raw {
+        units.to_vec()
     }
 }
 
-type Spell = fn(&[u8]) -> String;
+impl Unit for u32 {
+    const UNTOUCHED: Self = 0xAAAA_AAAA;
 
-/// A conversion, how long its whole output is, and how its output is spelled.
-fn conversion(name: &str, order: ByteOrder, from: &[u8]) -> Option<(Convert, usize, Spell)> {
-    match call_of(name)? {
-        ToText(make) => Some((make, to_utf8_lossy_len(order, from), |utf8| text(utf8))),
-        ToBytes(make) => Some((make, from_utf8_lossy_len(from), hex)),
-        _ => None,
+    fn units(raw: &[u8]) -> Vec<Self> {
+        let unit = |four: &[u8]| u32::from_be_bytes([four[0], four[1], four[2], four[3]]);
+        raw.chunks_exact(4).map(unit).collect()
+    }
+
+    fn raw(units: &[Self]) -> Raw {
+        units.iter().flat_map(|unit| unit.to_be_bytes()).collect()
     }
 }
 
-fn converted(name: &str, order: ByteOrder, from: &[u8], room: &str) -> Words {
-    let (make, size, spelled) = conversion(name, order, from)?;
-    let room = if room == "size" { size } else { number(room)? };
-    let mut to = vec![0; room];
-    let found = make(order, from, &mut to);
-    let whole = spelled(&to[..found.written]);
-    let mut words = vec![came(found), whole.clone()];
-    if name == "from_utf8_lossy" && found.status == Status::Done {
-        words.extend(utf8_chunkings(order, from).filter(|other| *other != whole));
+/// How far a conversion came, and what it wrote.
+type Converted = (Progress, Raw);
+
+/// A conversion: its name, what it reads and writes, and how it is made with a capacity.
+struct Conversion {
+    name: &'static str,
+    reads: &'static str,
+    writes: &'static str,
+    make: fn(ByteOrder, &[u8], usize) -> Converted,
+}
+
+macro_rules! calls {
+    (
+        conversions { $($name:ident($from:ident: $From:ty) -> $to:ident: $To:ty;)* }
+        others $others:tt
+    ) => {
+        const CONVERSIONS: &[Conversion] = &[$(Conversion {
+            name: stringify!($name),
+            reads: stringify!($from),
+            writes: stringify!($to),
+            make: |order, raw, room| converted::<$From, $To>($name, $name, order, raw, room),
+        }),*];
+    };
+}
+
+include!("../src/calls.rs");
+
+/// Converts to the first units of a buffer, and to memory that is not initialized.
+fn converted<F: Unit, T: Unit>(
+    convert: fn(ByteOrder, &[F], &mut [T]) -> Progress,
+    convert_to_any: fn(ByteOrder, &[F], &mut [MaybeUninit<T>]) -> Progress,
+    order: ByteOrder,
+    raw: &[u8],
+    room: usize,
+) -> Converted {
+    let (from, mut to) = (F::units(raw), vec![T::UNTOUCHED; room + 4]);
+    let progress = convert(order, &from, &mut to[..room]);
+    assert!(
+        to[room..] == [T::UNTOUCHED; 4],
+        "it writes after its buffer"
+    );
+    to.truncate(progress.written);
+
+    let mut any = Vec::with_capacity(room);
+    let found = convert_to_any(order, &from, &mut any.spare_capacity_mut()[..room]);
+    // SAFETY: the call initialized this many units.
+    unsafe { any.set_len(found.written) };
+    assert!(
+        (found, &any) == (progress, &to),
+        "memory that is not initialized"
+    );
+    (progress, T::raw(&to))
+}
+
+impl Conversion {
+    fn of(name: &str) -> Option<&'static Self> {
+        CONVERSIONS.iter().find(|it| it.name == name)
     }
-    Some(words)
+
+    /// What the call for the length returns.
+    fn size(&self, order: ByteOrder, raw: &[u8]) -> usize {
+        match (self.reads, self.writes) {
+            ("utf16", "utf8") => to_utf8_lossy_len(order, raw),
+            ("utf16", "utf32") => to_utf32_lossy_len(order, raw),
+            ("utf16", "wtf8") => to_wtf8_len(order, raw),
+            ("utf8", _) => from_utf8_lossy_len(raw),
+            ("utf32", _) => from_utf32_lossy_len(&u32::units(raw)),
+            ("wtf8", _) => from_wtf8_len(raw),
+            _ => panic!("there is no call for the length"),
+        }
+    }
+
+    fn spelled(&self, output: &[u8]) -> String {
+        match self.writes {
+            "utf8" => text(output),
+            _ => hex(output),
+        }
+    }
+
+    /// Makes the conversion, and tests what else the crate has for it.
+    fn tested(&self, order: ByteOrder, raw: &[u8], room: usize) -> Converted {
+        let (progress, output) = (self.make)(order, raw, room);
+        let whole = match progress.status {
+            Status::NoSpace | Status::NotLatin1 => return (progress, output),
+            Status::Done => Ok(output.clone()),
+            Status::IllFormed(len) => Err(Place(progress.read, Some(len))),
+            Status::Incomplete => Err(Place(progress.read, None)),
+        };
+        let streams = STREAMS.iter().filter(|_| whole.is_ok());
+        let calls = OTHERS.iter().chain(streams).filter(|it| it.0 == self.name);
+        for (number, (_, call)) in calls.enumerate() {
+            assert_eq!(
+                call(order, raw),
+                whole,
+                "the other call {number} of {}",
+                self.name
+            );
+        }
+        let is_native = order == ByteOrder::NATIVE && (self.reads != "utf16" || raw.len() % 2 == 0);
+        let calls = ON_UNITS.iter().filter(|it| is_native && it.0 == self.name);
+        for (number, (_, call)) in calls.enumerate() {
+            assert_eq!(
+                call(raw),
+                whole,
+                "the call {number} of {} on code units",
+                self.name
+            );
+        }
+        if output.len() <= SHORT {
+            self.resumed(order, raw, &output);
+        }
+        (progress, output)
+    }
+
+    /// Makes the conversion with each smaller capacity, and again for the rest.
+    fn resumed(&self, order: ByteOrder, raw: &[u8], output: &[u8]) {
+        let (input_size, size) = (self.reads == "utf32", self.writes == "utf32");
+        let [input_size, size] = [input_size, size].map(|it| if it { 4 } else { 1 });
+        for room in 0..output.len() / size {
+            let (first, mut parts) = (self.make)(order, raw, room);
+            assert_eq!(first.status, Status::NoSpace);
+            assert!(room - first.written < 4 / size);
+            let rest = &raw[first.read * input_size..];
+            parts.extend((self.make)(order, rest, output.len()).1);
+            assert_eq!(parts, output, "a capacity of {room}");
+        }
+    }
+
+    /// Makes the conversion of a case.
+    fn case(&self, order: ByteOrder, values: &[&str]) -> Found {
+        let (raw, room) = match *values {
+            [raw, room] => (Raw::of(raw)?, room),
+            _ => return None,
+        };
+        let room = match room {
+            "size" => self.size(order, &raw),
+            _ => usize::of(room)?,
+        };
+        let (progress, output) = self.tested(order, &raw, room);
+        Some(format!("{} {}", came(progress), self.spelled(&output)))
+    }
 }
 
 /// How far a call came.
@@ -188,108 +345,329 @@ fn came(found: Progress) -> String {
     format!("{} {} {status}", found.read, found.written)
 }
 
-/// Code units of UTF-32, which the tables spell by their bytes in big endian.
-fn units_of(raw: &[u8]) -> Vec<u32> {
-    let unit = |four: &[u8]| u32::from_be_bytes([four[0], four[1], four[2], four[3]]);
-    raw.chunks_exact(4).map(unit).collect()
+/// Where an error is, and its length.
+#[derive(Clone, Copy, Debug, PartialEq)]
+struct Place(usize, Option<usize>);
+
+macro_rules! places {
+    ($($Error:ty: |$error:ident| $len:expr, $unit:literal;)*) => {$(
+        impl From<$Error> for Place {
+            fn from($error: $Error) -> Self {
+                Place($unit * $error.valid_up_to(), $len)
+            }
+        }
+    )*};
 }
 
-fn in_utf32(
-    convert: fn(ByteOrder, &[u8], &mut [u32]) -> Progress,
-    order: ByteOrder,
-    utf16: &[u8],
-    room: &str,
-) -> Words {
-    let size = to_utf32_lossy_len(order, utf16);
-    let mut to = vec![0; if room == "size" { size } else { number(room)? }];
-    let found = convert(order, utf16, &mut to);
-    let units = to[..found.written].iter();
-    let raw: Vec<u8> = units.flat_map(|unit| unit.to_be_bytes()).collect();
-    Some(vec![came(found), hex(&raw)])
+places! {
+    Utf16Error: |error| error.error_len(), 1;
+    UnitsError: |error| error.error_len().map(|len| 2 * len), 2;
+    Utf32Error: |error| Some(1), 1;
+    Wtf8Error: |error| error.error_len(), 1;
+    Utf8Error: |error| error.error_len(), 1;
 }
 
-fn of_utf32(
-    convert: fn(ByteOrder, &[u32], &mut [u8]) -> Progress,
-    order: ByteOrder,
-    raw: &[u8],
-    room: &str,
-) -> Words {
-    let units = units_of(raw);
-    let size = from_utf32_lossy_len(&units);
-    let mut to = vec![0; if room == "size" { size } else { number(room)? }];
-    let found = convert(order, &units, &mut to);
-    Some(vec![came(found), hex(&to[..found.written])])
+/// What a call for a whole input returns.
+type Whole = Result<Raw, Place>;
+
+/// Calls that do what a conversion does, for a whole input.
+#[rustfmt::skip]
+const OTHERS: &[(&str, fn(ByteOrder, &[u8]) -> Whole)] = &[
+    ("to_utf8", |order, utf16| Ok(decode(order, utf16)?.into_bytes())),
+    ("to_utf8", |order, utf16| {
+        validate(order, utf16)?;
+        Ok(decode_lossy(order, utf16).into_bytes())
+    }),
+    ("to_utf8", appended),
+    ("to_utf8", |order, utf16| {
+        let (text, end) = read(utf16, |parts| Reader::strict(parts, order));
+        let len = end.map_or_else(|Place(at, _)| at, |()| utf16.len());
+        assert_eq!(text, decode(order, &utf16[..len])?.into_bytes());
+        end.map(|()| text)
+    }),
+    ("to_utf8", |order, utf16| {
+        let (marked, default) = (marked(order, utf16), other(order));
+        let (text, end) = read(&marked, |parts| Reader::strict_with_bom(parts, default).unwrap());
+        end.map(|()| text).map_err(|Place(at, len)| Place(at - 2, len))
+    }),
+    ("to_utf8_lossy", |order, utf16| Ok(decode_lossy(order, utf16).into_bytes())),
+    ("to_utf8_lossy", |order, utf16| Ok(display(order, utf16).to_string().into_bytes())),
+    ("to_utf8_lossy", |order, utf16| Ok(by_chunks(order, utf16))),
+    ("to_utf8_lossy", |order, utf16| Ok(decoded(order, utf16.chunks(3)).into_bytes())),
+    ("to_utf8_lossy", |order, utf16| Ok(read(utf16, |parts| Reader::new(parts, Decoder::new(order))).0)),
+    ("to_utf8_lossy", |order, utf16| {
+        let (marked, default) = (marked(order, utf16), other(order));
+        Ok(read(&marked, |parts| Reader::with_bom(parts, default).unwrap()).0)
+    }),
+    ("to_utf8_lossy", |order, utf16| Ok(written(utf16, Decoder::new(order)))),
+    ("from_utf8", |order, utf8| Ok(encode(order, str::from_utf8(utf8)?))),
+    ("from_utf8", |order, utf8| {
+        let mut utf16 = b"a".to_vec();
+        encode_to(order, str::from_utf8(utf8)?, &mut utf16);
+        Ok(utf16.split_off(1))
+    }),
+    ("from_utf8_lossy", |order, utf8| Ok(encode_lossy(order, utf8))),
+    ("from_utf8_lossy", |order, utf8| {
+        let (mut encoder, mut utf16) = (Encoder::new(order), Vec::new());
+        utf8.chunks(3).for_each(|chunk| encoder.encode(chunk, &mut utf16));
+        utf16.extend(encoder.finish().into_iter().flatten());
+        Ok(utf16)
+    }),
+    ("from_utf8_lossy", |order, utf8| Ok(read(utf8, |parts| Reader::new(parts, Encoder::new(order))).0)),
+    ("from_utf8_lossy", |order, utf8| Ok(written(utf8, Encoder::new(order)))),
+    ("to_utf32", |order, utf16| Ok(u32::raw(chars_as_utf32(&decode_to_chars(order, utf16)?)))),
+    ("to_utf32_lossy", |order, utf16| Ok(u32::raw(chars_as_utf32(&decode_to_chars_lossy(order, utf16))))),
+    ("from_utf32", |order, utf32| Ok(encode_from_utf32(order, &u32::units(utf32))?)),
+    ("from_utf32", |order, utf32| {
+        Ok(encode_from_utf32(order, chars_as_utf32(utf32_as_chars(&u32::units(utf32))?))?)
+    }),
+    ("from_latin1", |order, latin1| Ok(encode_from_latin1(order, latin1))),
+    ("to_wtf8", |order, utf16| Ok(decode_to_wtf8(order, utf16)?)),
+    ("from_wtf8", |order, wtf8| Ok(encode_from_wtf8(order, wtf8)?)),
+];
+
+/// Streams that do what a conversion does, if all of the input is converted.
+#[rustfmt::skip]
+const STREAMS: &[(&str, fn(ByteOrder, &[u8]) -> Whole)] = &[
+    ("to_utf8_lossy", streamed::<Decoder>),
+    ("from_utf8_lossy", streamed::<Encoder>),
+    ("to_wtf8", streamed::<Wtf8Decoder>),
+    ("to_wtf8", |order, utf16| {
+        let (mut decoder, mut wtf8, mut end) = (Wtf8Decoder::new(order), Vec::new(), [0; 3]);
+        utf16.chunks(3).for_each(|chunk| decoder.decode(chunk, &mut wtf8));
+        let written = decoder.finish(&mut end).written;
+        wtf8.extend(&end[..written]);
+        Ok(wtf8)
+    }),
+    ("from_wtf8", streamed::<Wtf8Encoder>),
+];
+
+/// Calls on code units that do what a conversion does in the byte order of the machine.
+#[rustfmt::skip]
+const ON_UNITS: &[(&str, fn(&[u8]) -> Whole)] = &[
+    ("to_utf8", |utf16| Ok(decode_units(&units(utf16))?.into_bytes())),
+    ("to_utf8", |utf16| {
+        validate_units(&units(utf16))?;
+        Ok(decode_lossy(ByteOrder::NATIVE, utf16).into_bytes())
+    }),
+    ("from_utf8", |utf8| Ok(units_as_bytes(&encode_units(str::from_utf8(utf8)?)).to_vec())),
+    ("to_wtf8", |utf16| Ok(units_to_wtf8(&units(utf16)))),
+    ("to_wtf8", |utf16| {
+        Ok(units_to_wtf8(&units_from_os_str(&os_string_from_units(&units(utf16)))?))
+    }),
+    ("from_wtf8", |wtf8| Ok(units_as_bytes(&units_from_wtf8(wtf8)?).to_vec())),
+];
+
+/// What `decode_to` appends, which is nothing if there is an error.
+fn appended(order: ByteOrder, utf16: &[u8]) -> Whole {
+    let mut text = String::from("é");
+    let found = decode_to(order, utf16, &mut text);
+    assert!(found.is_ok() || text == "é");
+    found?;
+    Ok(text["é".len()..].into())
 }
 
-fn utf32_validity(raw: &[u8]) -> Words {
-    match validate_utf32(&units_of(raw)) {
-        Ok(()) => one("done"),
-        Err(error) => one(error.valid_up_to()),
+fn other(order: ByteOrder) -> ByteOrder {
+    match order {
+        LittleEndian => BigEndian,
+        BigEndian => LittleEndian,
     }
 }
 
-/// A conversion to or from Latin-1, which leaves the bytes after its output as they were.
-fn in_latin1(convert: Convert, order: ByteOrder, from: &[u8], room: &str) -> Words {
-    let mut to = vec![0xAA; number(room)?];
-    let found = convert(order, from, &mut to);
-    let mut words = vec![came(found), hex(&to[..found.written])];
-    let is_changed = to[found.written..].iter().any(|byte| *byte != 0xAA);
-    words.extend(is_changed.then_some("changed".to_string()));
-    Some(words)
-}
-
-fn inspected(order: ByteOrder, utf16: &[u8]) -> Words {
-    let found = inspect(order, utf16);
-    let follows = match found.error.map(|error| error.error_len()) {
-        None => "end".to_string(),
-        Some(None) => "incomplete".to_string(),
-        Some(Some(len)) => format!("ill_formed {len}"),
+/// UTF-16 after the byte order mark.
+fn marked(order: ByteOrder, utf16: &[u8]) -> Raw {
+    let mark = match order {
+        LittleEndian => b"\xFF\xFE",
+        BigEndian => b"\xFE\xFF",
     };
-    let kind = format!("{:?}", found.repertoire).to_lowercase();
-    let (len, chars) = (found.valid_up_to, found.chars);
-    one(format!("{len} {chars} {kind} {follows}"))
+    [mark, utf16].concat()
 }
 
-/// The pieces and the length of each buffer.
-fn pieces_and_room(values: &[&str]) -> Option<(Vec<Vec<u8>>, usize)> {
-    match values {
-        [words, room] => Some((pieces(&[words])?, number(room)?)),
-        _ => None,
+/// What a reader of a stream in two parts returns, and its error, which comes again. They are the
+/// same wherever the stream is cut and however long the buffer is.
+fn read<'a, R: Read>(
+    raw: &'a [u8],
+    start: impl Fn(Chain<&'a [u8], &'a [u8]>) -> R,
+) -> (Raw, Result<(), Place>) {
+    let read = |at: usize| {
+        let (mut output, mut buffer) = (Vec::new(), vec![0; at % 9 + 1]);
+        let mut reader = start(raw[..at].chain(&raw[at..]));
+        loop {
+            match reader.read(&mut buffer).map_err(|error| place(&error)) {
+                Ok(0) => return (output, Ok(())),
+                Ok(read) => output.extend(&buffer[..read]),
+                Err(error) => {
+                    let again = reader.read(&mut buffer).unwrap_err();
+                    assert_eq!(place(&again), error);
+                    return (output, Err(error));
+                }
+            }
+        }
+    };
+    let (output, end) = read(0);
+    for at in cuts(raw) {
+        assert_eq!(read(at), (output.clone(), end), "cut at {at}");
+    }
+    (output, end)
+}
+
+/// Where the error of a strict reader is.
+fn place(error: &std::io::Error) -> Place {
+    let inner = error
+        .get_ref()
+        .and_then(|it| it.downcast_ref::<Utf16Error>());
+    Place::from(*inner.expect("an error about UTF-16"))
+}
+
+/// What a writer writes of chunks.
+fn written(raw: &[u8], transcoder: impl Transcoder) -> Raw {
+    let mut writer = Writer::new(Vec::new(), transcoder);
+    raw.chunks(3)
+        .for_each(|chunk| writer.write_all(chunk).unwrap());
+    writer.finish().unwrap();
+    writer.into_inner()
+}
+
+/// The code units of bytes in the byte order of the machine.
+fn units(raw: &[u8]) -> Vec<u16> {
+    let unit = |pair: &[u8]| u16::from_ne_bytes([pair[0], pair[1]]);
+    raw.chunks_exact(2).map(unit).collect()
+}
+
+/// The text of chunks, with U+FFFD for each ill-formed sequence.
+fn by_chunks(order: ByteOrder, utf16: &[u8]) -> Raw {
+    let mut text = String::new();
+    for chunk in Utf16Chunks::new(order, utf16) {
+        decode_to(order, chunk.valid(), &mut text).unwrap();
+        text.extend((!chunk.invalid().is_empty()).then_some(char::REPLACEMENT_CHARACTER));
+    }
+    text.into_bytes()
+}
+
+/// A stream of any kind.
+trait Stream: Sized {
+    const MAX_LEN: fn(usize) -> usize;
+    const SPELLED: fn(&[u8]) -> String;
+
+    fn start(order: ByteOrder) -> Self;
+    fn feed(&mut self, chunk: &[u8], to: &mut [u8]) -> Progress;
+    fn pending(&self) -> &[u8];
+    /// Ends the stream, and begins another unless the end does not fit.
+    fn end(&mut self, to: &mut [u8]) -> Progress;
+
+    fn discard(&mut self) -> usize {
+        panic!("it replaces what is ill formed")
     }
 }
 
-/// What a call on a stream returned and wrote, and what is pending.
-fn stepped(found: Progress, to: &[u8], pending: &[u8]) -> String {
-    format!(
-        "{} {} {}",
-        came(found),
-        hex(&to[..found.written]),
-        hex(pending)
-    )
+macro_rules! streams {
+    ($($Stream:ident $spelled:ident |$stream:ident, $to:ident| $end:expr $(, $discard:ident)?;)*) => {$(
+        impl Stream for $Stream {
+            const MAX_LEN: fn(usize) -> usize = $Stream::max_len;
+            const SPELLED: fn(&[u8]) -> String = $spelled;
+
+            fn start(order: ByteOrder) -> Self {
+                let start = $Stream::new(order);
+                assert_eq!(start.byte_order(), order);
+                start
+            }
+
+            fn feed(&mut self, chunk: &[u8], to: &mut [u8]) -> Progress {
+                $Stream::feed(self, chunk, to)
+            }
+
+            fn pending(&self) -> &[u8] {
+                $Stream::pending(self)
+            }
+
+            fn end(&mut self, $to: &mut [u8]) -> Progress {
+                let $stream = self;
+                $end
+            }
+
+            $(fn discard(&mut self) -> usize {
+                $Stream::$discard(self)
+            })?
+        }
+    )*};
 }
 
-fn wtf8_decoded(order: ByteOrder, values: &[&str]) -> Words {
-    let (pieces, room) = pieces_and_room(values)?;
-    let (mut decoder, mut to, mut words) = (Wtf8Decoder::new(order), vec![0; room], Vec::new());
-    for piece in pieces {
-        let found = decoder.feed(&piece, &mut to[..]);
-        words.push(stepped(found, &to, decoder.pending()));
+streams! {
+    Decoder text |stream, to| ended(stream, stream.clone().finish().map(String::from), to);
+    Encoder hex |stream, to| ended(stream, stream.clone().finish(), to);
+    Wtf8Decoder hex |stream, to| stream.finish(to);
+    Wtf8Encoder hex |stream, to| stream.finish(to), discard;
+}
+
+/// Begins another stream, if the value that ends this one fits.
+fn ended<S: Stream>(stream: &mut S, end: Option<impl AsRef<[u8]>>, to: &mut [u8]) -> Progress {
+    let end = end.map_or(Vec::new(), |it| it.as_ref().to_vec());
+    let (read, written) = (0, end.len());
+    if written > to.len() {
+        let (written, status) = (0, Status::NoSpace);
+        return Progress {
+            read,
+            written,
+            status,
+        };
     }
-    let end = decoder.finish(&mut to[..]);
-    words.push(stepped(end, &to, decoder.pending()));
-    Some(words)
+    to[..written].copy_from_slice(&end);
+    *stream = S::start(LittleEndian);
+    let status = Status::Done;
+    Progress {
+        read,
+        written,
+        status,
+    }
 }
 
-fn wtf8_encoded(order: ByteOrder, values: &[&str]) -> Words {
-    let (pieces, room) = pieces_and_room(values)?;
-    let (mut encoder, mut to, mut words) = (Wtf8Encoder::new(order), vec![0; room], Vec::new());
+/// The output of a stream, which is the same in chunks of each length and in each two chunks, with
+/// the capacity that suffices for each.
+fn streamed<S: Stream>(order: ByteOrder, raw: &[u8]) -> Whole {
+    let streamed = |chunks: Vec<&[u8]>| {
+        let (mut stream, mut output, mut to) = (S::start(order), Vec::new(), Vec::new());
+        for chunk in chunks {
+            to.resize(S::MAX_LEN(chunk.len()), 0);
+            let found = stream.feed(chunk, &mut to);
+            assert_eq!((found.read, found.status), (chunk.len(), Status::Done));
+            output.extend(&to[..found.written]);
+        }
+        to.resize(4, 0);
+        let end = stream.end(&mut to);
+        assert_eq!(end.status, Status::Done);
+        output.extend(&to[..end.written]);
+        output
+    };
+    let whole = streamed(vec![raw]);
+    for len in 1..=raw.len() {
+        assert_eq!(
+            streamed(raw.chunks(len).collect()),
+            whole,
+            "chunks of {len}"
+        );
+        assert_eq!(
+            streamed(vec![&raw[..len], &raw[len..]]),
+            whole,
+            "cut at {len}"
+        );
+    }
+    Ok(whole)
+}
+
+/// What each call on a stream returns and writes, and what is pending then.
+fn fed<S: Stream>(order: ByteOrder, pieces: Vec<Raw>, room: usize) -> String {
+    let (mut stream, mut to, mut words) = (S::start(order), vec![0; room], Vec::new());
+    let mut step = |found: Progress, to: &[u8], pending: &[u8]| {
+        let output = (S::SPELLED)(&to[..found.written]);
+        words.push(format!("{} {output} {}", came(found), hex(pending)));
+    };
     for piece in pieces {
         let mut rest = &piece[..];
         loop {
-            let found = encoder.feed(rest, &mut to[..]);
-            words.push(stepped(found, &to, encoder.pending()));
+            let found = stream.feed(rest, &mut to);
+            step(found, &to, stream.pending());
             match found.status {
-                Status::IllFormed(len) => rest = &rest[found.read + len - encoder.discard()..],
+                Status::IllFormed(len) => rest = &rest[found.read + len - stream.discard()..],
                 _ => break,
             }
             if rest.is_empty() {
@@ -297,134 +675,118 @@ fn wtf8_encoded(order: ByteOrder, values: &[&str]) -> Words {
             }
         }
     }
-    let end = encoder.finish(&mut to[..]);
-    words.push(stepped(end, &to, encoder.pending()));
-    Some(words)
+    let end = stream.end(&mut to);
+    step(end, &to, stream.pending());
+    words.join(" ")
 }
 
-/// The UTF-16 of a stream of UTF-8, in each chunking.
-fn utf8_chunkings(order: ByteOrder, utf8: &[u8]) -> impl Iterator<Item = String> + '_ {
-    (1..=utf8.len()).map(move |len| {
-        let (mut encoder, mut utf16) = (Encoder::new(order), Vec::new());
-        for piece in utf8.chunks(len) {
-            encoder.encode(piece, &mut utf16);
-        }
-        utf16.extend(encoder.finish().into_iter().flatten());
-        hex(&utf16)
-    })
-}
-
-fn every_room(order: ByteOrder, name: &str, from: &[u8]) -> Words {
-    let (make, size, spelled) = conversion(name, order, from)?;
-    let mut all = vec![0; size];
-    let last = make(order, from, &mut all).written;
+/// The bytes that a conversion writes in each room, and its whole output.
+fn every_room(name: &str, order: ByteOrder, raw: &[u8]) -> String {
+    let call = Conversion::of(name).unwrap();
+    let size = call.size(order, raw);
+    let (_, whole) = call.tested(order, raw, size);
     let mut words = Vec::new();
     for room in 0..=size {
-        let mut to = vec![0; room];
-        let written = make(order, from, &mut to).written;
-        words.push(written.to_string());
-        if !all.starts_with(&to[..written]) {
-            words.push("differs".to_string());
-        }
+        let (progress, output) = call.tested(order, raw, room);
+        words.push(progress.written.to_string());
+        words.extend((!whole.starts_with(&output)).then(|| "differs".to_string()));
     }
-    words.push(spelled(&all[..last]));
-    Some(words)
+    words.push(call.spelled(&whole));
+    words.join(" ")
 }
 
-fn fed<P: AsRef<[u8]>>(order: ByteOrder, pieces: impl IntoIterator<Item = P>) -> String {
+/// The text of a stream, which is the same however it is cut.
+fn every_chunking(order: ByteOrder, utf16: &[u8]) -> String {
+    let size = to_utf8_lossy_len(order, utf16);
+    text(
+        &Conversion::of("to_utf8_lossy")
+            .unwrap()
+            .tested(order, utf16, size)
+            .1,
+    )
+}
+
+fn decoded<'a>(order: ByteOrder, pieces: impl Iterator<Item = &'a [u8]>) -> String {
     let (mut decoder, mut text) = (Decoder::new(order), String::new());
-    for piece in pieces {
-        decoder.decode(piece.as_ref(), &mut text);
-    }
+    pieces.for_each(|piece| decoder.decode(piece, &mut text));
     text.extend(decoder.finish());
     text
 }
 
-/// The text of a stream, and any other that a chunking has.
-fn cut_anywhere(order: ByteOrder, source: &[u8]) -> Words {
-    let whole = decode_lossy(order, source);
-    let others = (1..=source.len()).map(|len| fed(order, source.chunks(len)));
-    let in_two = (0..=source.len()).map(|at| fed(order, [&source[..at], &source[at..]]));
-    let others = others.chain(in_two).filter(|other| *other != whole);
-    let mut words = vec![text(&whole)];
-    words.extend(others.map(text));
-    Some(words)
-}
-
-fn every_any_chunking(_: ByteOrder, source: &[u8]) -> Words {
-    let found = detect_bom(source, BigEndian);
-    let (len, order) = found.map_or((0, BigEndian), |bom| (bom.len, bom.byte_order));
-    cut_anywhere(order, &source[len..])
-}
-
-fn lossy_feed(order: ByteOrder, values: &[&str]) -> Words {
+fn lossy_feed(order: ByteOrder, pieces: Vec<Raw>) -> String {
     let (mut decoder, mut words) = (Decoder::new(order), Vec::new());
-    for piece in pieces(values)? {
+    for piece in pieces {
         let mut written = String::new();
         decoder.decode(&piece, &mut written);
-        words.extend([text(written), hex(decoder.pending())]);
+        words.extend([text(written.as_bytes()), hex(decoder.pending())]);
     }
     let end = decoder.finish();
     words.push(end.map_or("none".to_string(), |c| format!("U+{:04X}", u32::from(c))));
-    Some(words)
+    words.join(" ")
+}
+
+fn inspected(order: ByteOrder, utf16: &[u8]) -> String {
+    let found = inspect(order, utf16);
+    let follows = match found.error.map(|error| error.error_len()) {
+        None => "end".to_string(),
+        Some(None) => "incomplete".to_string(),
+        Some(Some(len)) => format!("ill_formed {len}"),
+    };
+    let kind = format!("{:?}", found.repertoire).to_lowercase();
+    format!("{} {} {kind} {follows}", found.valid_up_to, found.chars)
 }
 
 /// The error of a validation, or a word if there is none.
-fn validity(order: ByteOrder, utf16: &[u8], none: &str) -> Words {
-    match validate(order, utf16) {
-        Ok(()) => one(none),
-        Err(error) => one(format!(
+fn validity(order: ByteOrder, utf16: &[u8], none: &str) -> String {
+    let error = validate(order, utf16).err();
+    error.map_or(none.to_string(), |error| {
+        format!(
             "error {} {}",
             error.valid_up_to(),
             or_none(error.error_len())
-        )),
-    }
+        )
+    })
 }
 
-fn compared(order: ByteOrder, first: &[u8], second: &[u8]) -> Words {
-    let found = compare(order, first, order, second);
-    one(format!("{found:?}").to_lowercase())
+fn utf32_validity(utf32: &[u32]) -> String {
+    let error = validate_utf32(utf32).err();
+    error.map_or("done".to_string(), |error| error.valid_up_to().to_string())
 }
 
-fn is_boundary(order: ByteOrder, utf16: &[u8], at: &str) -> Words {
-    one(is_char_boundary(order, utf16, number(at)?))
-}
-
-fn shard(_: ByteOrder, values: &[&str]) -> Words {
-    let numbers = values.iter().map(|word| word.parse().ok());
-    match numbers.collect::<Option<Vec<_>>>()?[..] {
-        [len, count, index] => one(shard_offset(len, count, index)),
-        _ => None,
-    }
-}
-
-fn str_of(utf8: &[u8]) -> Option<&str> {
-    std::str::from_utf8(utf8).ok()
-}
-
-fn swapped(_: ByteOrder, utf16: &[u8]) -> Words {
-    let mut utf16 = utf16.to_vec();
+fn swapped(mut utf16: Raw) -> String {
     swap_byte_order(&mut utf16);
-    one(hex(&utf16))
+    hex(&utf16)
 }
 
-fn well_formed(order: ByteOrder, utf16: &[u8]) -> Words {
-    let mut utf16 = utf16.to_vec();
+fn well_formed(order: ByteOrder, mut utf16: Raw) -> String {
     let count = make_well_formed(order, &mut utf16);
-    one(format!("{count} {}", hex(&utf16)))
+    format!("{count} {}", hex(&utf16))
 }
 
 /// How many characters are left after some were taken from the front and the back.
-fn count_the_rest(order: ByteOrder, values: &[&str]) -> Words {
-    let text = decode(order, &raw(values.first()?)?).ok()?;
+fn count_the_rest(order: ByteOrder, utf16: &[u8], ends: &str) -> usize {
+    let text = decode(order, utf16).unwrap();
     let mut chars = text.chars();
-    for end in values[1..].iter().flat_map(|ends| ends.chars()) {
+    for end in ends.chars() {
         let _taken = match end {
             'f' => chars.next(),
             _ => chars.next_back(),
         };
     }
-    one(count_chars(order, &encode(order, chars.as_str())))
+    count_chars(order, &encode(order, chars.as_str()))
+}
+
+/// Makes a call: the first whose values are of the types of these words.
+fn made(name: &str, order: ByteOrder, values: &[&str]) -> Found {
+    let conversion = Conversion::of(name).and_then(|it| it.case(order, values));
+    let calls = || CALLS.iter().filter(|it| it.0.contains(&name));
+    conversion.or_else(|| calls().find_map(|it| it.1(order, values)))
+}
+
+/// The names of the calls that are made.
+fn names() -> impl Iterator<Item = &'static str> {
+    let conversions = CONVERSIONS.iter().map(|it| it.name);
+    CALLS.iter().flat_map(|it| it.0).copied().chain(conversions)
 }
 
 /// The counts of the cases.
@@ -445,7 +807,7 @@ impl Counts {
             }
             _ => return self.fail(line),
         };
-        if call_of(name).is_none() || !conditions.is_empty() {
+        if names().all(|it| it != name) || !conditions.is_empty() {
             return;
         }
         self.calls.insert(name.to_string());
@@ -455,7 +817,7 @@ impl Counts {
             _ => return self.fail(line),
         };
         let values = values.split_whitespace().collect::<Vec<_>>();
-        let found = made(name, order, &values).map(|words| words.join(" "));
+        let found = catch_unwind(|| made(name, order, &values)).unwrap_or_default();
         if found.as_deref() == Some(result) {
             self.passed += 1;
         } else {
@@ -487,7 +849,7 @@ fn main() {
         Ok(lines) => lines.lines().for_each(|line| counts.case(line)),
         Err(error) => counts.fail(&format!("the tables of the repository: {error}")),
     }
-    for (name, _) in CALLS {
+    for name in names() {
         if !counts.calls.contains(name) {
             counts.fail(&format!("no case of {name}"));
         }

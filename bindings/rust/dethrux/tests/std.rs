@@ -24,6 +24,15 @@ fn errors_are_shown_as_std_shows_them() {
         error.to_string(),
         "incomplete surrogate pair from code unit 1"
     );
+    for (wtf8, message) in [
+        (
+            &b"a\xED\xA0b"[..],
+            "invalid wtf-8 sequence of 2 bytes from index 1",
+        ),
+        (b"ab\xED\xA0", "incomplete wtf-8 byte sequence from index 2"),
+    ] {
+        assert_eq!(units_from_wtf8(wtf8).unwrap_err().to_string(), message);
+    }
 }
 
 /// Whether an error of std is `InvalidData`, and has this error in it.
