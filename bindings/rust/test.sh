@@ -93,13 +93,23 @@ test_utf16string() {
     lint utf16string
 }
 
+# Begins an empty project in a folder, with lines for its dependencies.
+begin() {
+    rm -rf "$1" && mkdir -p "$1/src" &&
+        printf '%s\n' '[package]' "name = '${1##*/}'" 'version = "0.1.0"' 'edition = "2021"' \
+            '[dependencies]' "${@:2}" > "$1/Cargo.toml"
+}
+
+# Builds a project, and runs its program.
+build_and_run() {
+    (cd "$1" && cargo build --offline --quiet) && "$CARGO_TARGET_DIR/debug/${1##*/}"
+}
+
 # A program that depends on utf16string 0.2 of the registry, with the crate here instead of it.
 test_patch() {
     local project=$room/patched
-    mkdir -p "$project/src"
-    printf '%s\n' '[package]' 'name = "patched"' 'version = "0.1.0"' 'edition = "2021"' \
-        '[dependencies]' 'byteorder = "1"' 'utf16string = "0.2"' \
-        '[patch.crates-io]' "utf16string = { path = '$here/utf16string' }" > "$project/Cargo.toml"
+    begin "$project" 'byteorder = "1"' 'utf16string = "0.2"' \
+        '[patch.crates-io]' "utf16string = { path = '$here/utf16string' }"
     cat > "$project/src/main.rs" << 'END'
 use byteorder::{ByteOrder, LE};
 use utf16string::{WStr, WString};
@@ -116,25 +126,20 @@ fn main() {
     println!("{}", shout(name).as_wstr());
 }
 END
-    (cd "$project" && cargo build --offline --quiet) || return
-    [ "$("$CARGO_TARGET_DIR/debug/patched")" = 'hi!' ]
+    [ "$(build_and_run "$project")" = 'hi!' ]
 }
 
 # A program of utf16string whose registry has only the crates of the build script.
 test_without_byteorder() {
     local project=$room/alone/project
-    mkdir -p "$project/src" "$room/alone/.cargo" "$room/alone/registry"
+    begin "$project" "utf16string = { path = '$here/utf16string', default-features = false }"
+    mkdir "$room/alone/.cargo" "$room/alone/registry"
     ln -s "$registry"/{cc,pkg-config}-[0-9]* "$room/alone/registry"
     sed "s|^directory.*|directory = '$room/alone/registry'|" "$room/.cargo/config.toml" \
         > "$room/alone/.cargo/config.toml"
-    printf '%s\n' '[package]' 'name = "project"' 'version = "0.1.0"' 'edition = "2021"' \
-        '[dependencies]' \
-        "utf16string = { path = '$here/utf16string', default-features = false }" \
-        > "$project/Cargo.toml"
     sed 's/^use byteorder::.*/use utf16string::{ByteOrder, LE};/' "$room/patched/src/main.rs" \
         > "$project/src/main.rs"
-    (cd "$project" && cargo build --offline --quiet) || return
-    [ "$("$CARGO_TARGET_DIR/debug/project")" = 'hi!' ]
+    [ "$(build_and_run "$project")" = 'hi!' ]
 }
 
 # Prints the first block of the page that is in a language.
@@ -149,26 +154,24 @@ test_page() {
     block toml > "$project/Cargo.toml"
     block rust > "$project/src/main.rs"
     [ -s "$project/src/main.rs" ] || return
-    (cd "$project" && cargo build --offline --quiet) || return
-    printf '\xFF\xFEh\0\x05\x26\n\0' | "$CARGO_TARGET_DIR/debug/first" > "$room/found" || return
+    printf '\xFF\xFEh\0\x05\x26\n\0' | build_and_run "$project" > "$room/found" || return
     printf 'h★\n' | cmp - "$room/found" || return
-    printf '\0h\xDC\0\0' | "$CARGO_TARGET_DIR/debug/first" > "$room/found" || return
+    printf '\0h\xDC\0\0' | build_and_run "$project" > "$room/found" || return
     printf 'h\xEF\xBF\xBD\xEF\xBF\xBD' | cmp - "$room/found" || return
     [ "$(wc -l < "$top/docs/RUST.md")" -le 100 ]
 }
 
-# Builds a copy of the crate outside of the repository, with words for env.
-build_copy() {
+# Runs cargo on a copy of the crate outside of the repository, with words for env before the command.
+on_copy() {
     local copy=$room/clone/bindings/rust/dethrux
     [ -d "$copy" ] || { mkdir -p "${copy%/*}" && cp -r "$here/dethrux" "$copy"; }
-    (cd "$copy" && PKG_CONFIG_LIBDIR=$room env -u DETHRUX_LIB_DIR "$@" \
-        cargo build --offline --features "$features")
+    (cd "$copy" && PKG_CONFIG_LIBDIR=$room env -u DETHRUX_LIB_DIR "$@")
 }
-
-# Makes the documentation of the copy, which has no library, with words for env.
+build_copy() {
+    on_copy "$@" cargo build --offline --features "$features"
+}
 document_copy() {
-    (cd "$room/clone/bindings/rust/dethrux" && PKG_CONFIG_LIBDIR=$room PKG_CONFIG_PATH= \
-        env -u DETHRUX_LIB_DIR "$@" cargo doc --offline --no-deps)
+    on_copy PKG_CONFIG_PATH= "$@" cargo doc --offline --no-deps
 }
 
 # Whether the build script fails with one line.
@@ -187,6 +190,12 @@ put_other() {
     printf 'unsigned dethrux_version(void) { return 99001; }\n' > "$room/other.c"
     cc -c "$room/other.c" -o "$room/other.o" && rm -f "$1/libdethrux.a" &&
         ar cr "$1/libdethrux.a" "$room/other.o"
+}
+
+# Whether the build script refuses the library of a folder, which has another version.
+refuses_other() {
+    put_other "$1" && refuses "$1/libdethrux.a has version 0.99.1, this crate $(< "$top/VERSION"):\
+ install that, or set DETHRUX_LIB_DIR to it" "${@:2}"
 }
 
 # Whether the build script, after the words for env, compiles the assembly.
@@ -210,10 +219,7 @@ test_build_script() {
         "DETHRUX_LIB_DIR is $empty, which has no libdethrux.a: point it to one, or unset it" \
         "$known" "DETHRUX_LIB_DIR=$empty"
     count 'the library that is named again' build_copy "$known" "DETHRUX_LIB_DIR=$named"
-    put_other "$named"
-    said="$named/libdethrux.a has version 0.99.1, this crate $(< "$top/VERSION")"
-    said+=": install that, or set DETHRUX_LIB_DIR to it"
-    count 'another version' refuses "$said" "$known" "DETHRUX_LIB_DIR=$named"
+    count 'another version' refuses_other "$named" "$known" "DETHRUX_LIB_DIR=$named"
     rm "$named/libdethrux.a" && : > "$named/libdethrux.a"
     said="$named/libdethrux.a cannot be used, since no program with it runs"
     said+=": install it again, or set DETHRUX_LIB_DIR"
@@ -232,11 +238,8 @@ test_build_script() {
     features=bundled
     put_other "$room/installed"
     count 'the assembly although a library is installed' compiles "$known"
-    put_other "$named"
-    said="$named/libdethrux.a has version 0.99.1, this crate $(< "$top/VERSION")"
-    said+=": install that, or set DETHRUX_LIB_DIR to it"
     count 'the library that is named before the assembly' \
-        refuses "$said" "$known" "DETHRUX_LIB_DIR=$named"
+        refuses_other "$named" "$known" "DETHRUX_LIB_DIR=$named"
     said="the assembly does not compile for $host: set CC to gcc or clang, or DETHRUX_LIB_DIR"
     count 'no compiler' refuses "$said" PKG_CONFIG_PATH= CC=nowhere
     count 'a compiler that fails' refuses "$said" PKG_CONFIG_PATH= 'CC=false -v'
@@ -248,9 +251,7 @@ test_build_script() {
     said='there is no libdethrux.so: install libdethrux, or set DETHRUX_LIB_DIR to its folder'
     count 'no shared library' refuses "$said" PKG_CONFIG_PATH=
     features=''
-    said="$room/installed/libdethrux.a has version 0.99.1, this crate $(< "$top/VERSION")"
-    said+=": install that, or set DETHRUX_LIB_DIR to it"
-    count 'an installed library of another version' refuses "$said" "$known"
+    count 'an installed library of another version' refuses_other "$room/installed" "$known"
 }
 
 # Succeeds if a step fails.
@@ -262,10 +263,7 @@ fails() {
 # without rt.
 test_bundled() {
     local project=$room/bundled
-    rm -rf "$project" && mkdir -p "$project/src" || return
-    printf '%s\n' '[package]' 'name = "bundled"' 'version = "0.1.0"' 'edition = "2021"' \
-        '[dependencies]' "dethrux = { path = '$1', features = ['bundled'] }" \
-        > "$project/Cargo.toml"
+    begin "$project" "dethrux = { path = '$1', features = ['bundled'] }"
     cat > "$project/src/lib.rs" << 'END'
 #[test]
 fn decodes() {

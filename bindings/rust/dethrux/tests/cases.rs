@@ -45,10 +45,11 @@ impl Value for Raw {
     }
 }
 
-/// Chunks.
+/// Chunks, of which there are none without a word.
 impl Value for Vec<Raw> {
     fn of(word: &str) -> Option<Self> {
-        word.split(',').map(Raw::of).collect()
+        let words = word.split(',').filter(|_| !word.is_empty());
+        words.map(Raw::of).collect()
     }
 }
 
@@ -61,17 +62,17 @@ impl Value for usize {
     }
 }
 
-impl Value for u64 {
-    fn of(word: &str) -> Option<Self> {
-        word.parse().ok()
-    }
+macro_rules! parsed {
+    ($($Type:ty)*) => {$(
+        impl Value for $Type {
+            fn of(word: &str) -> Option<Self> {
+                word.parse().ok()
+            }
+        }
+    )*};
 }
 
-impl Value for String {
-    fn of(word: &str) -> Option<Self> {
-        Some(word.to_string())
-    }
-}
+parsed!(u64 String);
 
 fn hex(bytes: &[u8]) -> String {
     match bytes {
@@ -95,7 +96,7 @@ macro_rules! table {
     ($($($name:literal)|+: |$order:tt $(, $value:ident: $Type:ty)*| $found:expr;)*) => {
         &[$((&[$($name),+], |$order: ByteOrder, values: &[&str]| {
             let mut words = values.iter();
-            $(let $value = <$Type>::of(words.next()?)?;)*
+            $(let $value = <$Type>::of(words.next().unwrap_or(&""))?;)*
             words.next().is_none().then(|| $found.to_string())
         })),*]
     };
@@ -120,7 +121,6 @@ const CALLS: &[(&[&str], Call)] = table! {
     "validate_utf32": |_, utf32: Raw| utf32_validity(&u32::units(&utf32));
     "WStr::to_utf8": |order, utf16: Raw| text(decode(order, &utf16).unwrap().as_bytes());
     "WString::from_str": |order, utf8: Raw| hex(&encode(order, str::from_utf8(&utf8).unwrap()));
-    "WStrChars::count": |order, utf16: Raw| count_the_rest(order, &utf16, "");
     "WStrChars::count": |order, utf16: Raw, ends: String| count_the_rest(order, &utf16, &ends);
     "swap_byte_order": |_, utf16: Raw| swapped(utf16);
     "make_well_formed": |order, utf16: Raw| well_formed(order, utf16);
@@ -132,7 +132,9 @@ const CALLS: &[(&[&str], Call)] = table! {
     "nul_offset": |_, utf16: Raw| nul_offset(&utf16);
     "bytes::is_char_boundary" | "WStr::is_char_boundary" | "WString::is_char_boundary":
         |order, utf16: Raw, at: usize| is_char_boundary(order, &utf16, at);
-    "bytes::floor_char_boundary": |order, utf16: Raw, at: usize| floor_char_boundary(order, &utf16, at);
+    "bytes::floor_char_boundary": |order, utf16: Raw, at: usize| {
+        floor_char_boundary(order, &utf16, at)
+    };
     "bytes::floor_char_boundary_around": |order, around: Raw, at: u64| {
         floor_char_boundary_around(order, &around, at)
     };
@@ -144,16 +146,16 @@ const CALLS: &[(&[&str], Call)] = table! {
         let (len, order) = found.map_or((0, BigEndian), |bom| (bom.len, bom.byte_order));
         every_chunking(order, &stream[len..])
     };
-    "Lossy::feed": |order| lossy_feed(order, Vec::new());
     "Lossy::feed": |order, pieces: Vec<Raw>| lossy_feed(order, pieces);
-    "decode_pieces": |order| text(decoded(order, [].into_iter()).as_bytes());
     "decode_pieces": |order, pieces: Vec<Raw>| {
         text(decoded(order, pieces.iter().map(Vec::as_slice)).as_bytes())
     };
     "Stream::feed": |order, pieces: Vec<Raw>, room: usize| fed::<Decoder>(order, pieces, room);
     "feed_utf8": |order, pieces: Vec<Raw>, room: usize| fed::<Encoder>(order, pieces, room);
     "feed_wtf8": |order, pieces: Vec<Raw>, room: usize| fed::<Wtf8Decoder>(order, pieces, room);
-    "Wtf8Stream::feed": |order, pieces: Vec<Raw>, room: usize| fed::<Wtf8Encoder>(order, pieces, room);
+    "Wtf8Stream::feed": |order, pieces: Vec<Raw>, room: usize| {
+        fed::<Wtf8Encoder>(order, pieces, room)
+    };
 };
 
 /// A code unit of a conversion, which the tables spell by its bytes in big endian.
@@ -278,25 +280,13 @@ impl Conversion {
             Status::IllFormed(len) => Err(Place(progress.read, Some(len))),
             Status::Incomplete => Err(Place(progress.read, None)),
         };
-        let streams = STREAMS.iter().filter(|_| whole.is_ok());
-        let calls = OTHERS.iter().chain(streams).filter(|it| it.0 == self.name);
-        for (number, (_, call)) in calls.enumerate() {
-            assert_eq!(
-                call(order, raw),
-                whole,
-                "the other call {number} of {}",
-                self.name
-            );
-        }
         let is_native = order == ByteOrder::NATIVE && (self.reads != "utf16" || raw.len() % 2 == 0);
-        let calls = ON_UNITS.iter().filter(|it| is_native && it.0 == self.name);
-        for (number, (_, call)) in calls.enumerate() {
-            assert_eq!(
-                call(raw),
-                whole,
-                "the call {number} of {} on code units",
-                self.name
-            );
+        let mut calls: Vec<&Other> = OTHERS.iter().collect();
+        calls.extend(STREAMS.iter().filter(|_| whole.is_ok()));
+        calls.extend(ON_UNITS.iter().filter(|_| is_native));
+        calls.retain(|it| it.0 == self.name);
+        for (number, (name, call)) in calls.into_iter().enumerate() {
+            assert_eq!(call(order, raw), whole, "call {number} for {name}");
         }
         if output.len() <= SHORT {
             self.resumed(order, raw, &output);
@@ -370,9 +360,12 @@ places! {
 /// What a call for a whole input returns.
 type Whole = Result<Raw, Place>;
 
-/// Calls that do what a conversion does, for a whole input.
+/// The name of a conversion, and a call that does the same for a whole input.
+type Other = (&'static str, fn(ByteOrder, &[u8]) -> Whole);
+
+/// Calls that do what a conversion does.
 #[rustfmt::skip]
-const OTHERS: &[(&str, fn(ByteOrder, &[u8]) -> Whole)] = &[
+const OTHERS: &[Other] = &[
     ("to_utf8", |order, utf16| Ok(decode(order, utf16)?.into_bytes())),
     ("to_utf8", |order, utf16| {
         validate(order, utf16)?;
@@ -386,7 +379,7 @@ const OTHERS: &[(&str, fn(ByteOrder, &[u8]) -> Whole)] = &[
         end.map(|()| text)
     }),
     ("to_utf8", |order, utf16| {
-        let (marked, default) = (marked(order, utf16), other(order));
+        let (marked, default) = marked(order, utf16);
         let (text, end) = read(&marked, |parts| Reader::strict_with_bom(parts, default).unwrap());
         end.map(|()| text).map_err(|Place(at, len)| Place(at - 2, len))
     }),
@@ -394,9 +387,11 @@ const OTHERS: &[(&str, fn(ByteOrder, &[u8]) -> Whole)] = &[
     ("to_utf8_lossy", |order, utf16| Ok(display(order, utf16).to_string().into_bytes())),
     ("to_utf8_lossy", |order, utf16| Ok(by_chunks(order, utf16))),
     ("to_utf8_lossy", |order, utf16| Ok(decoded(order, utf16.chunks(3)).into_bytes())),
-    ("to_utf8_lossy", |order, utf16| Ok(read(utf16, |parts| Reader::new(parts, Decoder::new(order))).0)),
     ("to_utf8_lossy", |order, utf16| {
-        let (marked, default) = (marked(order, utf16), other(order));
+        Ok(read(utf16, |parts| Reader::new(parts, Decoder::new(order))).0)
+    }),
+    ("to_utf8_lossy", |order, utf16| {
+        let (marked, default) = marked(order, utf16);
         Ok(read(&marked, |parts| Reader::with_bom(parts, default).unwrap()).0)
     }),
     ("to_utf8_lossy", |order, utf16| Ok(written(utf16, Decoder::new(order)))),
@@ -413,10 +408,14 @@ const OTHERS: &[(&str, fn(ByteOrder, &[u8]) -> Whole)] = &[
         utf16.extend(encoder.finish().into_iter().flatten());
         Ok(utf16)
     }),
-    ("from_utf8_lossy", |order, utf8| Ok(read(utf8, |parts| Reader::new(parts, Encoder::new(order))).0)),
+    ("from_utf8_lossy", |order, utf8| {
+        Ok(read(utf8, |parts| Reader::new(parts, Encoder::new(order))).0)
+    }),
     ("from_utf8_lossy", |order, utf8| Ok(written(utf8, Encoder::new(order)))),
     ("to_utf32", |order, utf16| Ok(u32::raw(chars_as_utf32(&decode_to_chars(order, utf16)?)))),
-    ("to_utf32_lossy", |order, utf16| Ok(u32::raw(chars_as_utf32(&decode_to_chars_lossy(order, utf16))))),
+    ("to_utf32_lossy", |order, utf16| {
+        Ok(u32::raw(chars_as_utf32(&decode_to_chars_lossy(order, utf16))))
+    }),
     ("from_utf32", |order, utf32| Ok(encode_from_utf32(order, &u32::units(utf32))?)),
     ("from_utf32", |order, utf32| {
         Ok(encode_from_utf32(order, chars_as_utf32(utf32_as_chars(&u32::units(utf32))?))?)
@@ -428,7 +427,7 @@ const OTHERS: &[(&str, fn(ByteOrder, &[u8]) -> Whole)] = &[
 
 /// Streams that do what a conversion does, if all of the input is converted.
 #[rustfmt::skip]
-const STREAMS: &[(&str, fn(ByteOrder, &[u8]) -> Whole)] = &[
+const STREAMS: &[Other] = &[
     ("to_utf8_lossy", streamed::<Decoder>),
     ("from_utf8_lossy", streamed::<Encoder>),
     ("to_wtf8", streamed::<Wtf8Decoder>),
@@ -444,18 +443,18 @@ const STREAMS: &[(&str, fn(ByteOrder, &[u8]) -> Whole)] = &[
 
 /// Calls on code units that do what a conversion does in the byte order of the machine.
 #[rustfmt::skip]
-const ON_UNITS: &[(&str, fn(&[u8]) -> Whole)] = &[
-    ("to_utf8", |utf16| Ok(decode_units(&units(utf16))?.into_bytes())),
-    ("to_utf8", |utf16| {
+const ON_UNITS: &[Other] = &[
+    ("to_utf8", |_, utf16| Ok(decode_units(&units(utf16))?.into_bytes())),
+    ("to_utf8", |_, utf16| {
         validate_units(&units(utf16))?;
         Ok(decode_lossy(ByteOrder::NATIVE, utf16).into_bytes())
     }),
-    ("from_utf8", |utf8| Ok(units_as_bytes(&encode_units(str::from_utf8(utf8)?)).to_vec())),
-    ("to_wtf8", |utf16| Ok(units_to_wtf8(&units(utf16)))),
-    ("to_wtf8", |utf16| {
+    ("from_utf8", |_, utf8| Ok(units_as_bytes(&encode_units(str::from_utf8(utf8)?)).to_vec())),
+    ("to_wtf8", |_, utf16| Ok(units_to_wtf8(&units(utf16)))),
+    ("to_wtf8", |_, utf16| {
         Ok(units_to_wtf8(&units_from_os_str(&os_string_from_units(&units(utf16)))?))
     }),
-    ("from_wtf8", |wtf8| Ok(units_as_bytes(&units_from_wtf8(wtf8)?).to_vec())),
+    ("from_wtf8", |_, wtf8| Ok(units_as_bytes(&units_from_wtf8(wtf8)?).to_vec())),
 ];
 
 /// What `decode_to` appends, which is nothing if there is an error.
@@ -467,20 +466,13 @@ fn appended(order: ByteOrder, utf16: &[u8]) -> Whole {
     Ok(text["é".len()..].into())
 }
 
-fn other(order: ByteOrder) -> ByteOrder {
-    match order {
-        LittleEndian => BigEndian,
-        BigEndian => LittleEndian,
-    }
-}
-
-/// UTF-16 after the byte order mark.
-fn marked(order: ByteOrder, utf16: &[u8]) -> Raw {
-    let mark = match order {
-        LittleEndian => b"\xFF\xFE",
-        BigEndian => b"\xFE\xFF",
+/// UTF-16 after the byte order mark, and the other byte order.
+fn marked(order: ByteOrder, utf16: &[u8]) -> (Raw, ByteOrder) {
+    let (mark, other) = match order {
+        LittleEndian => (b"\xFF\xFE", BigEndian),
+        BigEndian => (b"\xFE\xFF", LittleEndian),
     };
-    [mark, utf16].concat()
+    ([mark, utf16].concat(), other)
 }
 
 /// What a reader of a stream in two parts returns, and its error, which comes again. They are the
@@ -513,10 +505,8 @@ fn read<'a, R: Read>(
 
 /// Where the error of a strict reader is.
 fn place(error: &std::io::Error) -> Place {
-    let inner = error
-        .get_ref()
-        .and_then(|it| it.downcast_ref::<Utf16Error>());
-    Place::from(*inner.expect("an error about UTF-16"))
+    let inner = error.get_ref().expect("an error about UTF-16");
+    Place::from(*inner.downcast_ref::<Utf16Error>().unwrap())
 }
 
 /// What a writer writes of chunks.
@@ -561,7 +551,9 @@ trait Stream: Sized {
 }
 
 macro_rules! streams {
-    ($($Stream:ident $spelled:ident |$stream:ident, $to:ident| $end:expr $(, $discard:ident)?;)*) => {$(
+    ($(
+        $Stream:ident $spelled:ident |$stream:ident, $to:ident| $end:expr $(, $discard:ident)?;
+    )*) => {$(
         impl Stream for $Stream {
             const MAX_LEN: fn(usize) -> usize = $Stream::max_len;
             const SPELLED: fn(&[u8]) -> String = $spelled;
@@ -602,22 +594,15 @@ streams! {
 /// Begins another stream, if the value that ends this one fits.
 fn ended<S: Stream>(stream: &mut S, end: Option<impl AsRef<[u8]>>, to: &mut [u8]) -> Progress {
     let end = end.map_or(Vec::new(), |it| it.as_ref().to_vec());
-    let (read, written) = (0, end.len());
-    if written > to.len() {
-        let (written, status) = (0, Status::NoSpace);
-        return Progress {
-            read,
-            written,
-            status,
-        };
+    let is_short = end.len() > to.len();
+    if !is_short {
+        to[..end.len()].copy_from_slice(&end);
+        *stream = S::start(LittleEndian);
     }
-    to[..written].copy_from_slice(&end);
-    *stream = S::start(LittleEndian);
-    let status = Status::Done;
     Progress {
-        read,
-        written,
-        status,
+        read: 0,
+        written: if is_short { 0 } else { end.len() },
+        status: [Status::Done, Status::NoSpace][usize::from(is_short)],
     }
 }
 
@@ -639,17 +624,9 @@ fn streamed<S: Stream>(order: ByteOrder, raw: &[u8]) -> Whole {
         output
     };
     let whole = streamed(vec![raw]);
-    for len in 1..=raw.len() {
-        assert_eq!(
-            streamed(raw.chunks(len).collect()),
-            whole,
-            "chunks of {len}"
-        );
-        assert_eq!(
-            streamed(vec![&raw[..len], &raw[len..]]),
-            whole,
-            "cut at {len}"
-        );
+    for len in cuts(raw) {
+        assert_eq!(streamed(raw.chunks(len).collect()), whole);
+        assert_eq!(streamed(vec![&raw[..len], &raw[len..]]), whole);
     }
     Ok(whole)
 }
@@ -697,13 +674,11 @@ fn every_room(name: &str, order: ByteOrder, raw: &[u8]) -> String {
 
 /// The text of a stream, which is the same however it is cut.
 fn every_chunking(order: ByteOrder, utf16: &[u8]) -> String {
-    let size = to_utf8_lossy_len(order, utf16);
-    text(
-        &Conversion::of("to_utf8_lossy")
-            .unwrap()
-            .tested(order, utf16, size)
-            .1,
-    )
+    let (call, size) = (
+        Conversion::of("to_utf8_lossy"),
+        to_utf8_lossy_len(order, utf16),
+    );
+    text(&call.unwrap().tested(order, utf16, size).1)
 }
 
 fn decoded<'a>(order: ByteOrder, pieces: impl Iterator<Item = &'a [u8]>) -> String {
@@ -776,11 +751,13 @@ fn count_the_rest(order: ByteOrder, utf16: &[u8], ends: &str) -> usize {
     count_chars(order, &encode(order, chars.as_str()))
 }
 
-/// Makes a call: the first whose values are of the types of these words.
+/// Makes a call.
 fn made(name: &str, order: ByteOrder, values: &[&str]) -> Found {
-    let conversion = Conversion::of(name).and_then(|it| it.case(order, values));
-    let calls = || CALLS.iter().filter(|it| it.0.contains(&name));
-    conversion.or_else(|| calls().find_map(|it| it.1(order, values)))
+    if let Some(conversion) = Conversion::of(name) {
+        return conversion.case(order, values);
+    }
+    let call = CALLS.iter().find(|it| it.0.contains(&name))?.1;
+    call(order, values)
 }
 
 /// The names of the calls that are made.
