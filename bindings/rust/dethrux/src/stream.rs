@@ -47,9 +47,22 @@ impl<const N: usize> Stream<N> {
     }
 }
 
-/// Implements the methods that are the same for every stream.
+/// Defines a stream, which keeps up to this many bytes, by its longest output for a chunk and by
+/// the call of the library that feeds it.
 macro_rules! stream {
-    ($Name:ident, $most:literal) => {
+    (
+        $(#[$doc:meta])*
+        pub struct $Name:ident([u8; $most:literal], $in_words:literal);
+        fn max_len($len:ident) = $max_len:expr;
+        $(#[$feed_doc:meta])*
+        fn feed = ffi::$feed:ident;
+    ) => {
+        $(#[$doc])*
+        #[derive(Clone, Debug)]
+        pub struct $Name {
+            stream: Stream<$most>,
+        }
+
         impl $Name {
             /// Returns the start of a stream.
             #[must_use]
@@ -65,10 +78,22 @@ macro_rules! stream {
             }
 
             /// Returns the bytes that were read but are not converted yet,
-            #[doc = concat!("at most ", $most, ".")]
+            #[doc = concat!("at most ", $in_words, ".")]
             #[must_use]
             pub fn pending(&self) -> &[u8] {
                 self.stream.state.pending()
+            }
+
+            /// Returns a capacity in bytes that suffices to feed every chunk of `len` bytes.
+            #[must_use]
+            pub const fn max_len($len: usize) -> usize {
+                $max_len
+            }
+
+            $(#[$feed_doc])*
+            #[must_use]
+            pub fn feed<B: Buffer + ?Sized>(&mut self, chunk: &[u8], to: &mut B) -> Progress {
+                self.stream.feed(ffi::$feed, chunk, to)
             }
         }
     };
@@ -76,55 +101,42 @@ macro_rules! stream {
 
 pub(crate) use stream;
 
-stream!(Decoder, "three");
-stream!(Encoder, "three");
-
-/// Decodes a stream of UTF-16, cut anywhere, to UTF-8, with U+FFFD for each unpaired surrogate and
-/// for an incomplete character at the end.
-///
-/// It keeps at most three bytes. A clone continues independently.
-///
-/// ```
-/// use dethrux::{ByteOrder::LittleEndian, Decoder, Status};
-///
-/// let (mut decoder, mut utf8) = (Decoder::new(LittleEndian), [0; 4]);
-/// let progress = decoder.feed(b"\x3D\xD8\0", &mut utf8);
-/// assert_eq!((progress.written, decoder.pending()), (0, &b"\x3D\xD8\0"[..]));
-/// let progress = decoder.feed(b"\xDEh\0", &mut utf8);
-/// assert_eq!((progress.read, progress.status), (1, Status::NoSpace));
-/// assert_eq!(utf8, "\u{1F600}".as_bytes());
-/// ```
-///
-/// A decoder that was finished cannot be used:
-///
-/// ```compile_fail,E0382
-/// # use dethrux::{ByteOrder::LittleEndian, Decoder};
-/// let mut decoder = Decoder::new(LittleEndian);
-/// decoder.finish();
-/// decoder.feed(b"h\0", &mut [0; 4]);
-/// ```
-#[derive(Clone, Debug)]
-pub struct Decoder {
-    stream: Stream,
-}
-
-impl Decoder {
-    /// Returns a capacity in bytes that suffices to feed every chunk of `len` bytes.
-    #[must_use]
-    pub const fn max_len(len: usize) -> usize {
-        crate::to_utf8_max_len(len.saturating_add(2))
-    }
-
+stream! {
+    /// Decodes a stream of UTF-16, cut anywhere, to UTF-8, with U+FFFD for each unpaired surrogate
+    /// and for an incomplete character at the end.
+    ///
+    /// It keeps at most three bytes. A clone continues independently.
+    ///
+    /// ```
+    /// use dethrux::{ByteOrder::LittleEndian, Decoder, Status};
+    ///
+    /// let (mut decoder, mut utf8) = (Decoder::new(LittleEndian), [0; 4]);
+    /// let progress = decoder.feed(b"\x3D\xD8\0", &mut utf8);
+    /// assert_eq!((progress.written, decoder.pending()), (0, &b"\x3D\xD8\0"[..]));
+    /// let progress = decoder.feed(b"\xDEh\0", &mut utf8);
+    /// assert_eq!((progress.read, progress.status), (1, Status::NoSpace));
+    /// assert_eq!(utf8, "\u{1F600}".as_bytes());
+    /// ```
+    ///
+    /// A decoder that was finished cannot be used:
+    ///
+    /// ```compile_fail,E0382
+    /// # use dethrux::{ByteOrder::LittleEndian, Decoder};
+    /// let mut decoder = Decoder::new(LittleEndian);
+    /// decoder.finish();
+    /// decoder.feed(b"h\0", &mut [0; 4]);
+    /// ```
+    pub struct Decoder([u8; 3], "three");
+    fn max_len(len) = crate::to_utf8_max_len(len.saturating_add(2));
     /// Decodes the next chunk: [`Status::Done`] if all of it was read, or [`Status::NoSpace`]: call
     /// again with the rest. With a capacity of 4 or more, something was written in that case.
     ///
     /// [`Status::Done`]: crate::Status::Done
     /// [`Status::NoSpace`]: crate::Status::NoSpace
-    #[must_use]
-    pub fn feed<B: Buffer + ?Sized>(&mut self, chunk: &[u8], to: &mut B) -> Progress {
-        self.stream.feed(ffi::decoder_feed, chunk, to)
-    }
+    fn feed = ffi::decoder_feed;
+}
 
+impl Decoder {
     /// Decodes the next chunk and appends its text. It allocates at most once.
     ///
     /// ```
@@ -161,41 +173,31 @@ impl Decoder {
     }
 }
 
-/// Encodes a stream of UTF-8, cut anywhere, to UTF-16, with U+FFFD for each ill-formed sequence,
-/// like `String::from_utf8_lossy`, and for an incomplete character at the end.
-///
-/// It keeps at most three bytes. A clone continues independently.
-///
-/// ```
-/// use dethrux::{ByteOrder::BigEndian, Encoder};
-///
-/// let (mut encoder, mut utf16) = (Encoder::new(BigEndian), [0; 4]);
-/// let progress = encoder.feed(b"h\xE4\xB8", &mut utf16);
-/// assert_eq!(utf16[..progress.written], *b"\0h");
-/// assert_eq!(encoder.finish(), Some(*b"\xFF\xFD"));
-/// ```
-#[derive(Clone, Debug)]
-pub struct Encoder {
-    stream: Stream,
-}
-
-impl Encoder {
-    /// Returns a capacity in bytes that suffices to feed every chunk of `len` bytes.
-    #[must_use]
-    pub const fn max_len(len: usize) -> usize {
-        crate::from_utf8_max_len(len.saturating_add(1))
-    }
-
+stream! {
+    /// Encodes a stream of UTF-8, cut anywhere, to UTF-16, with U+FFFD for each ill-formed
+    /// sequence, like `String::from_utf8_lossy`, and for an incomplete character at the end.
+    ///
+    /// It keeps at most three bytes. A clone continues independently.
+    ///
+    /// ```
+    /// use dethrux::{ByteOrder::BigEndian, Encoder};
+    ///
+    /// let (mut encoder, mut utf16) = (Encoder::new(BigEndian), [0; 4]);
+    /// let progress = encoder.feed(b"h\xE4\xB8", &mut utf16);
+    /// assert_eq!(utf16[..progress.written], *b"\0h");
+    /// assert_eq!(encoder.finish(), Some(*b"\xFF\xFD"));
+    /// ```
+    pub struct Encoder([u8; 3], "three");
+    fn max_len(len) = crate::from_utf8_max_len(len.saturating_add(1));
     /// Encodes the next chunk: [`Status::Done`] if all of it was read, or [`Status::NoSpace`]: call
     /// again with the rest. With a capacity of 4 or more, something was written in that case.
     ///
     /// [`Status::Done`]: crate::Status::Done
     /// [`Status::NoSpace`]: crate::Status::NoSpace
-    #[must_use]
-    pub fn feed<B: Buffer + ?Sized>(&mut self, chunk: &[u8], to: &mut B) -> Progress {
-        self.stream.feed(ffi::encoder_feed, chunk, to)
-    }
+    fn feed = ffi::encoder_feed;
+}
 
+impl Encoder {
     /// Encodes the next chunk and appends its UTF-16. It allocates at most once.
     ///
     /// ```

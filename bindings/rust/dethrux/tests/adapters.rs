@@ -208,13 +208,16 @@ impl Write for Scripted {
     }
 }
 
+fn interrupted<T>() -> Result<T> {
+    Err(Error::from(ErrorKind::Interrupted))
+}
+
 fn fault(text: &str) -> Error {
     Error::new(ErrorKind::PermissionDenied, text.to_string())
 }
 
 #[test]
 fn a_writer_tries_again_after_an_interruption() {
-    let interrupted = || Err(Error::from(ErrorKind::Interrupted));
     let device = Scripted::new([interrupted(), Ok(1), interrupted(), Ok(9)]);
     let mut writer = Writer::new(device, Encoder::new(BigEndian));
     assert_eq!(writer.write(b"abc").unwrap(), 3);
@@ -313,7 +316,6 @@ fn a_mark_is_looked_for_in_two_bytes() {
 
 #[test]
 fn a_mark_is_read_again_after_an_interruption() {
-    let interrupted = || Err(Error::from(ErrorKind::Interrupted));
     for (mark, text) in [(b"\xFF\xFE", b"a\0"), (b"\xFE\xFF", b"\0a")] {
         let steps = vec![
             interrupted(),
@@ -389,7 +391,6 @@ fn a_strict_reader_counts_from_the_start_of_the_stream() {
 
 #[test]
 fn std_reads_on_after_an_interruption() {
-    let interrupted = || Err(Error::from(ErrorKind::Interrupted));
     let steps = || {
         let bytes = b"h\0\x3D\xD8\0\xDE\n\0i\0".chunks(1).map(Ok);
         Steps::new(bytes.flat_map(|byte| [interrupted(), byte, interrupted()]))

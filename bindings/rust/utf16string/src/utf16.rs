@@ -66,17 +66,9 @@ mod tests {
     use crate::LE;
 
     #[test]
-    fn test_is_leading_surrogate() {
-        assert!(is_leading_surrogate(0xD800));
-        assert!(!is_leading_surrogate(0xF800));
+    fn surrogates_have_two_ranges() {
         let leading = (0..=u16::MAX).filter(|unit| is_leading_surrogate(*unit));
         assert!(leading.eq(0xD800..0xDC00));
-    }
-
-    #[test]
-    fn test_is_trailing_surrogate() {
-        assert!(is_trailing_surrogate(0xDC00));
-        assert!(!is_trailing_surrogate(0xFC00));
         let trailing = (0..=u16::MAX).filter(|unit| is_trailing_surrogate(*unit));
         assert!(trailing.eq(0xDC00..0xE000));
     }
@@ -115,13 +107,5 @@ mod tests {
     #[should_panic(expected = "destination too small, need 4 bytes")]
     fn test_utf16_char_ext_encode_utf16_into_too_small_surrogate() {
         '\u{10000}'.encode_utf16_into::<LE>(&mut [0; 3]);
-    }
-
-    #[test]
-    fn test_utf16_char_ext_len_utf16_bytes() {
-        for (character, len) in [('c', 2), ('\u{10000}', 4)] {
-            assert_eq!(character.encoded_utf16_len(), len);
-            assert_eq!(character.encoded_utf16_len(), 2 * character.len_utf16());
-        }
     }
 }

@@ -75,28 +75,28 @@ where
     assert_eq!(found(view.get_mut(of()).map(|part| &*part)), expected);
     assert_eq!(found(of().get(view)), expected);
     assert_eq!(found(of().get_mut(view).map(|part| &*part)), expected);
-    if window.is_none() {
-        assert!(panics(|| view.index(of()).len()));
-        assert!(panics(|| view.index_mut(of()).len()));
-        assert!(panics(|| of().index(view).len()));
-        assert!(panics(|| of().index_mut(view).len()));
-        assert!(panics(|| text.index(of()).len()));
-        assert!(panics(|| text.index_mut(of()).len()));
-        return;
+    let with_brackets: [fn(&mut WString<E>, I) -> Vec<u8>; 6] = [
+        |text, range| text.as_wstr().index(range).as_bytes().to_vec(),
+        |text, range| text.as_mut_wstr().index_mut(range).as_bytes().to_vec(),
+        |text, range| range.index(text.as_wstr()).as_bytes().to_vec(),
+        |text, range| range.index_mut(text.as_mut_wstr()).as_bytes().to_vec(),
+        |text, range| text.index(range).as_bytes().to_vec(),
+        |text, range| text.index_mut(range).as_bytes().to_vec(),
+    ];
+    for take in with_brackets {
+        let found = catch_unwind(AssertUnwindSafe(|| take(text, of())));
+        assert_eq!(found.ok(), expected);
     }
-    assert_eq!(found(Some(view.index(of()))), expected);
-    assert_eq!(found(Some(view.index_mut(of()))), expected);
-    assert_eq!(found(Some(of().index(view))), expected);
-    assert_eq!(found(Some(of().index_mut(view))), expected);
-    // SAFETY: the range is a substring.
-    unsafe {
-        assert_eq!(found(Some(view.get_unchecked(of()))), expected);
-        assert_eq!(found(Some(view.get_unchecked_mut(of()))), expected);
-        assert_eq!(found(Some(of().get_unchecked(view))), expected);
-        assert_eq!(found(Some(of().get_unchecked_mut(view))), expected);
+    if window.is_some() {
+        let view = text.as_mut_wstr();
+        // SAFETY: the range is a substring.
+        unsafe {
+            assert_eq!(found(Some(view.get_unchecked(of()))), expected);
+            assert_eq!(found(Some(view.get_unchecked_mut(of()))), expected);
+            assert_eq!(found(Some(of().get_unchecked(view))), expected);
+            assert_eq!(found(Some(of().get_unchecked_mut(view))), expected);
+        }
     }
-    assert_eq!(found(Some(text.index(of()))), expected);
-    assert_eq!(found(Some(text.index_mut(of()))), expected);
 }
 
 /// The bytes of a range, if it is one of the text.
@@ -320,30 +320,19 @@ fn ill_formed_bytes_are_refused_by_each_constructor() {
     }
 }
 
-fn lossy<E: 'static + ByteOrder>(units: &[u16], odd: &[u8], text: &str) {
-    let mut raw = vec![0; 2 * units.len()];
-    E::write_u16_into(units, &mut raw);
-    raw.extend(odd);
-    assert_eq!(WString::<E>::from_utf16_lossy(&raw).to_utf8(), text);
-}
-
 #[test]
 fn lossy_strings_replace_what_is_ill_formed() {
-    let cases: [(&[u16], &[u8], &str); 6] = [
-        (&[], b"", ""),
-        (&[0x61], b"\xD8", "a\u{FFFD}"),
-        (&[0xDE00, 0xD83D], b"", "\u{FFFD}\u{FFFD}"),
-        (&[0xD83D], b"a", "\u{FFFD}"),
-        (&[0xD83D, 0xDE00, 0xD83D], b"", "\u{1F600}\u{FFFD}"),
-        (
-            &[0x4E00, 0xD83D, 0x61],
-            b"\xDE",
-            "\u{4E00}\u{FFFD}a\u{FFFD}",
-        ),
+    let cases: [(&[u8], &str); 4] = [
+        (b"\0a\xD8", "a\u{FFFD}"),
+        (b"\xDE\0\xD8\x3D", "\u{FFFD}\u{FFFD}"),
+        (b"\xD8\x3D\xDE\0\xD8\x3D", "\u{1F600}\u{FFFD}"),
+        (b"\x4E\0\xD8\x3D\0a\xDE", "\u{4E00}\u{FFFD}a\u{FFFD}"),
     ];
-    for (units, odd, text) in cases {
-        lossy::<LE>(units, odd, text);
-        lossy::<BE>(units, odd, text);
+    for (big, text) in cases {
+        let mut little = big.to_vec();
+        little.chunks_exact_mut(2).for_each(<[u8]>::reverse);
+        assert_eq!(WString::<BE>::from_utf16_lossy(big).to_utf8(), text);
+        assert_eq!(WString::<LE>::from_utf16_lossy(&little).to_utf8(), text);
     }
 }
 

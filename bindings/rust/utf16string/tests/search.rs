@@ -105,31 +105,6 @@ fn each_pattern_is_found_in_each_text_as_std_finds_it() {
     }
 }
 
-/// The first and the last offset of a string in another one.
-fn ends<E: 'static + ByteOrder>(text: &str, pattern: &str) -> (Option<usize>, Option<usize>) {
-    let (text, pattern) = (WString::<E>::from(text), WString::<E>::from(pattern));
-    (text.find(pattern.as_wstr()), text.rfind(pattern.as_wstr()))
-}
-
-fn ends_are(text: &str, pattern: &str, expected: Option<(usize, usize)>) {
-    let expected = (expected.map(|it| it.0), expected.map(|it| it.1));
-    assert_eq!(ends::<LE>(text, pattern), expected, "{pattern:?}");
-    assert_eq!(ends::<BE>(text, pattern), expected, "{pattern:?}");
-}
-
-#[test]
-fn offsets_count_bytes() {
-    ends_are("", "", Some((0, 0)));
-    ends_are("a\u{10000}", "", Some((0, 6)));
-    ends_are("", "a", None);
-    ends_are("a\u{10000}a\u{10000}", "\u{10000}", Some((2, 8)));
-    ends_are("aaaa", "aa", Some((0, 4)));
-    ends_are("\u{10000}a", "\u{10400}", None);
-    // The bytes of "a" are in these characters, at an odd offset.
-    ends_are("\u{6100}\u{6100}", "a", None);
-    ends_are("a\u{6100}\u{6100}a", "a", Some((0, 6)));
-}
-
 /// A pattern that overlaps itself, in a text in which it almost occurs everywhere.
 #[test]
 fn long_texts_are_searched_to_the_end() {
