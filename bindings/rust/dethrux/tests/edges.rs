@@ -105,69 +105,29 @@ fn some_chunk_needs_the_capacity_of_a_feed() {
 #[test]
 fn a_byte_order_mark_has_two_bytes() {
     let bom = |len, byte_order| Some(Bom { len, byte_order });
-    for default in [LittleEndian, BigEndian] {
-        for first in [0xFE, 0xFF, b'a'] {
-            assert_eq!(detect_bom(&[first], default), None);
-            for second in [0xFE, 0xFF, b'a'] {
-                let expected = match (first, second) {
-                    (0xFF, 0xFE) => bom(2, LittleEndian),
-                    (0xFE, 0xFF) => bom(2, BigEndian),
-                    _ => bom(0, default),
-                };
-                assert_eq!(detect_bom(&[first, second], default), expected);
-                assert_eq!(detect_bom(&[first, second, 0xFE, 0xFF], default), expected);
-            }
+    for default in ORDERS {
+        for short in [&b""[..], b"a", b"\xFE", b"\xFF"] {
+            assert_eq!(detect_bom(short, default), None);
         }
-        assert_eq!(detect_bom(b"", default), None);
+        assert_eq!(detect_bom(b"\xFF\xFE", default), bom(2, LittleEndian));
+        assert_eq!(detect_bom(b"\xFE\xFFa", default), bom(2, BigEndian));
+        for other in [b"\xFE\xFE", b"\xFF\xFF", b"a\xFE", b"\xFFa"] {
+            assert_eq!(detect_bom(other, default), bom(0, default));
+        }
     }
 }
 
 #[test]
 fn a_copy_of_a_stream_continues_independently() {
-    for (order, len) in ORDERS
-        .into_iter()
-        .flat_map(|order| [1, 2, 3].map(|len| (order, len)))
-    {
-        let (utf16, utf8) = (bytes(order, &[LEADING, TRAILING]), "\u{1F600}".as_bytes());
+    for (order, len) in [(LittleEndian, 1), (BigEndian, 2), (BigEndian, 3)] {
+        let utf16 = bytes(order, &[LEADING, TRAILING]);
         let (mut decoder, mut text) = (Decoder::new(order), String::new());
         decoder.decode(&utf16[..len], &mut text);
         let mut copy = decoder.clone();
         copy.decode(&utf16[len..], &mut text);
         assert_eq!(text, "\u{1F600}");
-        assert_eq!(
-            (copy.pending(), decoder.pending()),
-            (&b""[..], &utf16[..len])
-        );
+        assert_eq!((copy.pending().len(), decoder.pending().len()), (0, len));
         assert_eq!((copy.finish(), decoder.finish()), (None, Some('\u{FFFD}')));
-
-        let (mut encoder, mut found) = (Encoder::new(order), Vec::new());
-        encoder.encode(&utf8[..len], &mut found);
-        let mut copy = encoder.clone();
-        copy.encode(&utf8[len..], &mut found);
-        assert_eq!(found, utf16);
-        assert_eq!(
-            (copy.pending(), encoder.pending()),
-            (&b""[..], &utf8[..len])
-        );
-        let end = bytes(order, &[0xFFFD]);
-        assert_eq!(
-            (copy.finish(), encoder.finish().map(Vec::from)),
-            (None, Some(end))
-        );
-    }
-}
-
-#[test]
-fn long_texts_are_shown_whole() {
-    for order in ORDERS {
-        for text in ["aß★\u{1F600}".repeat(100), "★".repeat(1000)] {
-            assert_eq!(display(order, &encode(order, &text)).to_string(), text);
-        }
-        for len in [84, 85, 86, 255, 256, 257, 600] {
-            let units = [&vec![TRAILING; len][..], &[0x61, LEADING]].concat();
-            let text = "\u{FFFD}".repeat(len) + "a\u{FFFD}";
-            assert_eq!(display(order, &bytes(order, &units)).to_string(), text);
-        }
     }
 }
 
@@ -207,33 +167,6 @@ fn units_are_bytes_in_the_byte_order_of_the_machine() {
     assert_eq!(units[2].to_ne_bytes(), [expected[4], 0]);
     assert_eq!(units_as_bytes(&[]), b"");
     assert_eq!(units_as_bytes_mut(&mut []), b"");
-}
-
-#[test]
-fn what_is_not_utf32_is_found_wherever_it_is() {
-    let shown = "invalid utf-32 code unit at index ";
-    for wrong in [0xD800, 0xDFFF, 0x11_0000, u32::MAX] {
-        for at in 0..20 {
-            let mut utf32 = [0x1F600; 20];
-            utf32[at] = wrong;
-            let error = validate_utf32(&utf32).unwrap_err();
-            assert_eq!(error.valid_up_to(), at);
-            assert_eq!(error.to_string(), format!("{shown}{at}"));
-            assert_eq!(utf32_as_chars(&utf32), Err(error));
-            for order in ORDERS {
-                assert_eq!(encode_from_utf32(order, &utf32), Err(error));
-            }
-        }
-    }
-    let chars = ['\0', '\u{D7FF}', '\u{E000}', char::MAX];
-    assert_eq!(utf32_as_chars(chars_as_utf32(&chars)), Ok(&chars[..]));
-    assert_eq!(utf32_as_chars(&[]), Ok(&[][..]));
-    for order in ORDERS {
-        let text: String = chars.iter().collect();
-        let utf16 = bytes(order, &text.encode_utf16().collect::<Vec<_>>());
-        assert_eq!(encode_from_utf32(order, chars_as_utf32(&chars)), Ok(utf16));
-        assert_eq!(encode_from_utf32(order, &[]), Ok(Vec::new()));
-    }
 }
 
 #[test]

@@ -75,24 +75,17 @@ fn calls_that_append_allocate_at_most_once() {
         let (mut to_text, mut to_bytes) = (String::new(), Vec::new());
         let append = || decode_to(LittleEndian, &utf16, &mut to_text);
         assert_eq!(counted(append), (once, Ok(())));
-        assert_eq!(
-            counted(|| encode_to(LittleEndian, text, &mut to_bytes)).0,
-            once
-        );
+        let append = || encode_to(LittleEndian, text, &mut to_bytes);
+        assert_eq!(counted(append).0, once);
         let (mut decoder, mut to_text) = (Decoder::new(LittleEndian), String::new());
-        assert_eq!(counted(|| decoder.decode(&utf16, &mut to_text)).0, (1, 0));
         let (mut encoder, mut to_bytes) = (Encoder::new(LittleEndian), Vec::new());
-        assert_eq!(
-            counted(|| encoder.encode(text.as_bytes(), &mut to_bytes)).0,
-            (1, 0)
-        );
-        to_text.reserve(5000);
-        to_bytes.reserve(5000);
-        assert_eq!(counted(|| decoder.decode(&utf16, &mut to_text)).0, (0, 0));
-        assert_eq!(
-            counted(|| encoder.encode(text.as_bytes(), &mut to_bytes)).0,
-            (0, 0)
-        );
+        for counts in [(1, 0), (0, 0)] {
+            assert_eq!(counted(|| decoder.decode(&utf16, &mut to_text)).0, counts);
+            let append = || encoder.encode(text.as_bytes(), &mut to_bytes);
+            assert_eq!(counted(append).0, counts);
+            to_text.reserve(5000);
+            to_bytes.reserve(5000);
+        }
     }
 }
 

@@ -24,6 +24,8 @@ fn errors_are_shown_as_std_shows_them() {
         error.to_string(),
         "incomplete surrogate pair from code unit 1"
     );
+    let error = validate_utf32(&[0x68, 0xD800]).unwrap_err();
+    assert_eq!(error.to_string(), "invalid utf-32 code unit at index 1");
     for (wtf8, message) in [
         (
             &b"a\xED\xA0b"[..],

@@ -28,41 +28,32 @@ pub struct WString<E: 'static + ByteOrder> {
     _endian: PhantomData<&'static E>,
 }
 
-impl WString<LittleEndian> {
-    /// Returns the bytes as a string, if they are well-formed UTF-16LE.
-    pub fn from_utf16le(buf: Vec<u8>) -> Result<Self, Utf16Error> {
-        Self::from_utf16(buf)
-    }
+/// Defines the constructors for a byte order.
+macro_rules! constructors {
+    ($Order:ident $name:literal $new:ident $unchecked:ident) => {
+        impl WString<$Order> {
+            /// Returns the bytes as a string, if they are well-formed
+            #[doc = concat!($name, ".")]
+            pub fn $new(buf: Vec<u8>) -> Result<Self, Utf16Error> {
+                Self::from_utf16(buf)
+            }
 
-    /// Returns the bytes as a string, without testing them.
-    ///
-    /// # Safety
-    ///
-    /// The bytes are well-formed UTF-16LE.
-    #[inline]
-    pub unsafe fn from_utf16le_unchecked(buf: Vec<u8>) -> Self {
-        // SAFETY: the caller says it.
-        unsafe { Self::from_utf16_unchecked(buf) }
-    }
+            /// Returns the bytes as a string, without testing them.
+            ///
+            /// # Safety
+            ///
+            #[doc = concat!("The bytes are well-formed ", $name, ".")]
+            #[inline]
+            pub unsafe fn $unchecked(buf: Vec<u8>) -> Self {
+                // SAFETY: the caller says it.
+                unsafe { Self::from_utf16_unchecked(buf) }
+            }
+        }
+    };
 }
 
-impl WString<BigEndian> {
-    /// Returns the bytes as a string, if they are well-formed UTF-16BE.
-    pub fn from_utf16be(buf: Vec<u8>) -> Result<Self, Utf16Error> {
-        Self::from_utf16(buf)
-    }
-
-    /// Returns the bytes as a string, without testing them.
-    ///
-    /// # Safety
-    ///
-    /// The bytes are well-formed UTF-16BE.
-    #[inline]
-    pub unsafe fn from_utf16be_unchecked(buf: Vec<u8>) -> Self {
-        // SAFETY: the caller says it.
-        unsafe { Self::from_utf16_unchecked(buf) }
-    }
-}
+constructors!(LittleEndian "UTF-16LE" from_utf16le from_utf16le_unchecked);
+constructors!(BigEndian "UTF-16BE" from_utf16be from_utf16be_unchecked);
 
 impl<E: ByteOrder> WString<E> {
     /// Returns an empty string. It does not allocate.

@@ -33,69 +33,52 @@ pub(crate) fn validate<E: ByteOrder>(raw: &[u8]) -> Result<(), Utf16Error> {
     Ok(dethrux::validate(byte_order::<E>(), raw)?)
 }
 
-impl WStr<LittleEndian> {
-    /// Returns the bytes as a string, if they are well-formed UTF-16LE.
-    pub fn from_utf16le(raw: &[u8]) -> Result<&Self, Utf16Error> {
-        Self::from_utf16(raw)
-    }
+/// Defines the constructors for a byte order.
+macro_rules! constructors {
+    (
+        $Order:ident $name:literal
+        $new:ident $new_mut:ident $unchecked:ident $unchecked_mut:ident
+    ) => {
+        impl WStr<$Order> {
+            /// Returns the bytes as a string, if they are well-formed
+            #[doc = concat!($name, ".")]
+            pub fn $new(raw: &[u8]) -> Result<&Self, Utf16Error> {
+                Self::from_utf16(raw)
+            }
 
-    /// Returns the bytes as a mutable string, if they are well-formed UTF-16LE.
-    pub fn from_utf16le_mut(raw: &mut [u8]) -> Result<&mut Self, Utf16Error> {
-        Self::from_utf16_mut(raw)
-    }
+            /// Returns the bytes as a mutable string, if they are well-formed
+            #[doc = concat!($name, ".")]
+            pub fn $new_mut(raw: &mut [u8]) -> Result<&mut Self, Utf16Error> {
+                Self::from_utf16_mut(raw)
+            }
 
-    /// Returns the bytes as a string, without testing them.
-    ///
-    /// # Safety
-    ///
-    /// The bytes are well-formed UTF-16LE.
-    pub unsafe fn from_utf16le_unchecked(raw: &[u8]) -> &Self {
-        // SAFETY: the caller says it.
-        unsafe { Self::from_utf16_unchecked(raw) }
-    }
+            /// Returns the bytes as a string, without testing them.
+            ///
+            /// # Safety
+            ///
+            #[doc = concat!("The bytes are well-formed ", $name, ".")]
+            pub unsafe fn $unchecked(raw: &[u8]) -> &Self {
+                // SAFETY: the caller says it.
+                unsafe { Self::from_utf16_unchecked(raw) }
+            }
 
-    /// Returns the bytes as a mutable string, without testing them.
-    ///
-    /// # Safety
-    ///
-    /// The bytes are well-formed UTF-16LE.
-    pub unsafe fn from_utf16le_unchecked_mut(raw: &mut [u8]) -> &mut Self {
-        // SAFETY: the caller says it.
-        unsafe { Self::from_utf16_unchecked_mut(raw) }
-    }
+            /// Returns the bytes as a mutable string, without testing them.
+            ///
+            /// # Safety
+            ///
+            #[doc = concat!("The bytes are well-formed ", $name, ".")]
+            pub unsafe fn $unchecked_mut(raw: &mut [u8]) -> &mut Self {
+                // SAFETY: the caller says it.
+                unsafe { Self::from_utf16_unchecked_mut(raw) }
+            }
+        }
+    };
 }
 
-impl WStr<BigEndian> {
-    /// Returns the bytes as a string, if they are well-formed UTF-16BE.
-    pub fn from_utf16be(raw: &[u8]) -> Result<&Self, Utf16Error> {
-        Self::from_utf16(raw)
-    }
-
-    /// Returns the bytes as a mutable string, if they are well-formed UTF-16BE.
-    pub fn from_utf16be_mut(raw: &mut [u8]) -> Result<&mut Self, Utf16Error> {
-        Self::from_utf16_mut(raw)
-    }
-
-    /// Returns the bytes as a string, without testing them.
-    ///
-    /// # Safety
-    ///
-    /// The bytes are well-formed UTF-16BE.
-    pub unsafe fn from_utf16be_unchecked(raw: &[u8]) -> &Self {
-        // SAFETY: the caller says it.
-        unsafe { Self::from_utf16_unchecked(raw) }
-    }
-
-    /// Returns the bytes as a mutable string, without testing them.
-    ///
-    /// # Safety
-    ///
-    /// The bytes are well-formed UTF-16BE.
-    pub unsafe fn from_utf16be_unchecked_mut(raw: &mut [u8]) -> &mut Self {
-        // SAFETY: the caller says it.
-        unsafe { Self::from_utf16_unchecked_mut(raw) }
-    }
-}
+constructors!(LittleEndian "UTF-16LE" from_utf16le from_utf16le_mut
+    from_utf16le_unchecked from_utf16le_unchecked_mut);
+constructors!(BigEndian "UTF-16BE" from_utf16be from_utf16be_mut
+    from_utf16be_unchecked from_utf16be_unchecked_mut);
 
 impl<E: ByteOrder> WStr<E> {
     /// Returns the bytes as a string, if they are well formed.
