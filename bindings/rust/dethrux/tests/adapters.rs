@@ -102,12 +102,6 @@ fn a_reader_at_its_end_stays_there() {
     assert_eq!(reader.read_to_string(&mut text).unwrap(), 0);
     assert_eq!(text, "\u{FFFD}");
     assert!(reader.get_ref().is_empty());
-    assert_eq!(
-        Reader::new(&b""[..], Decoder::new(LittleEndian))
-            .read(&mut [0; 1])
-            .unwrap(),
-        0
-    );
 }
 
 #[test]
