@@ -17,7 +17,7 @@ use std::process::{Command, Stdio};
 use std::str::{self, Utf8Error};
 
 /// Up to this many bytes of output, a conversion is made with each capacity.
-const SHORT: usize = 24;
+const SHORT: usize = 12;
 
 /// Where a stream is cut: anywhere if it is short, else at some places.
 fn cuts(raw: &[u8]) -> impl Iterator<Item = usize> {
