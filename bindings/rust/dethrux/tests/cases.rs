@@ -526,10 +526,13 @@ fn units(raw: &[u8]) -> Vec<u16> {
 
 /// The text of chunks, with U+FFFD for each ill-formed sequence.
 fn by_chunks(order: ByteOrder, utf16: &[u8]) -> Raw {
-    let mut text = String::new();
-    for chunk in Utf16Chunks::new(order, utf16) {
+    let (mut text, mut chunks) = (String::new(), Utf16Chunks::new(order, utf16));
+    while let Some(chunk) = chunks.next() {
         decode_to(order, chunk.valid(), &mut text).unwrap();
-        text.extend((!chunk.invalid().is_empty()).then_some(char::REPLACEMENT_CHARACTER));
+        match chunk.invalid() {
+            [] => assert_eq!(chunks.next(), None),
+            _ => text.push(char::REPLACEMENT_CHARACTER),
+        }
     }
     text.into_bytes()
 }
@@ -607,15 +610,23 @@ fn ended<S: Stream>(stream: &mut S, end: Option<impl AsRef<[u8]>>, to: &mut [u8]
 }
 
 /// The output of a stream, which is the same in chunks of each length and in each two chunks, with
-/// the capacity that suffices for each.
+/// the capacity that suffices for each and with the least with which something is written.
 fn streamed<S: Stream>(order: ByteOrder, raw: &[u8]) -> Whole {
-    let streamed = |chunks: Vec<&[u8]>| {
+    let streamed = |chunks: Vec<&[u8]>, max_len: fn(usize) -> usize| {
         let (mut stream, mut output, mut to) = (S::start(order), Vec::new(), Vec::new());
-        for chunk in chunks {
-            to.resize(S::MAX_LEN(chunk.len()), 0);
-            let found = stream.feed(chunk, &mut to);
-            assert_eq!((found.read, found.status), (chunk.len(), Status::Done));
-            output.extend(&to[..found.written]);
+        for mut rest in chunks {
+            to.resize(max_len(rest.len()), 0);
+            loop {
+                let found = stream.feed(rest, &mut to);
+                output.extend(&to[..found.written]);
+                rest = &rest[found.read..];
+                if found.status == Status::Done {
+                    break;
+                }
+                assert_eq!((found.status, to.len()), (Status::NoSpace, 4));
+                assert_ne!(found.written, 0);
+            }
+            assert!(rest.is_empty());
         }
         to.resize(4, 0);
         let end = stream.end(&mut to);
@@ -623,10 +634,11 @@ fn streamed<S: Stream>(order: ByteOrder, raw: &[u8]) -> Whole {
         output.extend(&to[..end.written]);
         output
     };
-    let whole = streamed(vec![raw]);
+    let whole = streamed(vec![raw], S::MAX_LEN);
     for len in cuts(raw) {
-        assert_eq!(streamed(raw.chunks(len).collect()), whole);
-        assert_eq!(streamed(vec![&raw[..len], &raw[len..]]), whole);
+        assert_eq!(streamed(raw.chunks(len).collect(), S::MAX_LEN), whole);
+        assert_eq!(streamed(vec![&raw[..len], &raw[len..]], S::MAX_LEN), whole);
+        assert_eq!(streamed(vec![&raw[..len], &raw[len..]], |_| 4), whole);
     }
     Ok(whole)
 }
