@@ -11,7 +11,7 @@ use dethrux::ByteOrder::{BigEndian, LittleEndian};
 use dethrux::*;
 use std::collections::BTreeSet;
 use std::io::{Chain, Read, Write};
-use std::mem::MaybeUninit;
+use std::mem::{size_of, MaybeUninit};
 use std::panic::catch_unwind;
 use std::process::{Command, Stdio};
 use std::str::{self, Utf8Error};
@@ -167,30 +167,24 @@ trait Unit: Copy + PartialEq {
     fn raw(units: &[Self]) -> Raw;
 }
 
-impl Unit for u8 {
-    const UNTOUCHED: Self = 0xAA;
+macro_rules! units {
+    ($($Unit:ident)*) => {$(
+        impl Unit for $Unit {
+            const UNTOUCHED: Self = Self::MAX / 3 * 2;
 
-    fn units(raw: &[u8]) -> Vec<Self> {
-        raw.to_vec()
-    }
+            fn units(raw: &[u8]) -> Vec<Self> {
+                let units = raw.chunks_exact(size_of::<Self>());
+                units.map(|unit| Self::from_be_bytes(unit.try_into().unwrap())).collect()
+            }
 
-    fn raw(units: &[Self]) -> Raw {
-        units.to_vec()
-    }
+            fn raw(units: &[Self]) -> Raw {
+                units.iter().flat_map(|unit| unit.to_be_bytes()).collect()
+            }
+        }
+    )*};
 }
 
-impl Unit for u32 {
-    const UNTOUCHED: Self = 0xAAAA_AAAA;
-
-    fn units(raw: &[u8]) -> Vec<Self> {
-        let unit = |four: &[u8]| u32::from_be_bytes([four[0], four[1], four[2], four[3]]);
-        raw.chunks_exact(4).map(unit).collect()
-    }
-
-    fn raw(units: &[Self]) -> Raw {
-        units.iter().flat_map(|unit| unit.to_be_bytes()).collect()
-    }
-}
+units!(u8 u32);
 
 /// How far a conversion came, and what it wrote.
 type Converted = (Progress, Raw);
