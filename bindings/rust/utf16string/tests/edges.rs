@@ -75,7 +75,8 @@ where
     assert_eq!(found(view.get_mut(of()).map(|part| &*part)), expected);
     assert_eq!(found(of().get(view)), expected);
     assert_eq!(found(of().get_mut(view).map(|part| &*part)), expected);
-    let with_brackets: [fn(&mut WString<E>, I) -> Vec<u8>; 6] = [
+    type Take<E, I> = fn(&mut WString<E>, I) -> Vec<u8>;
+    let with_brackets: [Take<E, I>; 6] = [
         |text, range| text.as_wstr().index(range).as_bytes().to_vec(),
         |text, range| text.as_mut_wstr().index_mut(range).as_bytes().to_vec(),
         |text, range| range.index(text.as_wstr()).as_bytes().to_vec(),
