@@ -637,7 +637,7 @@ fn streamed<S: Stream>(order: ByteOrder, raw: &[u8]) -> Whole {
     Ok(whole)
 }
 
-/// What each call on a stream returns and writes, and what is pending then.
+/// What each call on a stream returns and writes, and what is pending after it.
 fn fed<S: Stream>(order: ByteOrder, pieces: Vec<Raw>, room: usize) -> String {
     let (mut stream, mut to, mut words) = (S::start(order), vec![0; room], Vec::new());
     let mut step = |found: Progress, to: &[u8], pending: &[u8]| {
