@@ -412,7 +412,7 @@ const OTHERS: &[Other] = &[
     }),
     ("from_utf32", |order, utf32| Ok(encode_from_utf32(order, &u32::units(utf32))?)),
     ("from_utf32", |order, utf32| {
-        Ok(encode_from_utf32(order, chars_as_utf32(utf32_as_chars(&u32::units(utf32))?))?)
+        Ok(encode(order, &utf32_as_chars(&u32::units(utf32))?.iter().collect::<String>()))
     }),
     ("from_latin1", |order, latin1| Ok(encode_from_latin1(order, latin1))),
     ("to_wtf8", |order, utf16| Ok(decode_to_wtf8(order, utf16)?)),
