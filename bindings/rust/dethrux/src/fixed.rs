@@ -1,16 +1,10 @@
 //! UTF-32 and Latin-1, which have a code unit for each character.
 
-#[cfg(feature = "alloc")]
-use alloc::vec::Vec;
 use core::{fmt, slice};
 
-#[cfg(feature = "alloc")]
-use crate::buffer::filled;
 use crate::error::error_of_std;
 use crate::ffi::{self, safe};
 use crate::ByteOrder;
-#[cfg(feature = "alloc")]
-use crate::{from_utf8_max_len, Status, Utf16Error};
 
 safe! {
     /// Converts UTF-16 to UTF-32, up to the first ill-formed sequence. A capacity of
@@ -149,7 +143,7 @@ safe! {
 /// The code units are not UTF-32.
 #[derive(Clone, Copy, Debug, Eq, PartialEq)]
 pub struct Utf32Error {
-    valid_up_to: usize,
+    pub(crate) valid_up_to: usize,
 }
 
 impl Utf32Error {
@@ -167,75 +161,3 @@ impl fmt::Display for Utf32Error {
 }
 
 error_of_std! { Utf32Error }
-
-/// Returns the characters of UTF-16.
-///
-/// # Errors
-///
-/// Like [`validate`](crate::validate), if the bytes are ill formed.
-///
-/// ```
-/// use dethrux::{decode_to_chars, ByteOrder::LittleEndian};
-///
-/// let chars = decode_to_chars(LittleEndian, b"h\0\x3D\xD8\0\xDE").unwrap();
-/// assert_eq!(chars, ['h', '\u{1F600}']);
-/// assert_eq!(decode_to_chars(LittleEndian, b"h\0\0\xDE").unwrap_err().valid_up_to(), 2);
-/// ```
-#[cfg(feature = "alloc")]
-pub fn decode_to_chars(order: ByteOrder, utf16: &[u8]) -> Result<Vec<char>, Utf16Error> {
-    let len = to_utf32_lossy_len(order, utf16);
-    // SAFETY: the library initializes what it wrote, and writes the numbers of characters.
-    let (chars, progress) =
-        unsafe { filled::<char, u32>(len, |spare| to_utf32(order, utf16, spare)) };
-    Utf16Error::after(progress).map_or(Ok(chars), Err)
-}
-
-/// Returns the characters of bytes that may be ill-formed UTF-16, with U+FFFD for each unpaired
-/// surrogate and for an incomplete character at the end.
-#[cfg(feature = "alloc")]
-#[must_use]
-pub fn decode_to_chars_lossy(order: ByteOrder, utf16: &[u8]) -> Vec<char> {
-    let len = to_utf32_lossy_len(order, utf16);
-    // SAFETY: the library initializes what it wrote, and writes the numbers of characters.
-    unsafe { filled::<char, u32>(len, |spare| to_utf32_lossy(order, utf16, spare)).0 }
-}
-
-/// Returns UTF-32 in UTF-16. For characters: `encode_from_utf32(order, chars_as_utf32(chars))`.
-///
-/// # Errors
-///
-/// Like [`validate_utf32`], if the code units are ill formed.
-///
-/// ```
-/// use dethrux::{chars_as_utf32, encode_from_utf32, ByteOrder::BigEndian};
-///
-/// let utf16 = encode_from_utf32(BigEndian, chars_as_utf32(&['h', '★'])).unwrap();
-/// assert_eq!(utf16, b"\0h\x26\x05");
-/// assert_eq!(encode_from_utf32(BigEndian, &[0xDC00]).unwrap_err().valid_up_to(), 0);
-/// ```
-#[cfg(feature = "alloc")]
-pub fn encode_from_utf32(order: ByteOrder, utf32: &[u32]) -> Result<Vec<u8>, Utf32Error> {
-    let max_len = from_utf32_max_len(utf32.len());
-    // SAFETY: the library initializes what it wrote.
-    let (utf16, progress) = unsafe { filled(max_len, |spare| from_utf32(order, utf32, spare)) };
-    let valid_up_to = progress.read;
-    match progress.status {
-        Status::Done => Ok(utf16),
-        _ => Err(Utf32Error { valid_up_to }),
-    }
-}
-
-/// Returns Latin-1 (ISO 8859-1) in UTF-16.
-///
-/// ```
-/// use dethrux::{encode_from_latin1, ByteOrder::LittleEndian};
-///
-/// assert_eq!(encode_from_latin1(LittleEndian, b"h\xE9"), b"h\0\xE9\0");
-/// ```
-#[cfg(feature = "alloc")]
-#[must_use]
-pub fn encode_from_latin1(order: ByteOrder, latin1: &[u8]) -> Vec<u8> {
-    let max_len = from_utf8_max_len(latin1.len());
-    // SAFETY: the library initializes what it wrote.
-    unsafe { filled(max_len, |spare| from_latin1(order, latin1, spare)).0 }
-}

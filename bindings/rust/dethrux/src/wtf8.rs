@@ -1,15 +1,13 @@
 //! WTF-8: any code units of UTF-16, unpaired surrogates too, without loss.
 
-#[cfg(feature = "alloc")]
-use alloc::vec::Vec;
 #[cfg(all(feature = "std", any(unix, windows)))]
 use std::ffi::{OsStr, OsString};
+#[cfg(all(feature = "std", any(unix, windows)))]
+use std::vec::Vec;
 
 use crate::error::error;
 use crate::ffi::{self, safe};
 use crate::ByteOrder;
-#[cfg(feature = "alloc")]
-use crate::{buffer::filled, from_utf8_max_len, units_as_bytes, Progress, Utf16Error};
 
 safe! {
     /// Converts all code units of UTF-16 to WTF-8, with each unpaired surrogate as itself. A
@@ -72,86 +70,6 @@ error! {
         "incomplete wtf-8 byte sequence from index {at}";
 }
 
-/// Returns what a conversion from WTF-8 made with enough capacity, or its error.
-#[cfg(feature = "alloc")]
-fn tested<T>((made, progress): (T, Progress)) -> Result<T, Wtf8Error> {
-    let error = |error: Utf16Error| Wtf8Error {
-        valid_up_to: error.valid_up_to,
-        error_len: error.error_len,
-    };
-    Utf16Error::after(progress).map_or(Ok(made), |it| Err(error(it)))
-}
-
-/// Returns all code units of UTF-16 in WTF-8.
-///
-/// # Errors
-///
-/// If there is an odd byte at the end: `valid_up_to` is its offset, and `error_len` is `None`.
-///
-/// ```
-/// use dethrux::{decode_to_wtf8, ByteOrder::LittleEndian};
-///
-/// assert_eq!(decode_to_wtf8(LittleEndian, b"h\0\x3D\xD8").unwrap(), b"h\xED\xA0\xBD");
-/// assert_eq!(decode_to_wtf8(LittleEndian, b"h\0i").unwrap_err().valid_up_to(), 2);
-/// ```
-#[cfg(feature = "alloc")]
-pub fn decode_to_wtf8(order: ByteOrder, utf16: &[u8]) -> Result<Vec<u8>, Utf16Error> {
-    let max_len = to_wtf8_max_len(utf16.len());
-    // SAFETY: the library initializes what it wrote.
-    let (wtf8, progress) = unsafe { filled(max_len, |spare| to_wtf8(order, utf16, spare)) };
-    Utf16Error::after(progress).map_or(Ok(wtf8), Err)
-}
-
-/// Returns WTF-8 in UTF-16, with each surrogate as one code unit.
-///
-/// # Errors
-///
-/// If the bytes are not WTF-8.
-///
-/// ```
-/// use dethrux::{encode_from_wtf8, ByteOrder::LittleEndian};
-///
-/// assert_eq!(encode_from_wtf8(LittleEndian, b"h\xED\xA0\xBD").unwrap(), b"h\0\x3D\xD8");
-/// let pair = encode_from_wtf8(LittleEndian, b"\xED\xA0\xBD\xED\xB8\x80").unwrap_err();
-/// assert_eq!((pair.valid_up_to(), pair.error_len()), (3, Some(3)));
-/// ```
-#[cfg(feature = "alloc")]
-pub fn encode_from_wtf8(order: ByteOrder, wtf8: &[u8]) -> Result<Vec<u8>, Wtf8Error> {
-    let max_len = from_utf8_max_len(wtf8.len());
-    // SAFETY: the library initializes what it wrote.
-    tested(unsafe { filled(max_len, |spare| from_wtf8(order, wtf8, spare)) })
-}
-
-/// Returns code units, in the byte order of the machine, in WTF-8.
-///
-/// ```
-/// assert_eq!(dethrux::units_to_wtf8(&[0x68, 0xD83D]), b"h\xED\xA0\xBD");
-/// ```
-#[cfg(feature = "alloc")]
-#[must_use]
-pub fn units_to_wtf8(units: &[u16]) -> Vec<u8> {
-    let (order, utf16) = (ByteOrder::NATIVE, units_as_bytes(units));
-    let max_len = to_wtf8_max_len(utf16.len());
-    // SAFETY: the library initializes what it wrote.
-    unsafe { filled(max_len, |spare| to_wtf8(order, utf16, spare)).0 }
-}
-
-/// Returns WTF-8 in code units.
-///
-/// # Errors
-///
-/// If the bytes are not WTF-8.
-///
-/// ```
-/// assert_eq!(dethrux::units_from_wtf8(b"h\xED\xA0\xBD").unwrap(), [0x68, 0xD83D]);
-/// ```
-#[cfg(feature = "alloc")]
-pub fn units_from_wtf8(wtf8: &[u8]) -> Result<Vec<u16>, Wtf8Error> {
-    let order = ByteOrder::NATIVE;
-    // SAFETY: the library writes whole units, and initializes what it wrote.
-    tested(unsafe { filled(wtf8.len(), |spare| from_wtf8(order, wtf8, spare)) })
-}
-
 /// Returns code units, such as a file name of NTFS, as an `OsString`, without loss: on Unix its
 /// bytes are WTF-8, on Windows it is `OsString::from_wide`.
 ///
@@ -165,7 +83,7 @@ pub fn units_from_wtf8(wtf8: &[u8]) -> Result<Vec<u16>, Wtf8Error> {
 #[must_use]
 pub fn os_string_from_units(units: &[u16]) -> OsString {
     #[cfg(unix)]
-    return std::os::unix::ffi::OsStringExt::from_vec(units_to_wtf8(units));
+    return std::os::unix::ffi::OsStringExt::from_vec(crate::units_to_wtf8(units));
     #[cfg(windows)]
     return std::os::windows::ffi::OsStringExt::from_wide(units);
 }
@@ -178,7 +96,7 @@ pub fn os_string_from_units(units: &[u16]) -> OsString {
 #[cfg(all(feature = "std", any(unix, windows)))]
 pub fn units_from_os_str(text: &OsStr) -> Result<Vec<u16>, Wtf8Error> {
     #[cfg(unix)]
-    return units_from_wtf8(std::os::unix::ffi::OsStrExt::as_bytes(text));
+    return crate::units_from_wtf8(std::os::unix::ffi::OsStrExt::as_bytes(text));
     #[cfg(windows)]
     return Ok(std::os::windows::ffi::OsStrExt::encode_wide(text).collect());
 }
