@@ -15,8 +15,8 @@ room=$(mktemp -d)
 trap 'rm -rf "$room"' EXIT
 passed=0
 failed=0
-has_lints=true
-[ "${1:-}" != --tests ] || has_lints=false
+lints='cargo-fmt:rustfmt cargo-clippy:rust-clippy'
+[ "${1:-}" != --tests ] || lints=''
 
 fail() {
     failed=$((failed + 1))
@@ -54,17 +54,9 @@ documented() {
 # Formatting and lints.
 lint() {
     local crate=$1
-    $has_lints || return
-    if cargo fmt --version > "$room/said" 2>&1; then
-        count "$crate: cargo fmt" cargo fmt --check --manifest-path "$here/$crate/Cargo.toml"
-    else
-        fail "$crate: there is no cargo fmt: apt-get install rustfmt, or rustup component add rustfmt"
-    fi
-    if cargo clippy --version > "$room/said" 2>&1; then
-        count "$crate: cargo clippy" on_crate "$crate" clippy --quiet --all-targets -- -D warnings
-    else
-        fail "$crate: there is no cargo clippy: apt-get install rust-clippy, or rustup component add clippy"
-    fi
+    [ -n "$lints" ] || return
+    count "$crate: cargo fmt" cargo fmt --check --manifest-path "$here/$crate/Cargo.toml"
+    count "$crate: cargo clippy" on_crate "$crate" clippy --quiet --all-targets -- -D warnings
 }
 
 test_dethrux() {
@@ -366,7 +358,7 @@ test_targets() {
 }
 
 library=$(realpath -m "${DETHRUX_LIB_DIR:-$room/dist}")/libdethrux.a
-for pair in cargo:cargo rustc:rustc cc:gcc ar:binutils make:make pkg-config:pkg-config \
+for pair in $lints cargo:cargo rustc:rustc cc:gcc ar:binutils make:make pkg-config:pkg-config \
     cmp:diffutils python3:python3 \
     x86_64-linux-gnu-gcc:gcc aarch64-linux-gnu-gcc:gcc-aarch64-linux-gnu \
     clang:clang llvm-objdump:llvm \

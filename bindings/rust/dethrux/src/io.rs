@@ -356,13 +356,9 @@ impl<W: Write, T: Transcoder> Write for Writer<W, T> {
             ));
         }
         self.write_output()?;
-        let transcoder = &mut self.transcoder;
+        let (output, transcoder) = (&mut self.output, &mut self.transcoder);
         // SAFETY: the library initializes what it wrote.
-        let progress = unsafe {
-            append(&mut self.output, BUFFER_LEN, |spare| {
-                transcoder.feed(chunk, spare)
-            })
-        };
+        let progress = unsafe { append(output, BUFFER_LEN, |to| transcoder.feed(chunk, to)) };
         // The chunk is read, so an error is for the next call, which writes the same bytes.
         let _ = self.write_output();
         Ok(progress.read)

@@ -153,12 +153,9 @@ impl Decoder {
     pub fn decode(&mut self, chunk: &[u8], to: &mut String) {
         // SAFETY: the library writes UTF-8.
         let bytes = unsafe { to.as_mut_vec() };
+        let max_len = Self::max_len(chunk.len());
         // SAFETY: the library initializes what it wrote.
-        unsafe {
-            append(bytes, Self::max_len(chunk.len()), |spare| {
-                self.feed(chunk, spare)
-            })
-        };
+        unsafe { append(bytes, max_len, |spare| self.feed(chunk, spare)) };
     }
 
     /// Ends the stream: returns U+FFFD if bytes are pending, else `None`.
@@ -212,12 +209,9 @@ impl Encoder {
     /// ```
     #[cfg(feature = "alloc")]
     pub fn encode(&mut self, chunk: &[u8], to: &mut Vec<u8>) {
+        let max_len = Self::max_len(chunk.len());
         // SAFETY: the library initializes what it wrote.
-        unsafe {
-            append(to, Self::max_len(chunk.len()), |spare| {
-                self.feed(chunk, spare)
-            })
-        };
+        unsafe { append(to, max_len, |spare| self.feed(chunk, spare)) };
     }
 
     /// Ends the stream: returns U+FFFD in the byte order of the stream if bytes are pending, else

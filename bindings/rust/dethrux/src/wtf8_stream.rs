@@ -39,12 +39,9 @@ impl Wtf8Decoder {
     /// Decodes the next chunk and appends its WTF-8. It allocates at most once.
     #[cfg(feature = "alloc")]
     pub fn decode(&mut self, chunk: &[u8], to: &mut Vec<u8>) {
+        let max_len = Self::max_len(chunk.len());
         // SAFETY: the library initializes what it wrote.
-        unsafe {
-            append(to, Self::max_len(chunk.len()), |spare| {
-                self.feed(chunk, spare)
-            })
-        };
+        unsafe { append(to, max_len, |spare| self.feed(chunk, spare)) };
     }
 
     /// Ends the stream and begins another: writes the pending leading surrogate, of 3 bytes, if
