@@ -129,24 +129,6 @@ test("UTF-8: TextDecoder, whole and in streams", () => {
     }
 });
 
-test("searches: a surrogate pair and a code unit are not cut, and an odd byte is at the end", () => {
-    const units = unitsOf("\u{1f600}\ud83d");
-    assert.equal(dethrux.find(units, unitsOf("\ud83d")), 2);
-    assert.equal(dethrux.rfind(units, unitsOf("\ude00")), -1);
-    assert.equal(dethrux.find(Uint8Array.of(0, 0x61, 0, 0x61, 0x61, 0), "le", Uint8Array.of(0x61, 0)), 4);
-    assert.equal(dethrux.rfind(Uint8Array.of(0x61, 0, 0x61), "le", Uint8Array.of(0x61)), 2);
-    assert.equal(dethrux.find(units.subarray(1, 2), units.subarray(1, 2)), 0);
-    assert.equal(dethrux.rfind(units, units.subarray(3)), 3);
-});
-
-test("the first NUL is a code unit, and its offset counts elements of the array", () => {
-    assert.equal(dethrux.nulOffset(unitsOf("ab\0c\0")), 2);
-    assert.equal(dethrux.nulOffset(unitsOf("\u0100a")), 2);
-    assert.equal(dethrux.nulOffset(Uint8Array.of(0x61, 0, 0, 1)), 4);
-    assert.equal(dethrux.nulOffset(Uint8Array.of(0x61, 0, 0)), 3);
-    assert.equal(dethrux.nulOffset(le("ab\0c\0")), 4);
-});
-
 test("an error says where it is, in elements of the array", () => {
     const text = "Gr\u00fc\udc00";
     assert.deepEqual(dethrux.validate(le(text), "le"), { validUpTo: 6, status: "ill-formed", errorLen: 2 });
