@@ -801,7 +801,8 @@ static bool feed_pieces(const char *word, over_pieces *feed_one, decoder *by, si
     return true;
 }
 
-static bool feed_to_buffers(way way, const task *it) {
+static bool call_feed(const task *it) {
+    const way way = it->by->way;
     decoder by = new_decoder(way, it->order);
     size_t room = it->count == 2 ? strtoul(it->values[1], NULL, 10) : 0;
     if (it->count != 2
@@ -819,15 +820,6 @@ static bool feed_to_buffers(way way, const task *it) {
     free(to.bytes);
     return true;
 }
-
-#define FED(name, way) \
-    static bool name(const task *it) { \
-        return feed_to_buffers(way, it); \
-    }
-FED(call_stream_feed, TO_UTF8)
-FED(call_utf8_stream_feed, FROM_UTF8)
-FED(call_wtf8_feed, TO_WTF8)
-FED(call_wtf8_stream_feed, FROM_WTF8)
 
 static bool call_lossy_feed(const task *it) {
     decoder by = new_decoder(TO_UTF8, it->order);
@@ -1021,10 +1013,10 @@ static const call calls[] = {
     {"WStr::from_utf16", .ask = ask_from_utf16},
     {"every_chunking", .ask = ask_every_chunking},
     {"AnyLossy::every_chunking", .ask = ask_every_any_chunking},
-    {"Stream::feed", .make = call_stream_feed},
-    {"feed_utf8", .make = call_utf8_stream_feed},
-    {"feed_wtf8", .make = call_wtf8_feed},
-    {"Wtf8Stream::feed", .make = call_wtf8_stream_feed},
+    {"Stream::feed", .make = call_feed, .way = TO_UTF8},
+    {"feed_utf8", .make = call_feed, .way = FROM_UTF8},
+    {"feed_wtf8", .make = call_feed, .way = TO_WTF8},
+    {"Wtf8Stream::feed", .make = call_feed, .way = FROM_WTF8},
     {"Lossy::feed", .make = call_lossy_feed},
     {"decode_pieces", .make = call_decode_pieces},
 };

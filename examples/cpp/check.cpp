@@ -884,6 +884,10 @@ static void no_elements() {
     }
 }
 
+template <class... Streams>
+constexpr bool are_streams = ((noexcept(Streams()) && noexcept(std::declval<Streams &>().pending())
+                                  && !std::is_convertible_v<byte_order, Streams>)&&...);
+
 // What the compiler tests: no call on a text throws, no conversion is implicit, and a byte order
 // can have any value.
 static void types() {
@@ -902,15 +906,8 @@ static void types() {
     static_assert(noexcept(dethrux::swap_byte_order(changed_wide)));
     static_assert(noexcept(dethrux::make_well_formed(order, changed)));
     static_assert(noexcept(dethrux::make_well_formed(changed_wide)));
-    static_assert(noexcept(dethrux::decoder()) &&noexcept(dethrux::encoder()));
-    static_assert(noexcept(dethrux::decoder().pending()) &&noexcept(dethrux::encoder().pending()));
-    static_assert(noexcept(dethrux::wtf8_decoder()) &&noexcept(dethrux::wtf8_encoder()));
-    static_assert(noexcept(dethrux::wtf8_decoder().pending()));
-    static_assert(noexcept(dethrux::wtf8_encoder().pending()));
-    static_assert(!std::is_convertible_v<byte_order, dethrux::wtf8_decoder>);
-    static_assert(!std::is_convertible_v<byte_order, dethrux::wtf8_encoder>);
-    static_assert(!std::is_convertible_v<byte_order, dethrux::decoder>);
-    static_assert(!std::is_convertible_v<byte_order, dethrux::encoder>);
+    static_assert(are_streams<dethrux::decoder, dethrux::encoder>);
+    static_assert(are_streams<dethrux::wtf8_decoder, dethrux::wtf8_encoder>);
     static_assert(!std::is_convertible_v<dethrux::result<std::string>, bool>);
     // What `*` and `->` give for a result, for a constant one and for one that is moved.
     using result = dethrux::result<std::string>;
@@ -1001,32 +998,14 @@ static bool appends(Decoder decoder, std::size_t pending, const Text &text, Call
            && to == before + text && decoder.pending() == 0;
 }
 
-// A name for the end of a stream, which may return something.
-template <class Decoder, class Text>
-static void finish(Decoder &decoder, Text &to) {
-    (void)decoder.finish(to);
-}
-
-// The rest of a character gives it, and the end of the stream gives U+FFFD.
-template <class Decoder, class Text>
-static bool keeps(Decoder decoder, std::string_view first, std::string_view rest, const Text &text,
+// The rest of a character gives it, and the end of the stream gives a mark, such as U+FFFD.
+template <class Stream, class Text>
+static bool keeps(Stream by, std::string_view first, std::string_view rest, const Text &text,
     const Text &mark) {
     Text none;
-    decoder.feed(first, none);
-    return none.empty()
-           && appends(decoder, first.size(), text, [&](auto &by, auto &to) { by.feed(rest, to); })
-           && appends(decoder, first.size(), mark, [](auto &by, auto &to) { finish(by, to); });
-}
-
-// The same for the encoder of WTF-8, whose calls return an error. The end of the stream is one.
-template <class Text>
-static bool keeps_wtf8(dethrux::wtf8_encoder encoder, std::string_view first, std::string_view rest,
-    const Text &text) {
-    Text none;
-    return !encoder.feed(first, none) && none.empty()
-           && appends(
-               encoder, first.size(), text, [&](auto &by, auto &to) { (void)by.feed(rest, to); })
-           && encoder.finish(none) == dethrux::error{0, 0};
+    return succeeds([&] { return by.feed(first, none); }) && none.empty()
+           && appends(by, first.size(), text, [&](auto &it, auto &to) { (void)it.feed(rest, to); })
+           && appends(by, first.size(), mark, [](auto &it, auto &to) { (void)it.finish(to); });
 }
 
 static void memory() {
@@ -1038,8 +1017,8 @@ static void memory() {
         check("the end of wtf8_encoder without memory",
             !waits.feed("\xED\xA0\xBD"sv, none)
                 && appends(waits, 3, in_form("\xD8\x3D"s, order),
-                    [](auto &by, auto &to) { finish(by, to); })
-                && appends(waits, 3, u"\xD83D"s, [](auto &by, auto &to) { finish(by, to); }));
+                    [](auto &by, auto &to) { (void)by.finish(to); })
+                && appends(waits, 3, u"\xD83D"s, [](auto &by, auto &to) { (void)by.finish(to); }));
         for (std::size_t at = 1; at < 4; at++) {
             const std::string first = utf8.substr(0, at), rest = utf8.substr(at);
             const std::string name = " without memory, cut at " + std::to_string(at);
@@ -1052,8 +1031,8 @@ static void memory() {
             check("wtf8_decoder" + name, keeps(dethrux::wtf8_decoder(order), text.substr(0, at),
                                              text.substr(at), utf8, lead));
             check("wtf8_encoder" + name,
-                keeps_wtf8(dethrux::wtf8_encoder(order), first, rest, text)
-                    && keeps_wtf8(dethrux::wtf8_encoder(order), first, rest, in_form(pair)));
+                keeps(dethrux::wtf8_encoder(order), first, rest, text, ""s)
+                    && keeps(dethrux::wtf8_encoder(order), first, rest, in_form(pair), u""s));
         }
     }
 }
