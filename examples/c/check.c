@@ -411,8 +411,8 @@ static outcome converted(const call *by, dethrux_byte_order order, const text *f
     const size_t size = by->widen != NULL ? 4 : 1;
     outcome found = {.out = blank(size * room)};
     void *to = found.out.bytes;
-    size_t len;
-    uint32_t *points = code_points(from, &len);
+    size_t len = 0;
+    uint32_t *points = by->narrow != NULL ? code_points(from, &len) : NULL;
     found.progress = by->widen != NULL ? by->widen(order, from->bytes, from->len, to, room)
         : by->narrow != NULL           ? by->narrow(order, points, len, to, room)
                                        : by->convert(order, from->bytes, from->len, to, room);
