@@ -1,10 +1,8 @@
-"""The codecs, compared with CPython's: results, errors, streams, files and threads."""
+"""The codecs, compared with CPython's: results, errors, streams and threads. `test_cpython` has files."""
 
 import codecs
 import io
 import itertools
-import os
-import tempfile
 import unittest
 
 import dethrux._codecs
@@ -431,39 +429,6 @@ class Streams(WithoutMemory):
             for errors in ("strict", "replace", "surrogatepass"):
                 self.run_both(name, lambda info: info.streamreader(io.BytesIO(raw), errors), steps)
             self.run_both(name, lambda info: info.streamreader(io.BytesIO(raw)), steps)
-
-    def test_files(self):
-        lines = "Gr\xfc\xdfe\n\u4e00\U0001f600\nend\n"
-        with tempfile.TemporaryDirectory() as folder:
-            for name, newline in itertools.product(NAMES, (None, "\r\n")):
-                path = os.path.join(folder, "text")
-                with open(path, "w", encoding=f"dethrux-{name}", newline=newline) as file:
-                    file.write(lines[:7])
-                with open(path, "a", encoding=f"dethrux-{name}", newline=newline) as file:
-                    file.write(lines[7:])
-                with open(path, encoding=name) as file:
-                    self.assertEqual(file.read(), lines)
-                with open(path, encoding=f"dethrux-{name}") as file:
-                    self.assertEqual(file.readline(), lines[:6])
-                    place = file.tell()
-                    rest = file.read()
-                    file.seek(place)
-                    self.assertEqual((file.read(), lines[6:]), (rest, rest))
-
-    def test_handlers_of_files(self):
-        raw = b"a\0\x00\xdcb\0"
-        for name, errors in itertools.product(NAMES, HANDLERS[2:7]):
-            texts = [
-                outcome(io.TextIOWrapper(io.BytesIO(raw), encoding=each, errors=errors).read)
-                for each in (name, f"dethrux-{name}")
-            ]
-            self.assertEqual(texts[0], texts[1])
-
-    def test_closed(self):
-        file = io.TextIOWrapper(io.BytesIO(b"a\0"), encoding="dethrux-utf-16-le")
-        file.close()
-        with self.assertRaisesRegex(ValueError, "closed"):
-            file.read()
 
     def test_names(self):
         self.assertEqual(codecs.lookup("Dethrux UTF-16 LE").name, "dethrux-utf-16-le")
