@@ -2,9 +2,9 @@
 # Runs `python -m dethrux` over the cases of .ci/program.txt. PYTHON names another Python, and
 # PYTHONPATH the folder of the package. The last line is 'N passed, M failed'.
 #
-# Cases that do not apply: a fault of a call of the program's C library, which Python makes before it
-# runs this program; less memory than Python takes; a folder as standard input, with which Python
-# does not start; and an offset of more than 32 bits, which an int of Python has like any other.
+# Cases that do not apply: a fault of a call of the program's C library, which Python makes before
+# it runs this program; less memory than Python takes; a folder as standard input, with which
+# Python does not start; and an offset of more than 32 bits, which an int has like any other.
 set -euo pipefail
 top=$(cd "$(dirname "${BASH_SOURCE[0]}")/../../.." && pwd)
 room=$(mktemp -d)

@@ -1,4 +1,4 @@
-"""The codecs, compared with CPython's: results, errors, streams and threads. `test_cpython` has files."""
+"""The codecs, compared with CPython's: results, errors, streams, threads; but not files."""
 
 import codecs
 import io

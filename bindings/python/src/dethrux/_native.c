@@ -37,8 +37,8 @@
     CALL(utf32ForUtf16, size, from_utf32_lossy_len, from_utf32_lossy_len_in_bytes, "utf32", \
       "Return the length of what ``from_utf32_lossy`` returns for the whole input.")
 
-/* Each other function of the package, its parameters, and its documentation. `_native.pyi` has their
- * types. */
+/* Each other function of the package, its parameters, and its documentation. `_native.pyi` has
+ * their types. */
 #define EACH_FUNCTION(X) \
     X(kernel, "/", \
       "Return which code the functions run, for reports of bugs and for benchmarks.\n\n" \
@@ -146,7 +146,7 @@ EACH_CALL_OF_UTF32(DEFINE)
     FUNCTIONS_##shape(PLACE, name, first, documentation)
 enum {
     EACH_CALL(PLACES) EACH_CALL_OF_UTF32(PLACES) EACH_FUNCTION(PLACE)
-    PUBLIC, /* How many functions are public. */
+    PUBLIC, /* How many functions are public: the number of the first helper. */
     LAST_PUBLIC = PUBLIC - 1,
     EACH_HELPER(PLACE)
     COUNT
