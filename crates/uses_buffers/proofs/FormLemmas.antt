@@ -6,7 +6,7 @@ use Rattle.std.specs.List.{flat_map}
 use Rattle.utf16_transcode.specs.Decodes.{DecodesAs}
 use Rattle.utf16_transcode.specs.Decomposition.{Decomposition, IsSplitInChunks, decided}
 use Rattle.utf16_transcode.specs.Stops.{NextDoesNotFit, Stops, StopsLossyAs, StopsLossyWhole}
-use Rattle.utf16_transcode.specs.Wrote.{Gives, Joins}
+use Rattle.utf16_transcode.specs.Transcoded.{SameText, Joins}
 use Rattle.utf16_transcode.specs.declared.progress.Stop.{Stop}
 use Rattle.utf16_transcode.specs.declared.progress.Stop.TheVariants.{Incomplete, Done, IllFormed, NoSpace}
 use Rattle.utf16_transcode.proofs.DecodesSteps.{Decodes-end, Decodes-then}
@@ -41,18 +41,18 @@ module _ (Given : List ℕ → List ℕ → Type 0) (from into : ℕ → List �
 
 -- where an ill-formed sequence is found again without the text before it
 pub strict_joined_there : (from into : ℕ → List ℕ) (IsValid : List ℕ → Type 0) (other : List ℕ → List ℕ) (IsIllFormedAt : List ℕ → Option ℕ → Type 0) (IsIllFormedOf : List ℕ → ℕ → Option ℕ → Type 0)
-    → Joins (Gives IsValid other)
+    → Joins (SameText IsValid other)
     → ((input : List ℕ) (read : ℕ) (len : Option ℕ) → read < length input → IsValid (take read input) → IsIllFormedAt (drop read input) len → IsIllFormedOf input read len)
     → ((input : List ℕ) (n : ℕ) (len : Option ℕ) → IsIllFormedOf input n len → (n < length input) × IsIllFormedAt (drop n input) len)
-    → Joined (strict (Gives IsValid other) from into IsIllFormedOf)
+    → Joined (strict (SameText IsValid other) from into IsIllFormedOf)
 strict_joined_there from into IsValid other IsIllFormedAt IsIllFormedOf joins faults there =
-    strict_joined (Gives IsValid other) from into IsIllFormedOf joins
+    strict_joined (SameText IsValid other) from into IsIllFormedOf joins
     (λ input out at read len within given found.
     let here = there (drop at input) read len found in
     faults input (at + read) len (omega (arith, here.0, length-drop at input)) given.0 (subst (λ b. IsIllFormedAt b len) (drop-drop read at input) here.1))
 
 pub strict_end : (from into : ℕ → List ℕ) (IsValid : List ℕ → Type 0) (other : List ℕ → List ℕ) (IsIllFormedOf : List ℕ → ℕ → Option ℕ → Type 0) (input out : List ℕ) (n : ℕ) (stop : Stop)
-    → Completes (strict (Gives IsValid other) from into IsIllFormedOf) input out n stop → ConvertsUpTo IsValid other IsIllFormedOf input out n stop
+    → Completes (strict (SameText IsValid other) from into IsIllFormedOf) input out n stop → ConvertsUpTo IsValid other IsIllFormedOf input out n stop
 strict_end from into IsValid other IsIllFormedOf input out n stop done = record {
   within = done.call.within;
   valid = done.call.writes.0;

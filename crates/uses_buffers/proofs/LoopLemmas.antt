@@ -4,7 +4,7 @@ use Rattle.std.proofs.lemmas.Bool.{cases_lt}
 use Rattle.std.proofs.lemmas.List.{drop-drop, take_rest}
 use Rattle.std.proofs.lemmas.List.Sums.{sum_by-cons}
 use Rattle.std.specs.List.{flat_map}
-use Rattle.utf16_transcode.specs.Wrote.{Joins}
+use Rattle.utf16_transcode.specs.Transcoded.{Joins}
 use Rattle.uses_buffers.specs.FormCalls.{Call, Composes, Continue, Conversion, Did, IsCall, Joined, all_out, all_read}
 
 -- both calls read no more than there is
@@ -16,10 +16,10 @@ pub both_done : (input : List ℕ) (at read : ℕ) → at ≤ length input → r
 both_done input at read within all = omega (arith, within, all, length-drop at input)
 
 -- what two calls wrote, joined
-pub both_given : (Gives : List ℕ → List ℕ → Type 0) → Joins Gives → (input out more : List ℕ) (at read : ℕ) → Gives (take at input) out → Gives (take read (drop at input)) more
-    → Gives (take (at + read) input) (out ++ more)
-both_given Gives joins input out more at read first second =
-    subst (λ b. Gives b (out ++ more)) (sym (take-add at read input)) (joins (take at input) (take read (drop at input)) out more first second)
+pub both_given : (SameText : List ℕ → List ℕ → Type 0) → Joins SameText → (input out more : List ℕ) (at read : ℕ) → SameText (take at input) out → SameText (take read (drop at input)) more
+    → SameText (take (at + read) input) (out ++ more)
+both_given SameText joins input out more at read first second =
+    subst (λ b. SameText b (out ++ more)) (sym (take-add at read input)) (joins (take at input) (take read (drop at input)) out more first second)
 
 -- the same where what is not read follows
 pub both_shown : (text : List ℕ → List ℕ) (into : ℕ → List ℕ) (input out more : List ℕ) (at read : ℕ) → flat_map into (text input) ≡ out ++ flat_map into (text (drop at input))

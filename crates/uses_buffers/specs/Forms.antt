@@ -21,9 +21,9 @@ use Rattle.uses_buffers.specs.FormCalls.{Conversion, IsCall}
 
 -- a conversion up to the first ill-formed sequence
 abbrev pub strict : (List ℕ → List ℕ → Type 0) → (ℕ → List ℕ) → (ℕ → List ℕ) → (List ℕ → ℕ → Option ℕ → Type 0) → Conversion ℕ ℕ Stop
-strict Gives from into IsIllFormedOf = record {
+strict SameText from into IsIllFormedOf = record {
   no_space = NoSpace;
-  Writes = λ input out n. Gives (take n input) out;
+  Writes = λ input out n. SameText (take n input) out;
   Stops = Stops from into IsIllFormedOf;
 }
 

@@ -7,7 +7,7 @@ ghost use Rattle.std.specs.List.{flat_map};
 ghost use Rattle.std.specs.Vec.{vec_items};
 ghost use Rattle.utf16_transcode.specs.Decomposition.{decided};
 ghost use Rattle.utf16_transcode.specs.Stream.{stream_pending};
-ghost use Rattle.utf16_transcode.specs.Wrote.{Gives};
+ghost use Rattle.utf16_transcode.specs.Transcoded.{SameText};
 ghost use Rattle.uses_buffers.specs.Calls.{ConvertsUpTo};
 ghost use Rattle.uses_buffers.specs.Forms.{lossy, partial, strict};
 
@@ -151,7 +151,7 @@ impl<D: Direction> BufferCall for Strict<D> {
 
     type Stop = Stop;
 
-    ghost conversion = { strict (Gives D.IsValid D.other) D.from D.into D.IsIllFormed };
+    ghost conversion = { strict (SameText D.IsValid D.other) D.from D.into D.IsIllFormed };
 
     ghost least = { 4 };
 

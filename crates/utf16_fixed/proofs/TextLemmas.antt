@@ -13,7 +13,7 @@ use Rattle.utf16_units.proofs.EncodingLemmas.{Encodes-append, encode-cons, encod
 use Rattle.utf16_units.proofs.FirstChar.{scalar_unit}
 use Rattle.utf16_units.proofs.PairLemmas.{is_not_of}
 use Rattle.utf16_units.proofs.UnitsUpTo.{units_of-front}
-use Rattle.utf16_transcode.specs.Wrote.{Joins}
+use Rattle.utf16_transcode.specs.Transcoded.{Joins}
 use Rattle.utf16_fixed.specs.Utf32.{AreBasic, TranscodesFromUtf32, TranscodesToUtf32, utf32_units}
 
 pub utf32_joins : (big : Bool) → Joins (TranscodesToUtf32 big)

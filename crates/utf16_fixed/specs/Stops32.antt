@@ -5,7 +5,7 @@ use Rattle.std.specs.Char.{IsScalar}
 use Rattle.utf16_units.specs.Encoding.{char_bytes}
 use Rattle.utf16_transcode.specs.Decodes.{utf16_parts}
 use Rattle.utf16_transcode.specs.Stops.{IsIllFormedUtf16, Stops, StopsLossyAs}
-use Rattle.utf16_transcode.specs.Wrote.{DecodesAsTo}
+use Rattle.utf16_transcode.specs.Transcoded.{DecodesAsTo}
 use Rattle.utf16_transcode.specs.declared.progress.Stop.{Stop}
 use Rattle.utf16_fixed.specs.Utf32.{IsUtf32ValidUpTo, utf32_units}
 

@@ -11,7 +11,7 @@ ghost use Rattle.utf16_units.specs.Encoding.{encode, size};
 
 use crate::text::{SLACK, write_text};
 use std::alloc::{AllocError, Allocator};
-use utf16_units::ladder::{FEW_TEXT, PIECE_LEN, SHORT_TEXT, Strategy, strategy_for};
+use utf16_units::strategy::{FEW_TEXT, PIECE_LEN, SHORT_TEXT, Strategy, strategy_for};
 use utf16_units::{Utf16Order, utf16_len};
 
 // The length in bytes up to which a short text has a smaller buffer.

@@ -10,8 +10,8 @@ ghost use Rattle.utf16_from_utf8.specs.Written.{IsWritten};
 
 use crate::ascii::{write_ascii, write_front};
 use crate::block::write_block;
-use crate::fours::write_fours;
 use crate::limits::{are_below, greatest};
+use crate::supplementary::write_supplementary;
 use crate::threes::write_threes;
 use utf16_units::{Moved, Utf16Order};
 
@@ -122,7 +122,7 @@ fn write_run<E: Utf16Order>(bytes: &[u8], out: &mut [u8], from: Moved) -> Moved
     if first < 0xF0 {
         return write_threes::<E>(bytes, out, from);
     }
-    write_fours::<E>(bytes, out, from)
+    write_supplementary::<E>(bytes, out, from)
 }
 
 // Writes the next blocks of ASCII.

@@ -10,10 +10,10 @@ ghost use Rattle.utf16_units.specs.Encoding.{encode};
 ghost use Rattle.utf16_from_utf8.specs.Written.{IsWritten};
 
 use crate::blocks::{write_ascii_start, write_mixed_blocks};
-use crate::few::write_few;
+use crate::chars::write_chars;
 use crate::rest::write_rest;
 use crate::short::{is_short_text, write_short};
-use utf16_units::ladder::{FEW_TEXT, SHORT_TEXT};
+use utf16_units::strategy::{FEW_TEXT, SHORT_TEXT};
 use utf16_units::{Moved, Utf16Order};
 
 /// How many bytes `write_text` needs in addition to two for each byte of a text.
@@ -51,7 +51,7 @@ fn write_whole<E: Utf16Order>(text: &[u8], out: &mut [u8]) -> usize
     ensures written_to { result ≤ 2 * length text.now }
 {
     if text.len() < FEW_TEXT {
-        return write_few::<E>(unsafe { str::from_utf8_unchecked(text) }, out);
+        return write_chars::<E>(unsafe { str::from_utf8_unchecked(text) }, out);
     }
     if text.len() <= 16 {
         return write_short::<E>(text, out);

@@ -6,7 +6,7 @@ use Rattle.std.proofs.lemmas.List.{take-take}
 use Rattle.std.proofs.lemmas.Result.{on_err_weaker, on_ok_weaker}
 use Rattle.std.specs.Fmt.{digit_glyph, digits_onto}
 use Rattle.std.specs.Prelude.{IsErr, Vec}
-use Rattle.utf16_program.specs.Lines.{Puts}
+use Rattle.utf16_program.specs.Lines.{Appends}
 
 -- bytes that stay in front of more stay in front of that
 pub still_kept : (old mid new front : List ℕ) → mid ≡ old ++ front → take (length mid) new ≡ mid → take (length old) new ≡ old
@@ -15,9 +15,9 @@ still_kept old mid new front so_far kept =
     ∙ ap (take (length old)) (kept ∙ so_far) ∙ take_at old front (length old) refl
 
 -- `front` was appended, and then `text`
-pub Puts-then : {A E : Type 0} (old mid new : Vec ℕ A) (front text : List ℕ) (result : Result (Unit {0}) E) → mid.items ≡ old.items ++ front → vec_capacity old ≤ vec_capacity mid
-    → Puts mid new result text → Puts old new result (front ++ text)
-Puts-then old mid new front text result so_far grows put = record {
+pub Appends-then : {A E : Type 0} (old mid new : Vec ℕ A) (front text : List ℕ) (result : Result (Unit {0}) E) → mid.items ≡ old.items ++ front → vec_capacity old ≤ vec_capacity mid
+    → Appends mid new result text → Appends old new result (front ++ text)
+Appends-then old mid new front text result so_far grows put = record {
   appended = on_ok_weaker result (λ wrote. wrote ∙ ap (λ b. b ++ text) so_far ∙ append_assoc old.items front text) put.appended;
   kept = still_kept old.items mid.items new.items front so_far put.kept;
   full = on_err_weaker result
@@ -26,10 +26,10 @@ Puts-then old mid new front text result so_far grows put = record {
 }
 
 -- the capacity did not suffice for the text, of which `front` was appended
-pub Puts-err : {A E : Type 0} (old new : Vec ℕ A) (front text : List ℕ) (result : Result (Unit {0}) E) → IsErr result → new.items ≡ old.items ++ front → vec_capacity old ≤ vec_capacity new
-    → vec_capacity old < vec_len old + length text → Puts old new result text
-Puts-err old new front text (Ok done) is so_far grows full = absurd (true≢false (sym is))
-Puts-err old new front text (Err error) is so_far grows full =
+pub Appends-err : {A E : Type 0} (old new : Vec ℕ A) (front text : List ℕ) (result : Result (Unit {0}) E) → IsErr result → new.items ≡ old.items ++ front → vec_capacity old ≤ vec_capacity new
+    → vec_capacity old < vec_len old + length text → Appends old new result text
+Appends-err old new front text (Ok done) is so_far grows full = absurd (true≢false (sym is))
+Appends-err old new front text (Err error) is so_far grows full =
     record { appended = tt; kept = ap (take (length old.items)) so_far ∙ take_at old.items front (length old.items) refl; full = full; grows = grows }
 
 -- ---- digits in base 16

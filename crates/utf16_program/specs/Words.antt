@@ -21,14 +21,14 @@ table_of program.Check =
     (codes "le", Check (Some false)) ∷ (codes "be", Check (Some true)) ∷ (codes "auto", Check None) ∷ []
 
 -- a word names a job: the first entry of a table with this word has this job
-abbrev pub Gives : List (List ℕ × Job) → List ℕ → Job → Type 0
-Gives [] word job = ⊥
-Gives ((first, its) ∷ table) word job =
-    ((word ≡ first) × (job ≡ its)) ⊎ ((word ≢ first) × Gives table word job)
+abbrev pub HasJob : List (List ℕ × Job) → List ℕ → Job → Type 0
+HasJob [] word job = ⊥
+HasJob ((first, its) ∷ table) word job =
+    ((word ≡ first) × (job ≡ its)) ⊎ ((word ≢ first) × HasJob table word job)
 
 -- the arguments are one word, and it names a job
 abbrev pub Names : Program → List (List ℕ) → Job → Type 0
-Names program (word ∷ []) job = Gives (table_of program) word job
+Names program (word ∷ []) job = HasJob (table_of program) word job
 Names program words job = ⊥
 
 -- the words of a table, with `|` between them

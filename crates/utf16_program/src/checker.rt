@@ -1,7 +1,7 @@
 //! A checker of UTF-16 that comes in chunks.
 
 ghost use Rattle.std.specs.Prelude.{◌≡◌, ◌↔◌, ◌+◌, ◌<◌, ◌≤◌, ◌^◌, ◌++◌, IfOk, OnErr, OnOk, IsTrue, length, vec_capacity, vec_len};
-ghost use Rattle.utf16_program.specs.Lines.{Puts};
+ghost use Rattle.utf16_program.specs.Lines.{Appends};
 
 use crate::lines::{append_counts, append_incomplete};
 use crate::order::beginning_of;
@@ -129,7 +129,7 @@ impl Checker {
     ) -> Result<(), AllocError>
         requires pending { IsPending self.now pending.now }
         requires fits { checker_offset self.now + length pending.now < 2 ^ 64 }
-        ensures { Puts lines.old lines.new result (checker_report self.now pending.now) }
+        ensures { Appends lines.old lines.new result (checker_report self.now pending.now) }
     {
         let bytes = self.offset + pending.len() as u64;
         if pending.is_empty() {

@@ -2,7 +2,7 @@
 
 ghost use Rattle.std.specs.Prelude.{◌≡◌, ◌<◌, ◌-◌, ◌^◌, [], ◌∷◌, flat_map, length, min, true};
 ghost use Rattle.std.specs.Fmt.{digit_glyph, digits};
-ghost use Rattle.utf16_program.specs.Lines.{Puts};
+ghost use Rattle.utf16_program.specs.Lines.{Appends};
 ghost use Rattle.utf16_program.specs.Report.{count_line, ill_formed_line, tail_line};
 ghost use Rattle.utf16_program.specs.Scans.{lone};
 
@@ -20,7 +20,7 @@ pub fn append_unpaired<A: Allocator>(
     unit: u16,
     lines: &mut Vec<u8, A>,
 ) -> Result<(), AllocError>
-    ensures { Puts lines.old lines.new result (ill_formed_line offset (lone unit)) }
+    ensures { Appends lines.old lines.new result (ill_formed_line offset (lone unit)) }
 {
     let kind: &'static [u8] = if is_leading_surrogate(unit) {
         b"): unpaired leading surrogate "
@@ -50,7 +50,7 @@ pub fn append_incomplete<A: Allocator>(
     offset: u64,
     lines: &mut Vec<u8, A>,
 ) -> Result<(), AllocError>
-    ensures { Puts lines.old lines.new result (tail_line offset (0 ∷ [])) }
+    ensures { Appends lines.old lines.new result (tail_line offset (0 ∷ [])) }
 {
     append(
         &[
@@ -75,7 +75,7 @@ pub fn append_counts<A: Allocator>(
     ill_formed: u64,
     lines: &mut Vec<u8, A>,
 ) -> Result<(), AllocError>
-    ensures { Puts lines.old lines.new result (count_line bytes chars ill_formed) }
+    ensures { Appends lines.old lines.new result (count_line bytes chars ill_formed) }
 {
     append(
         &[
@@ -93,7 +93,7 @@ pub fn append_counts<A: Allocator>(
 
 // Appends the parts of a line, for which capacity is requested at once.
 fn append<A: Allocator>(parts: &[&[u8]], lines: &mut Vec<u8, A>) -> Result<(), AllocError>
-    ensures { Puts lines.old lines.new result (flat_map (λ p. p.now) parts.now) }
+    ensures { Appends lines.old lines.new result (flat_map (λ p. p.now) parts.now) }
 {
     lines.reserve(len_of(parts))?;
     for part in parts {

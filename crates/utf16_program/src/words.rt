@@ -1,7 +1,7 @@
 //! The programs: their names, and the words that each of them knows.
 
 ghost use Rattle.std.specs.Prelude.{◌≡◌, ◌↔◌, [], ◌∷◌, ◌++◌, Some, codes};
-ghost use Rattle.utf16_program.specs.Words.{Gives, choices_of, name_of, table_of};
+ghost use Rattle.utf16_program.specs.Words.{HasJob, choices_of, name_of, table_of};
 ghost use Rattle.utf16_program.specs.declared.job.Job.{Job};
 
 use crate::job::Job;
@@ -42,7 +42,7 @@ impl Program {
 
     /// Returns the job that a word names, if the program knows the word.
     pub fn job(self, word: &str) -> Option<Job>
-        ensures { (job : Job) → (result ≡ Some job) ↔ Gives (table_of self) word.now job }
+        ensures { (job : Job) → (result ≡ Some job) ↔ HasJob (table_of self) word.now job }
     {
         match (self, word) {
             (Program::Cat, "le") => Some(Job::Decode(Some(false))),

@@ -10,7 +10,7 @@ use crate::lens::utf8_len;
 use crate::write::{SLACK, write_utf8};
 use std::alloc::{AllocError, Allocator};
 use utf16_units::ends::first_char;
-use utf16_units::ladder::{FEW_TEXT, PIECE_LEN, SHORT_TEXT, Strategy, strategy_for};
+use utf16_units::strategy::{FEW_TEXT, PIECE_LEN, SHORT_TEXT, Strategy, strategy_for};
 use utf16_units::{Utf16Order, is_trailing_surrogate};
 
 /// Returns a text, in UTF-8, as a new `String`.

@@ -5,8 +5,6 @@
 mod append;
 mod blocks;
 mod chars;
-mod eights;
-mod few;
 mod groups;
 mod lanes;
 pub mod laws;
@@ -15,13 +13,15 @@ mod pack;
 mod padded;
 mod places;
 mod runs;
+mod short;
+mod vectors;
 mod word_places;
 mod write;
 mod writers;
 
 pub use crate::append::{append_utf8, to_utf8};
 pub use crate::chars::{put, put_char};
-pub use crate::eights::write_eights;
-pub use crate::few::write_eight_ascii;
 pub use crate::lens::utf8_len;
+pub use crate::short::write_eight_ascii;
+pub use crate::vectors::write_vectors;
 pub use crate::write::{SLACK, write_blocks, write_utf8};

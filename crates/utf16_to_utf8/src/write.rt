@@ -9,9 +9,9 @@ ghost use Rattle.utf16_units.specs.Lanes.{BlocksStopAt, PairedTo};
 ghost use Rattle.utf16_to_utf8.specs.Cursor.{Reached};
 
 use crate::chars::write_chars;
-use crate::eights::write_eights;
 use crate::runs::{Tested, write_paired};
-use utf16_units::ladder::{FEW_TEXT, Strategy, strategy_for};
+use crate::vectors::write_vectors;
+use utf16_units::strategy::{FEW_TEXT, Strategy, strategy_for};
 use utf16_units::{Moved, Utf16Order};
 
 /// The number of bytes that `write_utf8` needs beyond three per code unit.
@@ -68,7 +68,7 @@ fn write_short<E: Utf16Order>(raw: &[u8], out: &mut [u8]) -> usize
     if raw.len() < FEW_TEXT {
         return write_chars::<E>(raw, out);
     }
-    write_eights::<E>(raw, out).written
+    write_vectors::<E>(raw, out).written
 }
 
 /// Writes the blocks of thirty-two code units at the start of `raw` to the start of `to`, in UTF-8,

@@ -21,7 +21,7 @@ use Rattle.utf16_units.proofs.SplitLemmas.{Split-computed}
 use Rattle.utf16_units.proofs.SplitIllFormed.{lone_item, split_items-fault, split_tail-incomplete, split_tail-fault}
 use Rattle.utf16_units.proofs.SplitJoin.{split_items-text, split_tail-text}
 use Rattle.utf16_transcode.specs.Decodes.{Decodes, utf16_parts}
-use Rattle.utf16_transcode.specs.Wrote.{DecodesTo, TranscodesToUtf8}
+use Rattle.utf16_transcode.specs.Transcoded.{DecodesTo, TranscodesToUtf8}
 use Rattle.utf16_transcode.specs.Stops.{IsIllFormedUtf16, StopsDecoding, StopsLossy, TextDoesNotFit}
 use Rattle.utf16_transcode.specs.declared.progress.Stop.{Stop}
 use Rattle.utf16_transcode.specs.declared.progress.Stop.TheVariants.{Incomplete, Done, IllFormed, NoSpace}

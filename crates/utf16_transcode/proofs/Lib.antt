@@ -3,7 +3,7 @@ pub mod DecodesLemmas
 pub mod ToUtf8Parts
 pub mod IllFormedDecides
 pub mod StreamLemmas
-pub mod WroteLemmas
+pub mod TranscodedLemmas
 pub mod WholeLemmas
 pub mod DecodeLossyLemmas
 pub mod DecidedLemmas

@@ -9,12 +9,12 @@ use Rattle.utf16_units.proofs.IllFormedLemmas.{rest_from, take-past}
 use Rattle.utf16_transcode.specs.Decodes.{DecodesAs}
 use Rattle.utf16_transcode.specs.Decomposition.{Decomposition, IsSplitInChunks, decided}
 use Rattle.utf16_transcode.proofs.DecodesSteps.{Decodes-end, Decodes-more, Decodes-none, Decodes-then, tail_again, written_for, written_for-append}
-use Rattle.utf16_transcode.specs.Wrote.{DecodesAsTo}
+use Rattle.utf16_transcode.specs.Transcoded.{DecodesAsTo}
 use Rattle.utf16_transcode.specs.Stops.{StopsLossyAs, TextDoesNotFit}
 use Rattle.utf16_transcode.specs.Stream.{FeedsAs, StopsFeedingAs}
 use Rattle.utf16_transcode.specs.declared.progress.Stop.{Stop}
 use Rattle.utf16_transcode.specs.declared.progress.Stop.TheVariants.{Incomplete, Done, IllFormed, NoSpace}
-use Rattle.utf16_transcode.proofs.WroteLemmas.{put_end-long, take-end}
+use Rattle.utf16_transcode.proofs.TranscodedLemmas.{put_end-long, take-end}
 
 -- the rest after more bytes
 pub rest_after : (input : List ℕ) (read n : ℕ) → drop n (rest_from input read) ≡ rest_from input (read + n)

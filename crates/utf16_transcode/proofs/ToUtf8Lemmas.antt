@@ -8,7 +8,7 @@ use Rattle.utf16_units.specs.IllFormed.{BeginsWithChar, IsIllFormedAt}
 use Rattle.utf16_units.proofs.EncodingLemmas.{IsUtf16-append, IsUtf16-char, IsUtf16-nil, char_text, text_of-append, text_of-nil}
 use Rattle.utf16_units.proofs.CharLemmas.{char_size_cases, length-char_bytes}
 use Rattle.utf16_units.proofs.IllFormedLemmas.{faults}
-use Rattle.utf16_transcode.specs.Wrote.{Gives, TranscodesToUtf8, Joins}
+use Rattle.utf16_transcode.specs.Transcoded.{SameText, TranscodesToUtf8, Joins}
 use Rattle.utf16_transcode.specs.Stops.{BeginsWith, IsIllFormedUtf16}
 
 pub room_grows : (m n : ℕ) → m ≤ n → m / 2 * 3 + 128 ≤ n / 2 * 3 + 128
@@ -24,7 +24,7 @@ utf8_joins big front back into more first second = (
 pub utf8_empty : (big : Bool) → TranscodesToUtf8 big [] []
 utf8_empty big = (IsUtf16-nil big, ap encode_utf8_all (sym (text_of-nil big)))
 
-pub char_gives : (big : Bool) (c : ℕ) → IsScalar c → Gives (IsUtf16 big) (λ raw. encode_utf8_all (text_of big raw)) (char_bytes big c) (encode_utf8 c)
+pub char_gives : (big : Bool) (c : ℕ) → IsScalar c → SameText (IsUtf16 big) (λ raw. encode_utf8_all (text_of big raw)) (char_bytes big c) (encode_utf8 c)
 char_gives big c scalar = (IsUtf16-char big c scalar, sym (ap encode_utf8_all (char_text big c scalar) ∙ append-nil (encode_utf8 c)))
 
 pub faults_there : (big : Bool) (raw : List ℕ) (read : ℕ) (len : Option ℕ) → read < length raw → IsUtf16 big (take read raw) → IsIllFormedAt big (drop read raw) len

@@ -2,9 +2,9 @@ pub mod Unpaired
 pub mod Replaced
 pub mod Decomposition
 pub mod Decodes
-pub mod Wrote
+pub mod Transcoded
 pub mod Stops
-pub mod Shown
+pub mod WholeText
 pub mod Stream
 pub mod FromUtf8
 pub mod Utf8Stream

@@ -6,7 +6,7 @@ use Rattle.utf8_bytes.specs.Split.{Item, lossy_char, split_items, split_tail, wh
 use Rattle.utf16_transcode.specs.Decomposition.{Decomposition}
 use Rattle.utf16_transcode.specs.Stops.{StopsLossyAs}
 use Rattle.utf16_transcode.specs.Stream.{FeedsAs, StopsFeedingAs}
-use Rattle.utf16_transcode.specs.Wrote.{DecodesAsTo}
+use Rattle.utf16_transcode.specs.Transcoded.{DecodesAsTo}
 use Rattle.utf16_transcode.specs.declared.progress.Stop.{Stop}
 use Rattle.utf16_transcode.specs.FromUtf8.{text_of_utf8}
 

@@ -7,7 +7,7 @@ ghost use Rattle.std.specs.Prelude.{◌≡◌, ◌*◌, ◌<◌, ◌≤◌, ◌=
 ghost use Rattle.std.specs.Simd.Lanes.{mask_l};
 ghost use Rattle.utf16_units.specs.Encoding.{units_of};
 ghost use Rattle.utf16_units.specs.Lanes.{HasLanes};
-ghost use Rattle.utf16_transcode.specs.Wrote.{DecodesTo, TranscodesToUtf8};
+ghost use Rattle.utf16_transcode.specs.Transcoded.{DecodesTo, TranscodesToUtf8};
 
 use crate::replacement::REPLACEMENT;
 use std::simd::prelude::*;

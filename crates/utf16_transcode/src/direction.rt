@@ -4,7 +4,7 @@ ghost use Rattle.std.specs.Prelude.{◌≡◌, ◌≤◌, ◌<◌, ◌+◌, ◌-
 ghost use Rattle.std.specs.Char.{IsScalar};
 ghost use Rattle.std.specs.List.{flat_map};
 ghost use Rattle.utf16_transcode.specs.Stops.{BeginsWith};
-ghost use Rattle.utf16_transcode.specs.Wrote.{Gives, Joins, Wrote};
+ghost use Rattle.utf16_transcode.specs.Transcoded.{SameText, Joins, TranscodesPrefix};
 
 use utf16_units::Moved;
 
@@ -63,7 +63,7 @@ pub trait Direction {
     /// of a short input, and often much of a long one. At most seven characters of ASCII are
     /// written if the buffer has four bytes for each.
     fn begin(input: &[u8], to: &mut [u8]) -> Moved
-        ensures wrote { Wrote (Gives IsValid other) input.now to.new result.read result.written }
+        ensures wrote { TranscodesPrefix (SameText IsValid other) input.now to.new result.read result.written }
         ensures few_ascii { (text : List ℕ) → All (λ c. c < 0x80) text
             → input.now ≡ flat_map from text → length text < 8
             → 4 * length text ≤ length to.old → result.read ≡ length input.now };
@@ -88,13 +88,13 @@ pub trait Direction {
     ///
     /// `written` is the text in the second encoding, and longer than `room`.
     fn fitting_prefix(text: &[u8], written: &[u8], room: usize) -> Moved
-        requires text { Gives IsValid other text.now written.now }
+        requires text { SameText IsValid other text.now written.now }
         requires long { room < length written.now }
-        ensures prefix { Wrote (Gives IsValid other) text.now written.now result.read
+        ensures prefix { TranscodesPrefix (SameText IsValid other) text.now written.now result.read
             result.written }
         ensures fits { result.written ≤ room }
         ensures longest { (read end : ℕ)
-            → Wrote (Gives IsValid other) text.now written.now read end → end ≤ room
+            → TranscodesPrefix (SameText IsValid other) text.now written.now read end → end ≤ room
             → end ≤ result.written }
         ensures most { room < result.written + 4 };
 
@@ -119,7 +119,7 @@ pub trait Direction {
     /// Writes a valid prefix, which may be empty, in the second encoding to the start of a buffer,
     /// as far as it fits, and validates it at the same time.
     fn write_front(rest: &[u8], to: &mut [u8]) -> Moved
-        ensures { Wrote (Gives IsValid other) rest.now to.new result.read result.written };
+        ensures { TranscodesPrefix (SameText IsValid other) rest.now to.new result.read result.written };
 
     /// States what proofs need, and does nothing. Fewer bytes need no more space, and a block fits
     /// in the buffer on the stack. A character takes at most four bytes. Two texts together are a
@@ -129,9 +129,9 @@ pub trait Direction {
         ensures monotone { (m n : ℕ) → m ≤ n → room_for m ≤ room_for n }
         ensures buffered { room_for BLOCK_LEN ≤ BLOCK_ROOM }
         ensures short { (c : ℕ) → length (into c) ≤ 4 }
-        ensures of_nothing { Gives IsValid other [] [] }
-        ensures joins { Joins (Gives IsValid other) }
-        ensures each_char { (c : ℕ) → IsScalar c → Gives IsValid other (from c) (into c) }
+        ensures of_nothing { SameText IsValid other [] [] }
+        ensures joins { Joins (SameText IsValid other) }
+        ensures each_char { (c : ℕ) → IsScalar c → SameText IsValid other (from c) (into c) }
         ensures ill_formed { (input : List ℕ) (read : ℕ) (len : Option ℕ) → read < length input
             → IsValid (take read input) → IsIllFormedAt (drop read input) len
             → IsIllFormed input read len }

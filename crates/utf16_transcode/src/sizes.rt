@@ -13,7 +13,7 @@ use crate::direction::BLOCK_LEN;
 use crate::replacement::REPLACEMENT;
 use utf16_from_utf8::is_text;
 use utf16_to_utf8::utf8_len;
-use utf16_units::ladder::FEW_TEXT;
+use utf16_units::strategy::FEW_TEXT;
 use utf16_units::{Utf16Order, utf16_len, validate_raw_utf16};
 
 /// Returns the length in bytes of the output of `to_utf8_lossy` for the whole input. Any bytes are

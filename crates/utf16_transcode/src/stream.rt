@@ -5,7 +5,7 @@ ghost use Rattle.std.specs.List.{flat_map};
 ghost use Rattle.utf16_transcode.specs.Decomposition.{decided};
 ghost use Rattle.utf16_transcode.specs.Stops.{StopsLossyAs};
 ghost use Rattle.utf16_transcode.specs.Stream.{FeedsAs, StopsFeedingAs, stream_pending};
-ghost use Rattle.utf16_transcode.specs.Wrote.{DecodesAsTo};
+ghost use Rattle.utf16_transcode.specs.Transcoded.{DecodesAsTo};
 ghost use Rattle.utf16_transcode.specs.declared.progress.Stop.TheVariants.{Done, NoSpace};
 
 use crate::joined::{joined_start, rest_of};

@@ -10,19 +10,19 @@
 
 ghost use Rattle.std.specs.Prelude.{◌≡◌, ◌≤◌, ◌<◌, ◌+◌, ◌-◌, ◌⊎◌, ℕ, IfErr, IfOk, IfSome, length};
 ghost use Rattle.utf16_transcode.specs.Stops.{BeginsWith, Stops, StopsHere};
-ghost use Rattle.utf16_transcode.specs.Wrote.{Gives, Puts, Wrote};
+ghost use Rattle.utf16_transcode.specs.Transcoded.{SameText, TranscodesPart, TranscodesPrefix};
 
 use crate::direction::{BLOCK_LEN, BLOCK_ROOM, Direction};
 use crate::progress::{Progress, Stop};
 use utf16_to_utf8::put;
 use utf16_units::Moved;
-use utf16_units::ladder::FEW_TEXT;
+use utf16_units::strategy::FEW_TEXT;
 
 /// Writes the longest valid prefix in the second encoding to the start of a buffer, as far as whole
 /// characters fit.
 #[inline(always)]
 pub fn transcode<D: Direction>(input: &[u8], to: &mut [u8]) -> Progress
-    ensures wrote { Wrote (Gives D.IsValid D.other) input.now to.new result.read result.written }
+    ensures wrote { TranscodesPrefix (SameText D.IsValid D.other) input.now to.new result.read result.written }
     ensures stop { Stops D.from D.into D.IsIllFormed input.now result.read
         (length to.new - result.written) result.stop }
 {
@@ -42,8 +42,8 @@ pub fn transcode<D: Direction>(input: &[u8], to: &mut [u8]) -> Progress
 #[inline(never)]
 fn transcode_many<D: Direction>(input: &[u8], to: &mut [u8], begun: Moved) -> Progress
     requires some { begun.read < length input.now }
-    requires begun { Wrote (Gives D.IsValid D.other) input.now to.old begun.read begun.written }
-    ensures wrote { Wrote (Gives D.IsValid D.other) input.now to.new result.read result.written }
+    requires begun { TranscodesPrefix (SameText D.IsValid D.other) input.now to.old begun.read begun.written }
+    ensures wrote { TranscodesPrefix (SameText D.IsValid D.other) input.now to.new result.read result.written }
     ensures stop { Stops D.from D.into D.IsIllFormed input.now result.read
         (length to.new - result.written) result.stop }
 {
@@ -93,7 +93,7 @@ fn transcode_many<D: Direction>(input: &[u8], to: &mut [u8], begun: Moved) -> Pr
 // them.
 fn write_piece<D: Direction>(rest: &[u8], to: &mut [u8], at: usize) -> Moved
     requires { at ≤ length to.old }
-    ensures { Puts (Gives D.IsValid D.other) rest.now to.old to.new at result.read result.written }
+    ensures { TranscodesPart (SameText D.IsValid D.other) rest.now to.old to.new at result.read result.written }
 {
     D::laws();
     let mut read = 0;
@@ -117,7 +117,7 @@ fn write_piece<D: Direction>(rest: &[u8], to: &mut [u8], at: usize) -> Moved
 // all bytes surely fit.
 fn write_validated_tail<D: Direction>(rest: &[u8], to: &mut [u8], at: usize) -> Moved
     requires { at ≤ length to.old }
-    ensures { Puts (Gives D.IsValid D.other) rest.now to.old to.new at result.read result.written }
+    ensures { TranscodesPart (SameText D.IsValid D.other) rest.now to.old to.new at result.read result.written }
 {
     D::laws();
     if rest.len() < FEW_TEXT {
@@ -134,7 +134,7 @@ fn write_validated_tail<D: Direction>(rest: &[u8], to: &mut [u8], at: usize) -> 
 #[inline(always)]
 fn write_valid<D: Direction>(rest: &[u8], to: &mut [u8], at: usize) -> Moved
     requires { at + D.room_for (length rest.now) ≤ length to.old }
-    ensures { Puts (Gives D.IsValid D.other) rest.now to.old to.new at result.read result.written }
+    ensures { TranscodesPart (SameText D.IsValid D.other) rest.now to.old to.new at result.read result.written }
 {
     D::laws();
     let len = D::valid_len(rest);
@@ -156,7 +156,7 @@ fn write_valid<D: Direction>(rest: &[u8], to: &mut [u8], at: usize) -> Moved
 fn write_near_end<D: Direction>(rest: &[u8], to: &mut [u8], at: usize) -> Moved
     requires some { 0 < length rest.now }
     requires within { at ≤ length to.old }
-    ensures { Puts (Gives D.IsValid D.other) rest.now to.old to.new at result.read result.written }
+    ensures { TranscodesPart (SameText D.IsValid D.other) rest.now to.old to.new at result.read result.written }
 {
     D::laws();
     if to.len() - at < 3 * FEW_TEXT {
@@ -202,7 +202,7 @@ fn write_buffered_block<D: Direction>(
     at: usize,
 ) -> Moved
     requires { at ≤ length to.old }
-    ensures { Puts (Gives D.IsValid D.other) rest.now to.old to.new at result.read result.written }
+    ensures { TranscodesPart (SameText D.IsValid D.other) rest.now to.old to.new at result.read result.written }
 {
     let most = if to.len() - at <= BLOCK_LEN {
         BLOCK_LEN
@@ -217,7 +217,7 @@ fn write_buffered_block<D: Direction>(
 fn write_buffered_text<D: Direction>(rest: &[u8], buf: &mut [u8], to: &mut [u8], at: usize) -> Moved
     requires space { BLOCK_ROOM ≤ length buf.old }
     requires within { at ≤ length to.old }
-    ensures { Puts (Gives D.IsValid D.other) rest.now to.old to.new at result.read result.written }
+    ensures { TranscodesPart (SameText D.IsValid D.other) rest.now to.old to.new at result.read result.written }
 {
     D::laws();
     let len = D::valid_len(&rest[..rest.len().min(BLOCK_LEN)]);
@@ -228,9 +228,9 @@ fn write_buffered_text<D: Direction>(rest: &[u8], buf: &mut [u8], to: &mut [u8],
 // Copies a text in the second encoding to `at`, as far as it fits.
 #[inline(always)]
 fn write_fitting<D: Direction>(text: &[u8], written: &[u8], to: &mut [u8], at: usize) -> Moved
-    requires text { Gives D.IsValid D.other text.now written.now }
+    requires text { SameText D.IsValid D.other text.now written.now }
     requires within { at ≤ length to.old }
-    ensures bytes { Puts (Gives D.IsValid D.other) text.now to.old to.new at result.read
+    ensures bytes { TranscodesPart (SameText D.IsValid D.other) text.now to.old to.new at result.read
         result.written }
     ensures most { (result.read ≡ length text.now) ⊎ (length to.new - result.written < 4) }
 {
@@ -244,8 +244,8 @@ fn write_fitting<D: Direction>(text: &[u8], written: &[u8], to: &mut [u8], at: u
 // Returns how much of a text fits in `room` bytes in the second encoding.
 #[inline(always)]
 fn prefix_for<D: Direction>(text: &[u8], written: &[u8], room: usize) -> Moved
-    requires { Gives D.IsValid D.other text.now written.now }
-    ensures prefix { Wrote (Gives D.IsValid D.other) text.now written.now result.read
+    requires { SameText D.IsValid D.other text.now written.now }
+    ensures prefix { TranscodesPrefix (SameText D.IsValid D.other) text.now written.now result.read
         result.written }
     ensures fits { result.written ≤ room }
     ensures most { (result.read ≡ length text.now) ⊎ (room < result.written + 4) }
@@ -264,7 +264,7 @@ fn prefix_for<D: Direction>(text: &[u8], written: &[u8], room: usize) -> Moved
 // writes, it goes character by character.
 fn write_chars<D: Direction>(rest: &[u8], to: &mut [u8], at: usize) -> Moved
     requires { at ≤ length to.old }
-    ensures { Puts (Gives D.IsValid D.other) rest.now to.old to.new at result.read result.written }
+    ensures { TranscodesPart (SameText D.IsValid D.other) rest.now to.old to.new at result.read result.written }
 {
     D::laws();
     let begun = D::begin(rest, &mut to[at..]);
@@ -286,7 +286,7 @@ fn write_next_char<D: Direction>(rest: &[u8], to: &mut [u8], at: usize) -> Resul
     requires not_empty { 0 < length rest.now }
     requires within { at ≤ length to.old }
     ensures wrote { IfOk result (λ r.
-        Puts (Gives D.IsValid D.other) rest.now to.old to.new at r.read r.written) }
+        TranscodesPart (SameText D.IsValid D.other) rest.now to.old to.new at r.read r.written) }
     ensures advances { IfOk result (λ r. 0 < r.read) }
     ensures stop { IfErr result (StopsHere D.from D.into D.IsIllFormedAt rest.now
         (length to.new - at)) }

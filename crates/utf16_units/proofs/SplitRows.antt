@@ -5,7 +5,7 @@ use Rattle.utf16_units.specs.IllFormed.{is_incomplete}
 use Rattle.utf16_units.specs.Split.{Item, good, lone_trail, lone_lead, whole_lossy_chars, put_leading, put_unit, split_items, split_tail}
 
 -- bytes in a byte order, the items and the tail of their split, and its lossy text
-record Shown : Type 0 where
+record Row : Type 0 where
   order : Bool
   bytes : List ℕ
   items : List Item
@@ -22,16 +22,16 @@ abbrev both : Bool → Bool → Bool
 both true b = b
 both false b = false
 
-abbrev is_shown : Shown → Bool
-is_shown row =
+abbrev holds : Row → Bool
+holds row =
     let items = split_items row.order row.bytes in
     let tail = split_tail row.order row.bytes in
     both (bytes_eq (flat_map item_numbers items) (flat_map item_numbers row.items)) (both (bytes_eq tail row.tail) (bytes_eq (whole_lossy_chars items tail) row.text))
 
-abbrev shown : Bool → List ℕ → List Item → List ℕ → List ℕ → Shown
+abbrev shown : Bool → List ℕ → List Item → List ℕ → List ℕ → Row
 shown order bytes items tail text = record { order = order; bytes = bytes; items = items; tail = tail; text = text }
 
-abbrev rows : List Shown
+abbrev rows : List Row
 rows =
     shown false (0x00 ∷ 0xDC ∷ []) (lone_trail 0xDC00 ∷ []) [] (0xFFFD ∷ [])
     ∷ shown false (0x00 ∷ 0xD8 ∷ []) [] (0x00 ∷ 0xD8 ∷ []) (0xFFFD ∷ [])
@@ -51,6 +51,6 @@ rows =
     ∷ shown false (0x00 ∷ 0xD8 ∷ 0x00 ∷ 0xD8 ∷ 0x00 ∷ []) (lone_lead 0xD800 ∷ []) (0x00 ∷ 0xD8 ∷ 0x00 ∷ []) (0xFFFD ∷ 0xFFFD ∷ [])
     ∷ []
 
-rows_shown : list_all is_shown rows ≡ true
+rows_shown : list_all holds rows ≡ true
 unfolding is_incomplete put_leading put_unit split_items split_tail
 rows_shown = refl

@@ -5,7 +5,7 @@ use Rattle.utf16_units.specs.Split.{Item, good, lone_lead, lone_trail, split_ite
 use Rattle.utf16_units.specs.Unit.{unit_of}
 use Rattle.utf16_transcode.specs.Decomposition.{Decomposition}
 use Rattle.utf16_transcode.specs.Stops.{StopsLossyAs, TextDoesNotFit}
-use Rattle.utf16_transcode.specs.Wrote.{DecodesAsTo}
+use Rattle.utf16_transcode.specs.Transcoded.{DecodesAsTo}
 use Rattle.utf16_transcode.specs.declared.progress.Stop.{Stop}
 use Rattle.utf16_transcode.specs.declared.progress.Stop.TheVariants.{Incomplete, Done, IllFormed, NoSpace}
 use Rattle.utf16_wtf8.specs.Wtf8.{code_points, generalized_utf8}

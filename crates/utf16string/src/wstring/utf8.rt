@@ -13,8 +13,8 @@ use super::ranges::turn_in;
 use crate::WString;
 use std::alloc::{AllocError, Allocator};
 use utf16_from_utf8::{SLACK, append_utf16, extend_utf16, write_text};
-use utf16_units::ladder::{FEW_TEXT, SHORT_TEXT};
 use utf16_units::size::utf16_len_by_chars;
+use utf16_units::strategy::{FEW_TEXT, SHORT_TEXT};
 use utf16_units::{Utf16Order, utf16_len};
 
 impl<E: Utf16Order, A: Allocator> WString<E, A> {

@@ -2,7 +2,7 @@ use Rattle.std.proofs.Common.{◌-◌, length, drop, arith, rules}
 use Rattle.std.specs.Char.{encode_utf8}
 use Rattle.utf16_transcode.specs.Decodes.{utf16_parts}
 use Rattle.utf16_transcode.specs.Stops.{StopsLossy}
-use Rattle.utf16_transcode.specs.Wrote.{DecodesTo}
+use Rattle.utf16_transcode.specs.Transcoded.{DecodesTo}
 use Rattle.utf16_transcode.proofs.ToUtf8Parts.{utf16_chunks, utf8_short}
 use Rattle.dethrux.specs.Numbers.{is_big, stop_of}
 use Rattle.dethrux.proofs.Bounds.{decided_advances, decided_filled, decided_fits, decided_within}

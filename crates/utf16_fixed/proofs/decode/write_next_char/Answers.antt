@@ -3,7 +3,7 @@ use Rattle.std.proofs.lemmas.List.{take_more_set}
 use Rattle.utf16_units.specs.Encoding.{IsUtf16, char_bytes}
 use Rattle.utf16_units.proofs.EncodingLemmas.{IsUtf16-char}
 use Rattle.utf16_transcode.proofs.ToUtf8Lemmas.{begins}
-use Rattle.utf16_transcode.proofs.WroteLemmas.{first_does_not_fit, first_gives}
+use Rattle.utf16_transcode.proofs.TranscodedLemmas.{first_does_not_fit, first_gives}
 use Rattle.utf16_fixed.specs.Utf32.{TranscodesToUtf32, utf32_units}
 use Rattle.utf16_fixed.proofs.TextLemmas.{utf32_char}
 use Rattle.utf16_fixed.proofs.decode.write_next_char.Goals as goal

@@ -1,13 +1,13 @@
 use Rattle.std.proofs.Common.{ℕ, Bor, List, [], append-nil, ap, arith, length, length-append, sym, take, ◌∙◌}
 use Rattle.std.proofs.lemmas.List.Folds.{length-flat_map-take}
 use Rattle.std.specs.List.{flat_map}
-use Rattle.utf16_program.proofs.LineLemmas.{Puts-err}
+use Rattle.utf16_program.proofs.LineLemmas.{Appends-err}
 use Rattle.utf16_program.proofs.lines.append.Goals as goal
 
 pub returns-in_err-reserve : goal.returns-in_err-reserve
 returns-in_err-reserve g c =
     let failed = c.in_err-reserve.ensures in
-    Puts-err _ _ [] _ _ c.from_residual.ensures.0 (failed.items ∙ sym (append-nil c.args.lines.now.items)) (omega (arith, failed.capacity)) (omega (arith, failed.full, c.len_of.ensures))
+    Appends-err _ _ [] _ _ c.from_residual.ensures.0 (failed.items ∙ sym (append-nil c.args.lines.now.items)) (omega (arith, failed.capacity)) (omega (arith, failed.full, c.len_of.ensures))
 
 pub returns-in_err-extend_from_slice : goal.returns-in_err-extend_from_slice
 returns-in_err-extend_from_slice g c =

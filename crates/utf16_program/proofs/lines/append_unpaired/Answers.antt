@@ -1,7 +1,7 @@
 use Rattle.std.proofs.Common.{◌≡◌, ℕ, List, ◌++◌, ◌∙◌, true, ap, append_assoc, codes, refl, subst, sym}
 use Rattle.std.proofs.lemmas.Bool.{false≢true}
 use Rattle.std.specs.Fmt.{decimal, digits}
-use Rattle.utf16_program.specs.Lines.{Puts}
+use Rattle.utf16_program.specs.Lines.{Appends}
 use Rattle.utf16_program.specs.Report.{ill_formed_line}
 use Rattle.utf16_program.specs.Scans.{lone}
 use Rattle.utf16_program.proofs.ItemLemmas.{lone-leading, lone-trailing}
@@ -22,4 +22,4 @@ returns g c =
       | else-is_leading_surrogate w ↦ ap (λ k. line at unit k.now) w.kind-is ∙ simp append_assoc refl
           ∙ ap (ill_formed_line at) (sym (lone-trailing unit (λ l. false≢true (sym w.if-is_leading_surrogate.false ∙ c.is_leading_surrogate.ensures.1 l))))
     ] in
-    subst (Puts c.args.lines.now c.append.new.lines c.append.result) is (rw (c.hex.ensures, c.as_bytes.ensures.value, c.format.ensures.text, c.hex-2.ensures) at c.append.ensures)
+    subst (Appends c.args.lines.now c.append.new.lines c.append.result) is (rw (c.hex.ensures, c.as_bytes.ensures.value, c.format.ensures.text, c.hex-2.ensures) at c.append.ensures)

@@ -1,5 +1,5 @@
 use Rattle.std.proofs.Common.{◌-◌, length}
-use Rattle.utf16_transcode.specs.Wrote.{DecodesTo}
+use Rattle.utf16_transcode.specs.Transcoded.{DecodesTo}
 use Rattle.utf16_transcode.proofs.ascii.write_lossy_ascii_blocks.Given as goal
 
 -- what was read so far is decoded and written

@@ -3,7 +3,7 @@ use Rattle.std.proofs.lemmas.Bool.{cases_lt}
 use Rattle.utf16_units.proofs.BackChar.{length-even}
 use Rattle.utf16_units.proofs.EncodingLemmas.{Encodes-text_of, Encodes-unique}
 use Rattle.utf16_transcode.proofs.DecodesLemmas.{Decodes-decided, some_decided}
-use Rattle.utf16_transcode.proofs.WroteLemmas.{enough}
+use Rattle.utf16_transcode.proofs.TranscodedLemmas.{enough}
 use Rattle.utf16_transcode.proofs.decode_lossy.write_copied.Goals as goal
 
 pub returns-clause-decodes : goal.returns-clause-decodes

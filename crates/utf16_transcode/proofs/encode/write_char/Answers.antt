@@ -1,7 +1,7 @@
 use Rattle.std.proofs.Common.{◌≡◌, ◌++◌, length, take, sym, ap, ◌∙◌, arith, rules, take_at}
 use Rattle.utf16_units.specs.Encoding.{char_bytes}
 use Rattle.utf16_units.proofs.CharLemmas.{length-char_bytes}
-use Rattle.utf16_transcode.proofs.WroteLemmas.{take-end}
+use Rattle.utf16_transcode.proofs.TranscodedLemmas.{take-end}
 use Rattle.utf16_transcode.proofs.encode.write_char.Goals as goal
 
 pub returns-clause-bytes : goal.returns-clause-bytes

@@ -2,7 +2,7 @@ use Rattle.std.proofs.Common.{◌+◌, ◌-◌, Some, length, length-drop, arith
 use Rattle.utf16_units.proofs.IllFormedLemmas.{rest_from}
 use borrow.Rule.Slice.PartMut.{put_mid}
 use Rattle.utf16_transcode.specs.Stops.{Stops}
-use Rattle.utf16_transcode.specs.Wrote.{DecodesAsTo}
+use Rattle.utf16_transcode.specs.Transcoded.{DecodesAsTo}
 use Rattle.utf16_transcode.proofs.StreamSteps.{DecodesTo-kept, DecodesTo-none, DecodesTo-rest, rest_after, stops_rest}
 use Rattle.utf16_transcode.proofs.lossy_transcoding.transcode_partial.Given.{Over}
 use Rattle.utf16_transcode.proofs.lossy_transcoding.transcode_partial.Goals as goal

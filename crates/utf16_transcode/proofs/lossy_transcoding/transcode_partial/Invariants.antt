@@ -1,5 +1,5 @@
 use Rattle.std.proofs.Common.{◌-◌, length}
-use Rattle.utf16_transcode.specs.Wrote.{DecodesAsTo}
+use Rattle.utf16_transcode.specs.Transcoded.{DecodesAsTo}
 use Rattle.utf16_transcode.proofs.lossy_transcoding.transcode_partial.Given as goal
 
 -- what was read so far is decoded and written

@@ -1,6 +1,6 @@
 use Rattle.std.proofs.lemmas.Result.{err_from_is_err_and}
-use Rattle.utf16_transcode.specs.Wrote.{Gives}
-use Rattle.utf16_transcode.proofs.WroteLemmas.{first_does_not_fit, first_gives}
+use Rattle.utf16_transcode.specs.Transcoded.{SameText}
+use Rattle.utf16_transcode.proofs.TranscodedLemmas.{first_does_not_fit, first_gives}
 use Rattle.utf16_transcode.proofs.transcoding.write_next_char.Goals as goal
 
 pub returns-in-Some-clause-wrote : goal.returns-in-Some-clause-wrote
@@ -11,7 +11,7 @@ returns-in-Some-clause-wrote g c =
       within = first.within;
       fits = c.in-Some.ensures.within;
       added = _;
-      gives = first_gives d.from d.into _ _ _ first (Gives d.IsValid d.other) c.laws.ensures.each_char;
+      gives = first_gives d.from d.into _ _ _ first (SameText d.IsValid d.other) c.laws.ensures.each_char;
       bytes = c.in-Some.ensures.bytes;
     }
 

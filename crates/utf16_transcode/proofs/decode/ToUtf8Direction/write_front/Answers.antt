@@ -1,4 +1,4 @@
-use Rattle.utf16_transcode.proofs.WroteLemmas.{enough}
+use Rattle.utf16_transcode.proofs.TranscodedLemmas.{enough}
 use Rattle.utf16_transcode.proofs.decode.ToUtf8Direction.write_front.Goals as goal
 
 pub write_ascii_from-requires : goal.write_ascii_from-requires

@@ -1,7 +1,7 @@
 use Rattle.std.proofs.Common.{Some, arith, refl, rules, subst}
 use Rattle.utf16_units.proofs.EncodingLemmas.{IsUtf16-nil}
 use Rattle.utf16_transcode.specs.Stops.{IsIllFormedUtf16}
-use Rattle.utf16_transcode.specs.Wrote.{DecodesTo}
+use Rattle.utf16_transcode.specs.Transcoded.{DecodesTo}
 use Rattle.utf16_transcode.proofs.DecodeLossyLemmas.{DecodesTo-lone, replacement_does_not_fit, replacement_fits, some_items}
 use Rattle.utf16_transcode.proofs.ToUtf8Lemmas.{faults_there, utf8_empty}
 use Rattle.utf16_transcode.proofs.decode_lossy.ToUtf8LossyDirection.write_ill_formed.Given.{Over}

@@ -1,5 +1,5 @@
 use Rattle.std.proofs.Common.{arith}
-use Rattle.utf16_transcode.proofs.WroteLemmas.{long_enough}
+use Rattle.utf16_transcode.proofs.TranscodedLemmas.{long_enough}
 use Rattle.utf16_transcode.proofs.encode.FromUtf8Direction.write.Goals as goal
 
 pub returns-clause-len : goal.returns-clause-len
