@@ -11,9 +11,9 @@ use Rattle.std.specs.Str.{IsUtf8, chars, is_utf8}
 use Rattle.std.specs.Str.Lossy.{utf8_valid_len, valid_len_up_to}
 use Rattle.utf16_transcode.specs.Decodes.{utf16_parts}
 use Rattle.utf16_transcode.specs.Decomposition.{Decomposition, IsSplitInChunks, decided}
-use Rattle.utf16_transcode.specs.WholeText.{WritesWholeText}
+use Rattle.utf16_transcode.specs.WholeText.{WritesWhole}
 use Rattle.utf16_transcode.specs.Stops.{StopsDecoding, StopsLossyAs, StopsLossyWhole}
-use Rattle.utf16_transcode.specs.Transcoded.{DecodesAsTo, TranscodesToUtf8, TranscodesPrefix}
+use Rattle.utf16_transcode.specs.Transcoded.{DecodesAsTo, TranscodesToUtf8, Writes}
 use Rattle.utf16_transcode.specs.declared.progress.Stop.{Stop}
 use Rattle.utf16_transcode.specs.declared.progress.Stop.TheVariants.{Incomplete, Done, IllFormed, NoSpace}
 use Rattle.utf16_transcode.proofs.DecodesSteps.{written_for, written_for-append}
@@ -109,7 +109,7 @@ valid_within bytes =
 
 -- a call with capacity for the whole text comes to its end
 pub whole_is_done : (text : List ℕ → List ℕ) (into : ℕ → List ℕ) (input to : List ℕ) (read written : ℕ) (stop : Stop)
-    → WritesWholeText text into input to read written → StopsLossyWhole text into (drop read input) (length to - written) stop
+    → WritesWhole text into input to read written → StopsLossyWhole text into (drop read input) (length to - written) stop
     → length (flat_map into (text input)) ≤ length to → stop ≡ Done
 whole_is_done text into input to read written Done shows stops fits = refl
 whole_is_done text into input to read written (IllFormed len) shows stops fits = absurd stops
@@ -188,7 +188,7 @@ module _ (parts : Decomposition) (into : ℕ → List ℕ) (input to : List ℕ)
 -- ---- lemmas for the calls
 
 module _ (big : Bool) (input to : List ℕ) (read written : ℕ) where
-  pub to_utf8_fits : (stop : Stop) → AreBytes input → TranscodesPrefix (TranscodesToUtf8 big) input to read written → StopsDecoding big input read (length to - written) stop
+  pub to_utf8_fits : (stop : Stop) → AreBytes input → Writes (TranscodesToUtf8 big) input to read written → StopsDecoding big input read (length to - written) stop
       → length input / 2 * 3 ≤ length to → stop ≢ NoSpace
   to_utf8_fits stop are wrote here fits full =
       let decodes = DecodesTo-front big input to read written wrote.within wrote.fits wrote.gives in
@@ -196,7 +196,7 @@ module _ (big : Bool) (input to : List ℕ) (read written : ℕ) where
       decided_fits (utf16_parts big) encode_utf8 input to read written decodes stop
       (stops_lossy big input read (length to - written) stop (λ len fault. (let same = sym fault ∙ full in cc)) here) (omega arith) full
 
-  pub from_utf8_fits : (stop : Stop) → TranscodesPrefix (TranscodesToUtf16 big) input to read written → StopsEncoding big input read (length to - written) stop
+  pub from_utf8_fits : (stop : Stop) → Writes (TranscodesToUtf16 big) input to read written → StopsEncoding big input read (length to - written) stop
       → 2 * length input ≤ length to → stop ≢ NoSpace
   from_utf8_fits stop wrote here fits full =
       let most = (shown_within input).2 in

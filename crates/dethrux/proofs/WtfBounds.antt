@@ -8,8 +8,8 @@ use Rattle.utf16_units.proofs.CharLemmas.{char_size_four, char_size_two, length-
 use Rattle.utf16_units.proofs.FirstChar.{AreBytes}
 use Rattle.utf16_units.proofs.Utf8Lemmas.{four_bytes}
 use Rattle.utf16_transcode.specs.Decomposition.{decided}
-use Rattle.utf16_transcode.specs.WholeText.{WritesWholeText}
-use Rattle.utf16_transcode.specs.Transcoded.{TranscodesPrefix}
+use Rattle.utf16_transcode.specs.WholeText.{WritesWhole}
+use Rattle.utf16_transcode.specs.Transcoded.{Writes}
 use Rattle.utf16_transcode.specs.declared.progress.Stop.{Stop}
 use Rattle.utf16_transcode.specs.declared.progress.Stop.TheVariants.{Incomplete, Done, IllFormed, NoSpace}
 use Rattle.utf16_wtf8.specs.FromWtf8.{NextPointDoesNotFit, StopsFromWtf8, StopsFromWtf8Partial, TranscodesFromWtf8}
@@ -41,7 +41,7 @@ fed_wtf8_within big pending chunk few first second =
     let within = decided_wtf8_within big (pending ++ chunk) (are_bytes pending chunk first second) in
     omega arith
 
-pub to_wtf8_fits : (big : Bool) (raw to : List ℕ) (read written : ℕ) (stop : Stop) → AreBytes raw → WritesWholeText (points_of big) generalized_utf8 raw to read written
+pub to_wtf8_fits : (big : Bool) (raw to : List ℕ) (read written : ℕ) (stop : Stop) → AreBytes raw → WritesWhole (points_of big) generalized_utf8 raw to read written
     → StopsToWtf8 big (drop read raw) (length to - written) stop → length raw / 2 * 3 ≤ length to → stop ≢ NoSpace
 to_wtf8_fits big raw to read written Done are shows here enough full = absurd (cc)
 to_wtf8_fits big raw to read written (IllFormed len) are shows here enough full = absurd here
@@ -79,7 +79,7 @@ units_within big (point ∷ points) =
       length-append (generalized_utf8 point) (flat_map generalized_utf8 points),
     )
 
-module _ (big : Bool) (wtf8 to : List ℕ) (read written : ℕ) (wrote : TranscodesPrefix (TranscodesFromWtf8 big) wtf8 to read written) where
+module _ (big : Bool) (wtf8 to : List ℕ) (read written : ℕ) (wrote : Writes (TranscodesFromWtf8 big) wtf8 to read written) where
   next_fits : NextPointDoesNotFit big wtf8 read (length to - written) → length to < 2 * length wtf8
   next_fits next =
       let gives = wrote.gives in
@@ -129,8 +129,8 @@ module _ (big : Bool) (pending chunk left to : List ℕ) (read written : ℕ) (f
       let within = fed.within in
       omega (arith, ap length fed.splits, both, length-append fed.front (left ++ drop read chunk), length-append left (drop read chunk), length-drop read chunk)
 
-  TranscodesPrefix-fed : TranscodesPrefix (TranscodesFromWtf8 big) (pending ++ chunk) to at written
-  TranscodesPrefix-fed = record {
+  Writes-fed : Writes (TranscodesFromWtf8 big) (pending ++ chunk) to at written
+  Writes-fed = record {
     within = omega (arith, ap length fed.splits, long, length-append fed.front (left ++ drop read chunk));
     fits = fed.fits;
     gives = subst (λ b. TranscodesFromWtf8 big b (take written to)) (sym (ap (take at) fed.splits ∙ take_at fed.front (left ++ drop read chunk) at long)) fed.gives;
@@ -140,10 +140,10 @@ module _ (big : Bool) (pending chunk left to : List ℕ) (read written : ℕ) (f
   encoder_fits Done here enough full = absurd (cc)
   encoder_fits (IllFormed len) here enough full = absurd (cc)
   encoder_fits Incomplete here enough full = absurd here
-  encoder_fits NoSpace here enough full = from_partial_fits big (pending ++ chunk) to at written TranscodesPrefix-fed NoSpace here.1 (omega (arith, both, enough)) full
+  encoder_fits NoSpace here enough full = from_partial_fits big (pending ++ chunk) to at written Writes-fed NoSpace here.1 (omega (arith, both, enough)) full
 
   pub encoder_filled : (stop : Stop) → StopsFeedingWtf8 big pending chunk left read (length to - written) stop → stop ≡ NoSpace → length to < written + 4
   encoder_filled Done here full = absurd (cc)
   encoder_filled (IllFormed len) here full = absurd (cc)
   encoder_filled Incomplete here full = absurd here
-  encoder_filled NoSpace here full = from_partial_filled big (pending ++ chunk) to at written TranscodesPrefix-fed NoSpace here.1 full
+  encoder_filled NoSpace here full = from_partial_filled big (pending ++ chunk) to at written Writes-fed NoSpace here.1 full

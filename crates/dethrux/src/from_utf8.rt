@@ -7,9 +7,9 @@ ghost use Rattle.std.specs.Str.Lossy.{utf8_valid_len};
 ghost use Rattle.utf16_units.specs.Encoding.{char_bytes, size};
 ghost use Rattle.utf16_transcode.specs.FromUtf8.{TranscodesToUtf16, StopsEncoding, text_of_utf8};
 ghost use Rattle.utf16_transcode.specs.Replaced.{ill_formed_utf8_count};
-ghost use Rattle.utf16_transcode.specs.WholeText.{WritesWholeText};
+ghost use Rattle.utf16_transcode.specs.WholeText.{WritesWhole};
 ghost use Rattle.utf16_transcode.specs.Stops.{StopsLossyWhole};
-ghost use Rattle.utf16_transcode.specs.Transcoded.{TranscodesPrefix};
+ghost use Rattle.utf16_transcode.specs.Transcoded.{Writes};
 ghost use Rattle.dethrux.specs.Numbers.{AreNumbers, is_big, stop_of};
 ghost use Rattle.utf16_transcode.specs.declared.progress.Stop.TheVariants.{Done, NoSpace};
 
@@ -25,7 +25,7 @@ use utf16_transcode::{
 /// overwritten. In time linear in what is read.
 #[unsafe(no_mangle)]
 pub extern "C" fn dethrux_from_utf8(byte_order: u32, utf8: &[u8], to: &mut [u8]) -> Progress
-    ensures wrote { TranscodesPrefix (TranscodesToUtf16 (is_big byte_order)) utf8.now to.new result.read
+    ensures wrote { Writes (TranscodesToUtf16 (is_big byte_order)) utf8.now to.new result.read
         result.written }
     ensures stop { StopsEncoding (is_big byte_order) utf8.now result.read
         (length to.new - result.written) (stop_of result.status result.error_len) }
@@ -42,7 +42,7 @@ pub extern "C" fn dethrux_from_utf8(byte_order: u32, utf8: &[u8], to: &mut [u8])
 /// bytes after the written ones may have been overwritten. In time linear in what is read.
 #[unsafe(no_mangle)]
 pub extern "C" fn dethrux_from_utf8_lossy(byte_order: u32, utf8: &[u8], to: &mut [u8]) -> Progress
-    ensures shown { WritesWholeText text_of_utf8 (char_bytes (is_big byte_order)) utf8.now to.new
+    ensures shown { WritesWhole text_of_utf8 (char_bytes (is_big byte_order)) utf8.now to.new
         result.read result.written }
     ensures stop { StopsLossyWhole text_of_utf8 (char_bytes (is_big byte_order))
         (drop result.read utf8.now) (length to.new - result.written)

@@ -5,9 +5,9 @@ ghost use Rattle.std.specs.Char.{encode_utf8};
 ghost use Rattle.utf16_units.specs.Encoding.{IsUtf16};
 ghost use Rattle.utf16_units.specs.Split.{decided_text, lossy_text};
 ghost use Rattle.utf16_transcode.specs.Replaced.{ill_formed_count};
-ghost use Rattle.utf16_transcode.specs.WholeText.{WritesWholeText};
+ghost use Rattle.utf16_transcode.specs.WholeText.{WritesWhole};
 ghost use Rattle.utf16_transcode.specs.Stops.{StopsDecoding, StopsLossy, StopsLossyWhole};
-ghost use Rattle.utf16_transcode.specs.Transcoded.{DecodesTo, TranscodesToUtf8, TranscodesPrefix};
+ghost use Rattle.utf16_transcode.specs.Transcoded.{DecodesTo, TranscodesToUtf8, Writes};
 ghost use Rattle.dethrux.specs.Numbers.{AreNumbers, is_big, stop_of};
 ghost use Rattle.utf16_transcode.specs.declared.progress.Stop.TheVariants.{Done, NoSpace};
 
@@ -44,7 +44,7 @@ pub extern "C" fn dethrux_to_utf8_replacements(byte_order: u32, utf16: &[u8]) ->
 /// overwritten. In time linear in what is read.
 #[unsafe(no_mangle)]
 pub extern "C" fn dethrux_to_utf8(byte_order: u32, utf16: &[u8], to: &mut [u8]) -> Progress
-    ensures wrote { TranscodesPrefix (TranscodesToUtf8 (is_big byte_order)) utf16.now to.new result.read
+    ensures wrote { Writes (TranscodesToUtf8 (is_big byte_order)) utf16.now to.new result.read
         result.written }
     ensures stop { StopsDecoding (is_big byte_order) utf16.now result.read
         (length to.new - result.written) (stop_of result.status result.error_len) }
@@ -61,7 +61,7 @@ pub extern "C" fn dethrux_to_utf8(byte_order: u32, utf16: &[u8], to: &mut [u8]) 
 /// code unit, and three for an odd byte at the end.
 #[unsafe(no_mangle)]
 pub extern "C" fn dethrux_to_utf8_lossy(byte_order: u32, utf16: &[u8], to: &mut [u8]) -> Progress
-    ensures shown { WritesWholeText (lossy_text (is_big byte_order)) encode_utf8 utf16.now to.new
+    ensures shown { WritesWhole (lossy_text (is_big byte_order)) encode_utf8 utf16.now to.new
         result.read result.written }
     ensures stop { StopsLossyWhole (lossy_text (is_big byte_order)) encode_utf8
         (drop result.read utf16.now) (length to.new - result.written)

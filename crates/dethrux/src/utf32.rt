@@ -3,9 +3,9 @@
 ghost use Rattle.std.specs.Prelude.{◌≡◌, ◌≢◌, ◌↔◌, ◌+◌, ◌-◌, ◌*◌, ◌/◌, ◌≤◌, drop, length};
 ghost use Rattle.utf16_units.specs.Encoding.{char_bytes, size};
 ghost use Rattle.utf16_units.specs.Split.{lossy_text};
-ghost use Rattle.utf16_transcode.specs.WholeText.{WritesWholeText};
+ghost use Rattle.utf16_transcode.specs.WholeText.{WritesWhole};
 ghost use Rattle.utf16_transcode.specs.Stops.{StopsLossyWhole};
-ghost use Rattle.utf16_transcode.specs.Transcoded.{TranscodesPrefix};
+ghost use Rattle.utf16_transcode.specs.Transcoded.{Writes};
 ghost use Rattle.utf16_transcode.specs.declared.progress.Stop.TheVariants.{Done, NoSpace};
 ghost use Rattle.utf16_fixed.specs.Stops32.{DecodesToUtf32, StopsFromUtf32, StopsToUtf32};
 ghost use Rattle.utf16_fixed.specs.Utf32.{IsUtf32, IsUtf32ValidUpTo, ShowsInUtf16, TranscodesFromUtf32, TranscodesToUtf32, lossy_utf32, utf32_units};
@@ -24,7 +24,7 @@ use utf16_fixed::{
 /// written code units may have been overwritten. In time linear in what is read.
 #[unsafe(no_mangle)]
 pub extern "C" fn dethrux_to_utf32(byte_order: u32, utf16: &[u8], to: &mut [u32]) -> Progress
-    ensures wrote { TranscodesPrefix (TranscodesToUtf32 (is_big byte_order)) utf16.now to.new result.read
+    ensures wrote { Writes (TranscodesToUtf32 (is_big byte_order)) utf16.now to.new result.read
         result.written }
     ensures stop { StopsToUtf32 (is_big byte_order) utf16.now result.read
         (length to.new - result.written) (stop_of result.status result.error_len) }
@@ -40,7 +40,7 @@ pub extern "C" fn dethrux_to_utf32(byte_order: u32, utf16: &[u8], to: &mut [u32]
 /// U+FFFD does not fit: call again with the rest.
 #[unsafe(no_mangle)]
 pub extern "C" fn dethrux_to_utf32_lossy(byte_order: u32, utf16: &[u8], to: &mut [u32]) -> Progress
-    ensures shown { WritesWholeText (lossy_text (is_big byte_order)) utf32_units utf16.now to.new
+    ensures shown { WritesWhole (lossy_text (is_big byte_order)) utf32_units utf16.now to.new
         result.read result.written }
     ensures stop { StopsLossyWhole (lossy_text (is_big byte_order)) utf32_units
         (drop result.read utf16.now) (length to.new - result.written)
@@ -93,7 +93,7 @@ pub extern "C" fn dethrux_validate_utf32(utf32: &[u32]) -> Validity
 /// The bytes after the written ones may have been overwritten. In time linear in what is read.
 #[unsafe(no_mangle)]
 pub extern "C" fn dethrux_from_utf32(byte_order: u32, utf32: &[u32], to: &mut [u8]) -> Progress
-    ensures wrote { TranscodesPrefix (TranscodesFromUtf32 (is_big byte_order)) utf32.now to.new result.read
+    ensures wrote { Writes (TranscodesFromUtf32 (is_big byte_order)) utf32.now to.new result.read
         result.written }
     ensures stop { StopsFromUtf32 (is_big byte_order) utf32.now result.read
         (length to.new - result.written) (stop_of result.status result.error_len) }
@@ -113,7 +113,7 @@ pub extern "C" fn dethrux_from_utf32_lossy(
     utf32: &[u32],
     to: &mut [u8],
 ) -> Progress
-    ensures wrote { TranscodesPrefix (ShowsInUtf16 (is_big byte_order)) utf32.now to.new result.read
+    ensures wrote { Writes (ShowsInUtf16 (is_big byte_order)) utf32.now to.new result.read
         result.written }
     ensures stop { StopsLossyWhole lossy_utf32 (char_bytes (is_big byte_order))
         (drop result.read utf32.now) (length to.new - result.written)

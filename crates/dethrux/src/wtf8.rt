@@ -3,9 +3,9 @@
 ghost use Rattle.std.specs.Prelude.{◌≡◌, ◌≢◌, ◌↔◌, ◌+◌, ◌-◌, ◌*◌, ◌/◌, ◌%◌, ◌<◌, ◌≤◌, [], ◌++◌, drop, length, take};
 ghost use Rattle.std.specs.List.{flat_map};
 ghost use Rattle.utf16_transcode.specs.Decomposition.{decided};
-ghost use Rattle.utf16_transcode.specs.WholeText.{WritesWholeText};
+ghost use Rattle.utf16_transcode.specs.WholeText.{WritesWhole};
 ghost use Rattle.utf16_transcode.specs.Stream.{FeedsAs, StopsFeedingAs, stream_pending};
-ghost use Rattle.utf16_transcode.specs.Transcoded.{TranscodesPrefix};
+ghost use Rattle.utf16_transcode.specs.Transcoded.{Writes};
 ghost use Rattle.utf16_transcode.specs.declared.progress.Stop.TheVariants.{Done, Incomplete, NoSpace};
 ghost use Rattle.utf16_wtf8.specs.FromWtf8.{HasUtf16Len, IsWrittenIfItFits, LeavesLeading, StopsFromWtf8, StopsFromWtf8Partial, TranscodesFromWtf8};
 ghost use Rattle.utf16_wtf8.specs.ToWtf8.{DecodesToWtf8, StopsBeforeTail, StopsToWtf8, points_of, tail_points, wtf8_parts};
@@ -28,7 +28,7 @@ use utf16_wtf8::{
 /// what is read.
 #[unsafe(no_mangle)]
 pub extern "C" fn dethrux_to_wtf8(byte_order: u32, utf16: &[u8], to: &mut [u8]) -> Progress
-    ensures shown { WritesWholeText (points_of (is_big byte_order)) generalized_utf8 utf16.now to.new
+    ensures shown { WritesWhole (points_of (is_big byte_order)) generalized_utf8 utf16.now to.new
         result.read result.written }
     ensures stop { StopsToWtf8 (is_big byte_order) (drop result.read utf16.now)
         (length to.new - result.written) (stop_of result.status result.error_len) }
@@ -143,7 +143,7 @@ pub extern "C" fn dethrux_wtf8_decoder_finish(
 /// read.
 #[unsafe(no_mangle)]
 pub extern "C" fn dethrux_from_wtf8(byte_order: u32, wtf8: &[u8], to: &mut [u8]) -> Progress
-    ensures wrote { TranscodesPrefix (TranscodesFromWtf8 (is_big byte_order)) wtf8.now to.new result.read
+    ensures wrote { Writes (TranscodesFromWtf8 (is_big byte_order)) wtf8.now to.new result.read
         result.written }
     ensures stop { StopsFromWtf8 (is_big byte_order) wtf8.now result.read
         (length to.new - result.written) (stop_of result.status result.error_len) }
@@ -171,7 +171,7 @@ pub extern "C" fn dethrux_from_wtf8_len(wtf8: &[u8]) -> usize
 /// fit.
 #[unsafe(no_mangle)]
 pub extern "C" fn dethrux_from_wtf8_partial(byte_order: u32, wtf8: &[u8], to: &mut [u8]) -> Progress
-    ensures wrote { TranscodesPrefix (TranscodesFromWtf8 (is_big byte_order)) wtf8.now to.new result.read
+    ensures wrote { Writes (TranscodesFromWtf8 (is_big byte_order)) wtf8.now to.new result.read
         result.written }
     ensures stop { StopsFromWtf8Partial (is_big byte_order) wtf8.now result.read
         (length to.new - result.written) (stop_of result.status result.error_len) }

@@ -1,7 +1,7 @@
 //! An encoder of WTF-8 in UTF-16 for C, whose state is in memory that the caller owns.
 
 ghost use Rattle.std.specs.Prelude.{◌≡◌, ◌≢◌, ◌+◌, ◌-◌, ◌*◌, ◌<◌, ◌≤◌, [], ◌++◌, drop, length};
-ghost use Rattle.utf16_transcode.specs.Transcoded.{TranscodesPrefix};
+ghost use Rattle.utf16_transcode.specs.Transcoded.{Writes};
 ghost use Rattle.utf16_transcode.specs.declared.progress.Stop.TheVariants.{Done, NoSpace};
 ghost use Rattle.utf16_wtf8.specs.FromWtf8.{LeavesLeading, StopsFromWtf8, TranscodesFromWtf8};
 ghost use Rattle.utf16_wtf8.specs.Stream.{FeedsWtf8, StopsFeedingWtf8, encoded_len, wtf8_pending};
@@ -51,7 +51,7 @@ pub extern "C" fn dethrux_wtf8_encoder_finish(
     byte_order: u32,
     to: &mut [u8],
 ) -> Progress
-    ensures wrote { TranscodesPrefix (TranscodesFromWtf8 (is_big byte_order)) (wtf8_pending encoder.old) to.new
+    ensures wrote { Writes (TranscodesFromWtf8 (is_big byte_order)) (wtf8_pending encoder.old) to.new
         result.read result.written }
     ensures stop { StopsFromWtf8 (is_big byte_order) (wtf8_pending encoder.old) result.read
         (length to.new - result.written) (stop_of result.status result.error_len) }

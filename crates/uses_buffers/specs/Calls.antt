@@ -2,10 +2,10 @@
 use Rattle.std.specs.Prelude.{◌≡◌, ◌≢◌, ℕ, ◌+◌, ◌-◌, ◌≤◌, List, [], ◌∷◌, ◌++◌, Option, None, Some, length, take, drop, sum_by}
 use Rattle.std.specs.List.{flat_map}
 use Rattle.utf16_transcode.specs.Decomposition.{Decomposition}
-use Rattle.utf16_transcode.specs.WholeText.{WritesWholeText}
+use Rattle.utf16_transcode.specs.WholeText.{WritesWhole}
 use Rattle.utf16_transcode.specs.Stops.{Stops, StopsLossyAs, StopsLossyWhole}
 use Rattle.utf16_transcode.specs.Stream.{FeedsAs, StopsFeedingAs}
-use Rattle.utf16_transcode.specs.Transcoded.{DecodesAsTo, SameText, TranscodesPrefix}
+use Rattle.utf16_transcode.specs.Transcoded.{DecodesAsTo, SameText, Writes}
 use Rattle.utf16_transcode.specs.declared.progress.Stop.{Stop}
 use Rattle.utf16_transcode.specs.declared.progress.Stop.TheVariants.{Incomplete, Done, IllFormed, NoSpace}
 
@@ -43,7 +43,7 @@ all_output calls last = flat_map output calls ++ output last
 -- what `transcode_lossy` promises
 abbrev pub IsLossyCall : (List ℕ → List ℕ) → (ℕ → List ℕ) → List ℕ → Call → Type 0
 IsLossyCall text into input call =
-    WritesWholeText text into input call.to call.read call.written
+    WritesWhole text into input call.to call.read call.written
     × StopsLossyWhole text into (drop call.read input) (length call.to - call.written) call.stop
 
 -- what `transcode_partial` promises
@@ -56,7 +56,7 @@ IsPartialCall parts into input call =
 module _ (from into : ℕ → List ℕ) (IsValid : List ℕ → Type 0) (other : List ℕ → List ℕ) (IsIllFormedOf : List ℕ → ℕ → Option ℕ → Type 0) where
   abbrev pub IsStrictCall : List ℕ → Call → Type 0
   IsStrictCall input call =
-      TranscodesPrefix (SameText IsValid other) input call.to call.read call.written
+      Writes (SameText IsValid other) input call.to call.read call.written
       × Stops from into IsIllFormedOf input call.read (length call.to - call.written) call.stop
 
 -- what follows the first n bytes of the input: nothing, an ill-formed sequence, or an incomplete

@@ -15,7 +15,7 @@ use Rattle.utf16_units.proofs.SplitJoin.{split_items-text, split_tail-text}
 use Rattle.utf16_transcode.specs.Decodes.{utf16_parts}
 use Rattle.utf16_transcode.specs.Decomposition.{decided}
 use Rattle.utf16_transcode.specs.Stops.{IsIllFormedUtf16, TextDoesNotFit}
-use Rattle.utf16_transcode.specs.Transcoded.{TranscodesPrefix}
+use Rattle.utf16_transcode.specs.Transcoded.{Writes}
 use Rattle.utf16_transcode.specs.declared.progress.Stop.{Stop}
 use Rattle.utf16_transcode.specs.declared.progress.Stop.TheVariants.{Incomplete, Done, IllFormed, NoSpace}
 use Rattle.utf16_transcode.proofs.DecodesSteps.{Decodes-then}
@@ -32,7 +32,7 @@ pub units_of_text : (text : List ℕ) → flat_map utf32_units text ≡ text
 units_of_text text = flat_map_single (λ c. c) text ∙ map-id text
 
 -- a text at the start was written
-pub DecodesToUtf32-text : (big : Bool) (raw to : List ℕ) (n w : ℕ) → TranscodesPrefix (TranscodesToUtf32 big) raw to n w → DecodesToUtf32 big raw to n w
+pub DecodesToUtf32-text : (big : Bool) (raw to : List ℕ) (n w : ℕ) → Writes (TranscodesToUtf32 big) raw to n w → DecodesToUtf32 big raw to n w
 DecodesToUtf32-text big raw to n w wrote =
     let text = take w to in
     let whole = take-append-drop n raw in

@@ -4,13 +4,13 @@ use Rattle.std.proofs.Common.{◌≡◌, ℕ, ◌+◌, ◌-◌, List, length, le
 use Rattle.std.proofs.lemmas.List.{take_rest}
 use borrow.Rule.Slice.PartMut.{put_mid}
 use Rattle.utf16_units.proofs.IllFormedLemmas.{rest_from}
-use Rattle.utf16_transcode.specs.Transcoded.{Joins, TranscodesPrefix}
-use Rattle.utf16_transcode.proofs.TranscodedLemmas.{TranscodesPart-put, TranscodesPrefix-then}
+use Rattle.utf16_transcode.specs.Transcoded.{Joins, Writes}
+use Rattle.utf16_transcode.proofs.TranscodedLemmas.{WritesAt-put, Writes-then}
 
-pub TranscodesPrefix-rest : {SameText : List ℕ → List ℕ → Type 0} → Joins SameText → (input old part : List ℕ) (read at n w : ℕ) → TranscodesPrefix SameText input old read at
-    → TranscodesPrefix SameText (rest_from input read) part n w → length part ≡ length old - at → TranscodesPrefix SameText input (put_mid at (length old - at) old part) (read + n) (at + w)
-TranscodesPrefix-rest joins input old part read at n w before rest long =
-    TranscodesPrefix-then joins input old _ read at n (at + w) before (TranscodesPart-put _ old part _ at n w before.fits long rest.within rest.gives refl rest.fits)
+pub Writes-rest : {SameText : List ℕ → List ℕ → Type 0} → Joins SameText → (input old part : List ℕ) (read at n w : ℕ) → Writes SameText input old read at
+    → Writes SameText (rest_from input read) part n w → length part ≡ length old - at → Writes SameText input (put_mid at (length old - at) old part) (read + n) (at + w)
+Writes-rest joins input old part read at n w before rest long =
+    Writes-then joins input old _ read at n (at + w) before (WritesAt-put _ old part _ at n w before.fits long rest.within rest.gives refl rest.fits)
 
 -- how much is left
 pub length-rest : (input : List ℕ) (read : ℕ) → length (rest_from input read) ≡ length input - read

@@ -4,17 +4,17 @@ use Rattle.utf16_units.specs.Encoding.{char_bytes, size}
 use Rattle.utf16_units.proofs.CharLemmas.{char_size_cases, length-char_bytes}
 use Rattle.utf16_units.proofs.EncodingLemmas.{length-encode}
 use Rattle.utf16_transcode.specs.Stops.{NextDoesNotFit}
-use Rattle.utf16_transcode.specs.Transcoded.{TranscodesPrefix}
+use Rattle.utf16_transcode.specs.Transcoded.{Writes}
 use Rattle.utf16_fixed.specs.Utf32.{TranscodesFromUtf32, TranscodesToUtf32, utf32_units}
 use Rattle.utf16_fixed.proofs.TextLemmas.{size-least, size-most}
 
 -- what was read of UTF-16 is the size of what was written
-pub read_size : (big : Bool) (raw to : List ℕ) (read written : ℕ) → TranscodesPrefix (TranscodesToUtf32 big) raw to read written → size (take written to) ≡ read
+pub read_size : (big : Bool) (raw to : List ℕ) (read written : ℕ) → Writes (TranscodesToUtf32 big) raw to read written → size (take written to) ≡ read
 read_size big raw to read written wrote =
     sym (length-encode big (take written to)) ∙ ap length wrote.gives.spelled ∙ length-take-le read raw wrote.within
 
 -- a code unit for every two bytes suffices
-pub to_utf32_fits : (big : Bool) (raw to : List ℕ) (read written : ℕ) → TranscodesPrefix (TranscodesToUtf32 big) raw to read written
+pub to_utf32_fits : (big : Bool) (raw to : List ℕ) (read written : ℕ) → Writes (TranscodesToUtf32 big) raw to read written
     → NextDoesNotFit (char_bytes big) utf32_units (drop read raw) (length to - written) → length raw / 2 ≤ length to → ⊥
 to_utf32_fits big raw to read written wrote next room =
     let left = sym (length-drop read raw) ∙ ap length next.begins ∙ length-append (char_bytes big next.char) next.more in
@@ -31,12 +31,12 @@ to_utf32_fits big raw to read written wrote next room =
     )
 
 -- what was written in UTF-16 is the size of what was read
-pub written_size : (big : Bool) (units to : List ℕ) (read written : ℕ) → TranscodesPrefix (TranscodesFromUtf32 big) units to read written → size (take read units) ≡ written
+pub written_size : (big : Bool) (units to : List ℕ) (read written : ℕ) → Writes (TranscodesFromUtf32 big) units to read written → size (take read units) ≡ written
 written_size big units to read written wrote =
     sym (length-encode big (take read units)) ∙ ap length wrote.gives.spelled ∙ length-take-le written to wrote.fits
 
 -- four bytes for every code unit suffice
-pub from_utf32_fits : (big : Bool) (units to : List ℕ) (read written : ℕ) → TranscodesPrefix (TranscodesFromUtf32 big) units to read written
+pub from_utf32_fits : (big : Bool) (units to : List ℕ) (read written : ℕ) → Writes (TranscodesFromUtf32 big) units to read written
     → NextDoesNotFit utf32_units (char_bytes big) (drop read units) (length to - written) → 4 * length units ≤ length to → ⊥
 from_utf32_fits big units to read written wrote next room =
     omega (

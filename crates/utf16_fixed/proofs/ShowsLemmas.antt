@@ -10,15 +10,15 @@ use Rattle.utf16_units.specs.Unit.{unit_bytes}
 use Rattle.utf16_units.proofs.CharLemmas.{char_size_cases, length-char_bytes, one_unit_bytes}
 use Rattle.utf16_units.proofs.EncodingLemmas.{encode-append, encode-nil, encode-one, length-encode}
 use Rattle.utf16_transcode.specs.Stops.{StopsLossyWhole, TextDoesNotFit}
-use Rattle.utf16_transcode.specs.Transcoded.{Joins, TranscodesPrefix}
+use Rattle.utf16_transcode.specs.Transcoded.{Joins, Writes}
 use Rattle.utf16_units.proofs.IllFormedLemmas.{rest_from}
 use Rattle.utf16_transcode.proofs.StreamSteps.{rest_after}
-use Rattle.utf16_transcode.proofs.TranscodedLemmas.{TranscodesPrefix-then, put_end-long}
+use Rattle.utf16_transcode.proofs.TranscodedLemmas.{Writes-then, put_end-long}
 use Rattle.utf16_transcode.specs.declared.progress.Stop.{Stop}
 use Rattle.utf16_transcode.specs.declared.progress.Stop.TheVariants.{Incomplete, Done, IllFormed, NoSpace}
 use Rattle.utf16_fixed.specs.Stops32.{IsIllFormedUtf32, StopsFromUtf32}
 use Rattle.utf16_fixed.specs.Utf32.{IsUtf32, ShowsInUtf16, TranscodesFromUtf32, lossy_unit, lossy_utf32}
-use Rattle.utf16_fixed.proofs.PartLemmas.{TranscodesPrefix-rest}
+use Rattle.utf16_fixed.proofs.PartLemmas.{Writes-rest}
 use Rattle.utf16_fixed.proofs.ValidLemmas.{other_after}
 use Rattle.utf16_fixed.proofs.TextLemmas.{size-most}
 
@@ -45,7 +45,7 @@ pub shown_empty : (big : Bool) → ShowsInUtf16 big [] []
 shown_empty big = sym (encode-nil big)
 
 -- a text was written
-pub shown_text : (big : Bool) (units to : List ℕ) (n w : ℕ) → TranscodesPrefix (TranscodesFromUtf32 big) units to n w → TranscodesPrefix (ShowsInUtf16 big) units to n w
+pub shown_text : (big : Bool) (units to : List ℕ) (n w : ℕ) → Writes (TranscodesFromUtf32 big) units to n w → Writes (ShowsInUtf16 big) units to n w
 shown_text big units to n w wrote = record {
   within = wrote.within;
   fits = wrote.fits;
@@ -83,7 +83,7 @@ stops_lossy_from_utf32 big units n left NoSpace other here = record {
 }
 
 -- four bytes for every code unit suffice
-pub from_utf32_lossy_fits : (big : Bool) (units to : List ℕ) (read written : ℕ) (stop : Stop) → TranscodesPrefix (ShowsInUtf16 big) units to read written
+pub from_utf32_lossy_fits : (big : Bool) (units to : List ℕ) (read written : ℕ) (stop : Stop) → Writes (ShowsInUtf16 big) units to read written
     → StopsLossyWhole lossy_utf32 (char_bytes big) (drop read units) (length to - written) stop → 4 * length units ≤ length to → stop ≡ Done
 from_utf32_lossy_fits big units to read written Done wrote here room = refl
 from_utf32_lossy_fits big units to read written (IllFormed len) wrote here room = absurd here
@@ -104,14 +104,14 @@ from_utf32_lossy_fits big units to read written NoSpace wrote here room =
     ))
 
 -- a call on the rest of the code units and of the buffer
-module _ (big : Bool) (units old part : List ℕ) (read at n w : ℕ) (before : TranscodesPrefix (ShowsInUtf16 big) units old read at)
-    (front : TranscodesPrefix (TranscodesFromUtf32 big) (rest_from units read) part n w) (long : length part ≡ length old - at) where
+module _ (big : Bool) (units old part : List ℕ) (read at n w : ℕ) (before : Writes (ShowsInUtf16 big) units old read at)
+    (front : Writes (TranscodesFromUtf32 big) (rest_from units read) part n w) (long : length part ≡ length old - at) where
   abbrev new : List ℕ
   new = put_mid at (length old - at) old part
 
   -- its text was written
-  pub shown_rest : TranscodesPrefix (ShowsInUtf16 big) units new (read + n) (at + w)
-  shown_rest = TranscodesPrefix-rest (shown_joins big) units old part read at n w before (shown_text big (rest_from units read) part n w front) long
+  pub shown_rest : Writes (ShowsInUtf16 big) units new (read + n) (at + w)
+  shown_rest = Writes-rest (shown_joins big) units old part read at n w before (shown_text big (rest_from units read) part n w front) long
 
   -- why it stopped, if not at an ill-formed code unit
   pub stops_shown : (stop : Stop) → ((len : ℕ) → ¬ (stop ≡ IllFormed len)) → StopsFromUtf32 big (rest_from units read) n (length part - w) stop
@@ -133,10 +133,10 @@ module _ (big : Bool) (units old part : List ℕ) (read at n w : ℕ) (before : 
 
     -- or it was appended
     pub shown_marked : (marked : List ℕ) (end : ℕ) → end ≤ length marked → take end marked ≡ take (at + w) new ++ unit_bytes big 0xFFFD
-        → TranscodesPrefix (ShowsInUtf16 big) units marked (read + n + 1) end
+        → Writes (ShowsInUtf16 big) units marked (read + n + 1) end
     shown_marked marked end room bytes =
         let next = other_after units read n len found in
-        TranscodesPrefix-then (shown_joins big) units new marked (read + n) (at + w) 1 end shown_rest
+        Writes-then (shown_joins big) units new marked (read + n) (at + w) 1 end shown_rest
         (record {
           within = omega (arith, next.0);
           fits = room;

@@ -7,7 +7,7 @@ ghost use Rattle.std.specs.Prelude.{◌≡◌, ◌+◌, ◌^◌, ◌<◌, ◌≤
 ghost use Rattle.std.specs.Char.{IsScalar};
 ghost use Rattle.std.specs.Simd.Lanes.{chunk, mask_l};
 ghost use Rattle.utf16_units.specs.Encoding.{encode};
-ghost use Rattle.utf16_transcode.specs.Transcoded.{TranscodesPrefix};
+ghost use Rattle.utf16_transcode.specs.Transcoded.{Writes};
 ghost use Rattle.utf16_fixed.specs.Pairs.{char_lane, halved, kept_lane};
 ghost use Rattle.utf16_fixed.specs.Utf32.{TranscodesFromUtf32, above};
 
@@ -25,8 +25,8 @@ const PLAIN_BLOCKS: usize = 4;
 // character of two code units.
 #[inline(always)]
 pub(crate) fn write_char_blocks<E: Utf16Order>(utf32: &[u32], to: &mut [u8], from: Moved) -> Moved
-    requires { TranscodesPrefix (TranscodesFromUtf32 E.BIG) utf32.now to.old from.read from.written }
-    ensures wrote { TranscodesPrefix (TranscodesFromUtf32 E.BIG) utf32.now to.new result.read result.written }
+    requires { Writes (TranscodesFromUtf32 E.BIG) utf32.now to.old from.read from.written }
+    ensures wrote { Writes (TranscodesFromUtf32 E.BIG) utf32.now to.new result.read result.written }
     ensures after { from.read ≤ result.read }
 {
     let mut done = from;

@@ -7,7 +7,7 @@ ghost use Rattle.std.specs.Prelude.{◌≡◌, ◌≢◌, ◌-◌, ◌*◌, ◌/
 ghost use Rattle.utf16_units.specs.Encoding.{char_bytes};
 ghost use Rattle.utf16_units.specs.IllFormed.{IsIllFormedAt};
 ghost use Rattle.utf16_transcode.specs.Stops.{StopsHere};
-ghost use Rattle.utf16_transcode.specs.Transcoded.{TranscodesPart, TranscodesPrefix};
+ghost use Rattle.utf16_transcode.specs.Transcoded.{WritesAt, Writes};
 ghost use Rattle.utf16_transcode.specs.declared.progress.Stop.TheVariants.{NoSpace};
 ghost use Rattle.utf16_fixed.specs.Stops32.{StopsToUtf32};
 ghost use Rattle.utf16_fixed.specs.Utf32.{TranscodesToUtf32, utf32_units};
@@ -29,7 +29,7 @@ use utf16_units::{Moved, Utf16Order, first_char_len};
 ///
 /// Linear time in the number of bytes read.
 pub fn to_utf32<E: Utf16Order>(raw: &[u8], to: &mut [u32]) -> Progress
-    ensures wrote { TranscodesPrefix (TranscodesToUtf32 E.BIG) raw.now to.new result.read result.written }
+    ensures wrote { Writes (TranscodesToUtf32 E.BIG) raw.now to.new result.read result.written }
     ensures stop { StopsToUtf32 E.BIG raw.now result.read (length to.new - result.written)
         result.stop }
     ensures succeeds { length raw.now / 2 ≤ length to.new → result.stop ≢ NoSpace }
@@ -70,8 +70,8 @@ pub fn to_utf32<E: Utf16Order>(raw: &[u8], to: &mut [u32]) -> Progress
 // surrogate. A pair among other code units is written by itself, and takes less time so.
 #[inline(always)]
 fn write_run<E: Utf16Order>(raw: &[u8], to: &mut [u32], from: Moved) -> Moved
-    requires { TranscodesPrefix (TranscodesToUtf32 E.BIG) raw.now to.old from.read from.written }
-    ensures wrote { TranscodesPrefix (TranscodesToUtf32 E.BIG) raw.now to.new result.read result.written }
+    requires { Writes (TranscodesToUtf32 E.BIG) raw.now to.old from.read from.written }
+    ensures wrote { Writes (TranscodesToUtf32 E.BIG) raw.now to.new result.read result.written }
     ensures after { from.read ≤ result.read }
 {
     if raw.len() - from.read >= 2 && is_surrogate::<E>(&raw[from.read..]) {
@@ -92,8 +92,8 @@ fn is_surrogate<E: Utf16Order>(rest: &[u8]) -> bool
 // Writes blocks of eight surrogate pairs, up to another code unit in one.
 #[inline(always)]
 fn write_pair_blocks<E: Utf16Order>(raw: &[u8], to: &mut [u32], from: Moved) -> Moved
-    requires { TranscodesPrefix (TranscodesToUtf32 E.BIG) raw.now to.old from.read from.written }
-    ensures wrote { TranscodesPrefix (TranscodesToUtf32 E.BIG) raw.now to.new result.read result.written }
+    requires { Writes (TranscodesToUtf32 E.BIG) raw.now to.old from.read from.written }
+    ensures wrote { Writes (TranscodesToUtf32 E.BIG) raw.now to.new result.read result.written }
     ensures after { from.read ≤ result.read }
 {
     let Moved {
@@ -117,8 +117,8 @@ fn write_pair_blocks<E: Utf16Order>(raw: &[u8], to: &mut [u32], from: Moved) -> 
 // Writes the code units before the next surrogate, as far as they fit.
 #[inline(always)]
 fn write_plain<E: Utf16Order>(raw: &[u8], to: &mut [u32], from: Moved) -> Moved
-    requires { TranscodesPrefix (TranscodesToUtf32 E.BIG) raw.now to.old from.read from.written }
-    ensures wrote { TranscodesPrefix (TranscodesToUtf32 E.BIG) raw.now to.new result.read result.written }
+    requires { Writes (TranscodesToUtf32 E.BIG) raw.now to.old from.read from.written }
+    ensures wrote { Writes (TranscodesToUtf32 E.BIG) raw.now to.new result.read result.written }
     ensures after { from.read ≤ result.read }
 {
     let len = plain::write_plain::<E>(&raw[from.read..], &mut to[from.written..]);
@@ -134,7 +134,7 @@ fn write_next_char<E: Utf16Order>(rest: &[u8], to: &mut [u32], at: usize) -> Res
     requires not_empty { 0 < length rest.now }
     requires within { at ≤ length to.old }
     ensures wrote { IfOk result (λ next.
-        TranscodesPart (TranscodesToUtf32 E.BIG) rest.now to.old to.new at next.read next.written) }
+        WritesAt (TranscodesToUtf32 E.BIG) rest.now to.old to.new at next.read next.written) }
     ensures advances { IfOk result (λ next. 0 < next.read) }
     ensures stop { IfErr result (StopsHere (char_bytes E.BIG) utf32_units (IsIllFormedAt E.BIG)
         rest.now (length to.new - at)) }

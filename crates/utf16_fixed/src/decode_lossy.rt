@@ -3,7 +3,7 @@
 
 ghost use Rattle.std.specs.Prelude.{◌≡◌, ◌+◌, ◌-◌, ◌/◌, ◌≤◌, drop, length};
 ghost use Rattle.utf16_units.specs.Split.{lossy_text};
-ghost use Rattle.utf16_transcode.specs.WholeText.{WritesWholeText};
+ghost use Rattle.utf16_transcode.specs.WholeText.{WritesWhole};
 ghost use Rattle.utf16_transcode.specs.Stops.{StopsLossyWhole};
 ghost use Rattle.utf16_transcode.specs.declared.progress.Stop.TheVariants.{Done, NoSpace};
 ghost use Rattle.utf16_fixed.specs.Stops32.{DecodesToUtf32, StopsLossyToUtf32};
@@ -26,7 +26,7 @@ use utf16_units::{Utf16Order, validate_raw_utf16};
 ///
 /// Linear time in the number of bytes read.
 pub fn to_utf32_lossy<E: Utf16Order>(raw: &[u8], to: &mut [u32]) -> Progress
-    ensures shown { WritesWholeText (lossy_text E.BIG) utf32_units raw.now to.new result.read
+    ensures shown { WritesWhole (lossy_text E.BIG) utf32_units raw.now to.new result.read
         result.written }
     ensures stop { StopsLossyWhole (lossy_text E.BIG) utf32_units (drop result.read raw.now)
         (length to.new - result.written) result.stop }

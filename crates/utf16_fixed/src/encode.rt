@@ -6,7 +6,7 @@
 ghost use Rattle.std.specs.Prelude.{◌≡◌, ◌≢◌, ◌-◌, ◌*◌, ◌<◌, ◌≤◌, IfErr, IfOk, length};
 ghost use Rattle.utf16_units.specs.Encoding.{char_bytes};
 ghost use Rattle.utf16_transcode.specs.Stops.{StopsHere};
-ghost use Rattle.utf16_transcode.specs.Transcoded.{TranscodesPart, TranscodesPrefix};
+ghost use Rattle.utf16_transcode.specs.Transcoded.{WritesAt, Writes};
 ghost use Rattle.utf16_transcode.specs.declared.progress.Stop.TheVariants.{NoSpace};
 ghost use Rattle.utf16_fixed.specs.Stops32.{IsIllFormedUtf32At, StopsFromUtf32};
 ghost use Rattle.utf16_fixed.specs.Utf32.{TranscodesFromUtf32, utf32_units};
@@ -28,7 +28,7 @@ use utf16_units::{Moved, Utf16CharExt, Utf16Order};
 ///
 /// Linear time in the number of code units read.
 pub fn from_utf32<E: Utf16Order>(utf32: &[u32], to: &mut [u8]) -> Progress
-    ensures wrote { TranscodesPrefix (TranscodesFromUtf32 E.BIG) utf32.now to.new result.read result.written }
+    ensures wrote { Writes (TranscodesFromUtf32 E.BIG) utf32.now to.new result.read result.written }
     ensures stop { StopsFromUtf32 E.BIG utf32.now result.read (length to.new - result.written)
         result.stop }
     ensures succeeds { 4 * length utf32.now ≤ length to.new → result.stop ≢ NoSpace }
@@ -69,8 +69,8 @@ pub fn from_utf32<E: Utf16Order>(utf32: &[u32], to: &mut [u8]) -> Progress
 // code units follows.
 #[inline(always)]
 fn write_run<E: Utf16Order>(utf32: &[u32], to: &mut [u8], from: Moved) -> Moved
-    requires { TranscodesPrefix (TranscodesFromUtf32 E.BIG) utf32.now to.old from.read from.written }
-    ensures wrote { TranscodesPrefix (TranscodesFromUtf32 E.BIG) utf32.now to.new result.read result.written }
+    requires { Writes (TranscodesFromUtf32 E.BIG) utf32.now to.old from.read from.written }
+    ensures wrote { Writes (TranscodesFromUtf32 E.BIG) utf32.now to.new result.read result.written }
     ensures after { from.read ≤ result.read }
 {
     let basic = write_basic::<E>(utf32, to, from);
@@ -83,8 +83,8 @@ fn write_run<E: Utf16Order>(utf32: &[u32], to: &mut [u8], from: Moved) -> Moved
 // Writes characters of one UTF-16 code unit each, up to another one, as far as they fit.
 #[inline(always)]
 fn write_basic<E: Utf16Order>(utf32: &[u32], to: &mut [u8], from: Moved) -> Moved
-    requires { TranscodesPrefix (TranscodesFromUtf32 E.BIG) utf32.now to.old from.read from.written }
-    ensures wrote { TranscodesPrefix (TranscodesFromUtf32 E.BIG) utf32.now to.new result.read result.written }
+    requires { Writes (TranscodesFromUtf32 E.BIG) utf32.now to.old from.read from.written }
+    ensures wrote { Writes (TranscodesFromUtf32 E.BIG) utf32.now to.new result.read result.written }
     ensures after { from.read ≤ result.read }
 {
     let len = basic::write_basic::<E>(&utf32[from.read..], &mut to[from.written..]);
@@ -100,7 +100,7 @@ fn write_next_char<E: Utf16Order>(rest: &[u32], to: &mut [u8], at: usize) -> Res
     requires not_empty { 0 < length rest.now }
     requires within { at ≤ length to.old }
     ensures wrote { IfOk result (λ end.
-        TranscodesPart (TranscodesFromUtf32 E.BIG) rest.now to.old to.new at 1 end) }
+        WritesAt (TranscodesFromUtf32 E.BIG) rest.now to.old to.new at 1 end) }
     ensures stop { IfErr result (StopsHere utf32_units (char_bytes E.BIG) IsIllFormedUtf32At
         rest.now (length to.new - at)) }
     ensures unchanged { IfErr result (λ _. to.new ≡ to.old) }

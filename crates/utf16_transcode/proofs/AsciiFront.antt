@@ -9,7 +9,7 @@ use Rattle.std.specs.Str.{IsAscii, IsUtf8, chars}
 use Rattle.utf16_units.specs.Encoding.{encode, size}
 use Rattle.utf16_units.proofs.CharLemmas.{char_size_two}
 use Rattle.utf16_units.proofs.EncodingLemmas.{encode-append, length-encode, size-cons, size-nil}
-use Rattle.utf16_transcode.specs.Transcoded.{TranscodesPrefix}
+use Rattle.utf16_transcode.specs.Transcoded.{Writes}
 use Rattle.utf16_transcode.specs.FromUtf8.{TranscodesToUtf16}
 
 -- the same at any index
@@ -41,7 +41,7 @@ low-ascii (byte ∷ block) (suc i) = low-ascii block i
 
 -- if ASCII is written in UTF-16, a prefix of the ASCII is written at the start
 pub wrote-front : (big : Bool) (text low new : List ℕ) (n : ℕ) → n ≤ length text → take n low ≡ take n text → n ≤ length low → IsAscii low
-    → 2 * length low ≤ length new → take (2 * length low) new ≡ encode big (chars low) → TranscodesPrefix (TranscodesToUtf16 big) text new n (2 * n)
+    → 2 * length low ≤ length new → take (2 * length low) new ≡ encode big (chars low) → Writes (TranscodesToUtf16 big) text new n (2 * n)
 wrote-front big text low new n within same few ascii fits wrote =
     let front = take n low in
     let is = IsAscii-take low n ascii in

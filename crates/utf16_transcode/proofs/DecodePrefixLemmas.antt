@@ -6,7 +6,7 @@ use Rattle.std.specs.Char.{IsScalar, len_utf8}
 use Rattle.std.specs.Str.{IsCharBoundary, IsUtf8, chars}
 use Rattle.utf16_units.specs.Encoding.{IsUtf16, encode, size, text_of}
 use Rattle.utf16_units.proofs.EncodingLemmas.{All-before, IsUtf16-encode, all_scalars-from_All, encode-append, encode-text_of, length-encode, scalars-text_of, text_of-encode}
-use Rattle.utf16_transcode.specs.Transcoded.{TranscodesToUtf8, TranscodesPrefix}
+use Rattle.utf16_transcode.specs.Transcoded.{TranscodesToUtf8, Writes}
 
 -- the UTF-8 that was written is well formed
 pub utf8_given : (big : Bool) (raw utf8 : List ℕ) → TranscodesToUtf8 big raw utf8 → IsUtf8 utf8
@@ -30,7 +30,7 @@ module _ (utf8 : List ℕ) (end room : ℕ) (valid : IsUtf8 utf8) (at : IsCharBo
 
 -- the UTF-16 of the characters before a boundary of the UTF-8
 pub prefix_to_utf8 : (big : Bool) (raw utf8 : List ℕ) (end : ℕ) → TranscodesToUtf8 big raw utf8 → IsCharBoundary utf8 end
-    → TranscodesPrefix (TranscodesToUtf8 big) raw utf8 (size (chars (take end utf8))) end
+    → Writes (TranscodesToUtf8 big) raw utf8 (size (chars (take end utf8))) end
 prefix_to_utf8 big raw utf8 end gives at =
     let text = text_of big raw in
     let scalars = scalars-text_of big raw gives.0 in

@@ -10,7 +10,7 @@ use Rattle.utf16_units.specs.Encoding.{char_bytes}
 use Rattle.utf8_bytes.specs.Split.{AreItems, IsItem, IsSubpart, Item, good, ill, item_bytes, items_bytes, lossy_char, lossy_chars, split_items, split_tail}
 use Rattle.utf8_bytes.proofs.PartLemmas.{subpart_len}
 use Rattle.utf8_bytes.proofs.SplitLemmas.{Split-computed}
-use Rattle.utf16_transcode.specs.WholeText.{WritesWholeText}
+use Rattle.utf16_transcode.specs.WholeText.{WritesWhole}
 use Rattle.utf16_transcode.specs.Stops.{StopsLossyWhole}
 use Rattle.utf16_transcode.specs.declared.progress.Stop.{Stop}
 use Rattle.utf16_transcode.specs.declared.progress.Stop.TheVariants.{Incomplete, Done, IllFormed, NoSpace}
@@ -67,7 +67,7 @@ between big utf8 to read written d =
     ∙ ap (flat_map (char_bytes big)) (sym (items_shown taken (split_items rest) (split_tail utf8) made) ∙ ap text_of_utf8 (sym front))
 
 -- the same for a lossy call, which stopped at the end or for lack of space
-pub between-lossy : (big : Bool) (utf8 to : List ℕ) (read written left : ℕ) (stop : Stop) → WritesWholeText text_of_utf8 (char_bytes big) utf8 to read written
+pub between-lossy : (big : Bool) (utf8 to : List ℕ) (read written left : ℕ) (stop : Stop) → WritesWhole text_of_utf8 (char_bytes big) utf8 to read written
     → StopsLossyWhole text_of_utf8 (char_bytes big) (drop read utf8) left stop → (stop ≡ NoSpace → DecodesUtf8To big utf8 to read written)
     → take written to ≡ flat_map (char_bytes big) (text_of_utf8 (take read utf8))
 between-lossy big utf8 to read written left Done shows here full =

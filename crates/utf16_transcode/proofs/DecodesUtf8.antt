@@ -17,7 +17,7 @@ use Rattle.utf8_bytes.proofs.TextLemmas.{lossy_chars-good, split_items-text, spl
 use Rattle.utf8_bytes.proofs.ValidLemmas.{none_at}
 use Rattle.utf16_transcode.specs.Decodes.{DecodesAs}
 use Rattle.utf16_transcode.specs.Stops.{TextDoesNotFit}
-use Rattle.utf16_transcode.specs.Transcoded.{TranscodesPrefix}
+use Rattle.utf16_transcode.specs.Transcoded.{Writes}
 use Rattle.utf16_transcode.specs.declared.progress.Stop.{Stop}
 use Rattle.utf16_transcode.specs.declared.progress.Stop.TheVariants.{Incomplete, Done, IllFormed, NoSpace}
 use Rattle.utf16_transcode.proofs.DecodesSteps.{Decodes-none, Decodes-then}
@@ -59,7 +59,7 @@ DecodesUtf8To-none big utf8 to = record {
 }
 
 -- a text, whose characters are written
-pub DecodesUtf8To-text : (big : Bool) (utf8 to : List ℕ) (n w : ℕ) → TranscodesPrefix (TranscodesToUtf16 big) utf8 to n w → DecodesUtf8To big utf8 to n w
+pub DecodesUtf8To-text : (big : Bool) (utf8 to : List ℕ) (n w : ℕ) → Writes (TranscodesToUtf16 big) utf8 to n w → DecodesUtf8To big utf8 to n w
 DecodesUtf8To-text big utf8 to n w wrote =
     let front = take n utf8 in
     let whole = take-append-drop n utf8 in

@@ -13,7 +13,7 @@ use Rattle.utf16_units.proofs.BackChar.{boundary_is}
 use Rattle.utf16_units.proofs.BoundaryLemmas.{Encodes-to, IsBoundary-start, IsBoundary-within, text_to-front}
 use Rattle.utf16_units.proofs.CharLemmas.{char_size_cases}
 use Rattle.utf16_units.proofs.EncodingLemmas.{All-before, All-from_all_scalars, all_scalars-from_All, length-encode, length-text, size-cons, size-nil, text_of-Encodes}
-use Rattle.utf16_transcode.specs.Transcoded.{TranscodesPrefix}
+use Rattle.utf16_transcode.specs.Transcoded.{Writes}
 use Rattle.utf16_transcode.specs.FromUtf8.{TranscodesToUtf16}
 
 -- a boundary after one more character
@@ -76,7 +76,7 @@ encoded big utf8 raw gives =
 
 -- the UTF-8 of the characters before a boundary of the UTF-16
 pub prefix_to_utf16 : (big : Bool) (utf8 raw : List ℕ) (end : ℕ) → TranscodesToUtf16 big utf8 raw → IsBoundary (chars utf8) end
-    → TranscodesPrefix (TranscodesToUtf16 big) utf8 raw (length (utf8_of big (take end raw))) end
+    → Writes (TranscodesToUtf16 big) utf8 raw (length (utf8_of big (take end raw))) end
 prefix_to_utf16 big utf8 raw end gives at =
     let text = chars utf8 in
     let all = encoded big utf8 raw gives in
@@ -99,7 +99,7 @@ prefix_to_utf16 big utf8 raw end gives at =
     }
 
 -- where a prefix of the text ends, the UTF-16 has a boundary
-pub boundary_of : (big : Bool) (utf8 raw : List ℕ) (read end : ℕ) → TranscodesToUtf16 big utf8 raw → TranscodesPrefix (TranscodesToUtf16 big) utf8 raw read end
+pub boundary_of : (big : Bool) (utf8 raw : List ℕ) (read end : ℕ) → TranscodesToUtf16 big utf8 raw → Writes (TranscodesToUtf16 big) utf8 raw read end
     → IsBoundary (chars utf8) end
 boundary_of big utf8 raw read end gives wrote =
     let front = take read utf8 in

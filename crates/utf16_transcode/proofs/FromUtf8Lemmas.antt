@@ -12,7 +12,7 @@ use lib.Utf8.{low_scalar}
 use Rattle.utf16_units.proofs.Utf8Lemmas.{one_byte}
 use Rattle.utf16_from_utf8.specs.Written.{IsWritten}
 use Rattle.utf16_transcode.specs.FromUtf8.{TranscodesToUtf16, IsIllFormedUtf8, IsIllFormedUtf8At}
-use Rattle.utf16_transcode.specs.Transcoded.{SameText, Joins, TranscodesPrefix}
+use Rattle.utf16_transcode.specs.Transcoded.{SameText, Joins, Writes}
 
 pub room_grows : (m n : ℕ) → m ≤ n → 2 * m + 16 ≤ 2 * n + 16
 room_grows m n le = omega arith
@@ -36,8 +36,8 @@ pub char_gives : (big : Bool) (c : ℕ) → IsScalar c → SameText IsUtf8 (λ t
 char_gives big c scalar = (IsUtf8-encode c scalar, sym (ap (encode big) (chars-char c scalar) ∙ encode-one big c))
 
 -- one more byte, which is ASCII
-pub ascii-more : (big : Bool) (bytes old new : List ℕ) (read written to : ℕ) → TranscodesPrefix (TranscodesToUtf16 big) bytes old read written → read < length bytes → slice_index bytes read < 0x80
-    → to ≤ length new → take to new ≡ take written old ++ char_bytes big (slice_index bytes read) → TranscodesPrefix (TranscodesToUtf16 big) bytes new (read + 1) to
+pub ascii-more : (big : Bool) (bytes old new : List ℕ) (read written to : ℕ) → Writes (TranscodesToUtf16 big) bytes old read written → read < length bytes → slice_index bytes read < 0x80
+    → to ≤ length new → take to new ≡ take written old ++ char_bytes big (slice_index bytes read) → Writes (TranscodesToUtf16 big) bytes new (read + 1) to
 ascii-more big bytes old new read written to done more low fits wrote =
     let byte = slice_index bytes read in
     let one : encode_utf8 byte ≡ byte ∷ [] = one_byte byte low in
@@ -102,5 +102,5 @@ valid_more text valid n first second =
     subst IsUtf8 (sym (take-add valid n text)) (IsUtf8-append (take valid text) (take n (drop valid text)) first (subst (λ r. IsUtf8 (take n r)) (take_rest text valid) second))
 
 -- what a writer of blocks wrote
-pub wrote_blocks : {big : Bool} {utf8 to : List ℕ} {n w : ℕ} → IsWritten big utf8 to n w → TranscodesPrefix (TranscodesToUtf16 big) utf8 to n w
+pub wrote_blocks : {big : Bool} {utf8 to : List ℕ} {n w : ℕ} → IsWritten big utf8 to n w → Writes (TranscodesToUtf16 big) utf8 to n w
 wrote_blocks wrote = record { within = wrote.within; fits = wrote.fits; gives = (wrote.well_formed, wrote.wrote) }

@@ -14,7 +14,7 @@ use Rattle.utf16_units.proofs.EncodingLemmas.{IsUtf16-from_Encodes, IsUtf16-rest
 use Rattle.utf16_units.proofs.FirstChar.{first_unit}
 use Rattle.utf16_units.proofs.SizeLemmas.{size-le}
 use Rattle.utf16_units.proofs.UnitsUpTo.{length-units_of, units_of-front}
-use Rattle.utf16_transcode.specs.Transcoded.{TranscodesToUtf8, TranscodesPrefix}
+use Rattle.utf16_transcode.specs.Transcoded.{TranscodesToUtf8, Writes}
 use Rattle.utf16_transcode.proofs.AsciiLemmas.{ascii_bytes-utf8}
 use Rattle.utf16_transcode.proofs.DecodePrefixLemmas.{utf8_given}
 
@@ -39,7 +39,7 @@ front_text big front (x ∷ y ∷ more) even ascii text =
     subst (IsUtf16 big) (take_at front rest at refl) (IsUtf16-from_Encodes big _ _ (Encodes-to big cs (front ++ rest) at text.encodes boundary))
 
 -- a text has no more than half as many units as its UTF-8 has bytes
-pub written_half : (big : Bool) (raw to : List ℕ) (read written : ℕ) → TranscodesPrefix (TranscodesToUtf8 big) raw to read written → read ≤ 2 * written
+pub written_half : (big : Bool) (raw to : List ℕ) (read written : ℕ) → Writes (TranscodesToUtf8 big) raw to read written → read ≤ 2 * written
 written_half big raw to read written before =
     let front = take read raw in
     let utf8 = take written to in
@@ -48,7 +48,7 @@ written_half big raw to read written before =
     omega (arith, ap size same, size-le utf8 (utf8_given big front utf8 gives), length-text big front gives.0, length-take-le read raw before.within, length-take-le written to before.fits)
 
 -- where what was read ends in ASCII, as many bytes as that has units are taken back
-module _ (big : Bool) (raw to : List ℕ) (read written start m : ℕ) (before : TranscodesPrefix (TranscodesToUtf8 big) raw to read written) (first : start ≤ read) (even : start % 2 ≡ 0)
+module _ (big : Bool) (raw to : List ℕ) (read written start m : ℕ) (before : Writes (TranscodesToUtf8 big) raw to read written) (first : start ≤ read) (even : start % 2 ≡ 0)
     (last : read ≤ start + m) (ascii : All is_ascii (units_of big (take m (drop start raw)))) where
   abbrev n : ℕ
   n = read - start
@@ -99,7 +99,7 @@ module _ (big : Bool) (raw to : List ℕ) (read written start m : ℕ) (before :
     length-take-le written to before.fits,
   )
 
-  pub taken_back : (end : ℕ) → end + (read - start) / 2 ≡ written → TranscodesPrefix (TranscodesToUtf8 big) raw to start end
+  pub taken_back : (end : ℕ) → end + (read - start) / 2 ≡ written → Writes (TranscodesToUtf8 big) raw to start end
   taken_back end is =
       let k = length (utf8_of big front) in
       let same : end ≡ k = omega (arith, sum, is) in

@@ -5,15 +5,15 @@ use Rattle.std.proofs.lemmas.Bool.{cases_lt}
 use Rattle.std.proofs.lemmas.List.{take-append-le, take_rest}
 use Rattle.std.specs.Char.{IsScalar}
 use Rattle.utf16_units.proofs.IllFormedLemmas.{rest_from, take-past}
-use Rattle.utf16_transcode.specs.Transcoded.{Joins, TranscodesPart, TranscodesPrefix}
+use Rattle.utf16_transcode.specs.Transcoded.{Joins, WritesAt, Writes}
 use Rattle.utf16_transcode.specs.Stops.{BeginsWith, NextDoesNotFit, Stops, StopsHere}
 use Rattle.utf16_transcode.specs.declared.progress.Stop.{Stop}
 use Rattle.utf16_transcode.specs.declared.progress.Stop.TheVariants.{Incomplete, Done, IllFormed, NoSpace}
 
 -- one more chunk appended to what was written
-pub TranscodesPrefix-then : {SameText : List ℕ → List ℕ → Type 0} → Joins SameText → (input old new : List ℕ) (read at len last : ℕ) → TranscodesPrefix SameText input old read at
-    → TranscodesPart SameText (rest_from input read) old new at len last → TranscodesPrefix SameText input new (read + len) last
-TranscodesPrefix-then {SameText} joins input old new read at len last before piece =
+pub Writes-then : {SameText : List ℕ → List ℕ → Type 0} → Joins SameText → (input old new : List ℕ) (read at len last : ℕ) → Writes SameText input old read at
+    → WritesAt SameText (rest_from input read) old new at len last → Writes SameText input new (read + len) last
+Writes-then {SameText} joins input old new read at len last before piece =
     let rest : rest_from input read ≡ drop read input = take_rest input read in
     let long = ap length rest ∙ length-drop read input in
     let within = before.within in
@@ -28,13 +28,13 @@ TranscodesPrefix-then {SameText} joins input old new read at len last before pie
     }
 
 -- nothing was read
-pub TranscodesPrefix-none : {SameText : List ℕ → List ℕ → Type 0} → SameText [] [] → (input to : List ℕ) → TranscodesPrefix SameText input to 0 0
-TranscodesPrefix-none empty input to = record { within = omega arith; fits = omega arith; gives = empty }
+pub Writes-none : {SameText : List ℕ → List ℕ → Type 0} → SameText [] [] → (input to : List ℕ) → Writes SameText input to 0 0
+Writes-none empty input to = record { within = omega arith; fits = omega arith; gives = empty }
 
 -- nothing was written
-pub TranscodesPart-none : {SameText : List ℕ → List ℕ → Type 0} → SameText [] [] → (rest old new : List ℕ) (at : ℕ) → at ≤ length old → new ≡ old
-    → TranscodesPart SameText rest old new at 0 at
-TranscodesPart-none empty rest old new at within kept = record {
+pub WritesAt-none : {SameText : List ℕ → List ℕ → Type 0} → SameText [] [] → (rest old new : List ℕ) (at : ℕ) → at ≤ length old → new ≡ old
+    → WritesAt SameText rest old new at 0 at
+WritesAt-none empty rest old new at within kept = record {
   within = omega arith;
   fits = omega (arith, ap length kept);
   added = [];
@@ -43,9 +43,9 @@ TranscodesPart-none empty rest old new at within kept = record {
 }
 
 -- one more chunk after others
-pub TranscodesPart-then : {SameText : List ℕ → List ℕ → Type 0} → Joins SameText → (rest old mid new : List ℕ) (at read end len last : ℕ) → TranscodesPart SameText rest old mid at read end
-    → TranscodesPart SameText (rest_from rest read) mid new end len last → TranscodesPart SameText rest old new at (read + len) last
-TranscodesPart-then {SameText} joins rest old mid new at read end len last before piece =
+pub WritesAt-then : {SameText : List ℕ → List ℕ → Type 0} → Joins SameText → (rest old mid new : List ℕ) (at read end len last : ℕ) → WritesAt SameText rest old mid at read end
+    → WritesAt SameText (rest_from rest read) mid new end len last → WritesAt SameText rest old new at (read + len) last
+WritesAt-then {SameText} joins rest old mid new at read end len last before piece =
     let behind : rest_from rest read ≡ drop read rest = take_rest rest read in
     let long = ap length behind ∙ length-drop read rest in
     let within = before.within in
@@ -117,10 +117,10 @@ enough n bytes front is long = ⊎_elim
     (cases_lt (length bytes) n)
 
 -- a chunk was written directly to its place
-pub TranscodesPart-put : {SameText : List ℕ → List ℕ → Type 0} (rest old part added : List ℕ) (at len n : ℕ) → at ≤ length old
+pub WritesAt-put : {SameText : List ℕ → List ℕ → Type 0} (rest old part added : List ℕ) (at len n : ℕ) → at ≤ length old
     → length part ≡ length old - at → len ≤ length rest → SameText (take len rest) added → take n part ≡ added → n ≤ length part
-    → TranscodesPart SameText rest old (put_mid at (length old - at) old part) at len (at + n)
-TranscodesPart-put rest old part added at len n within long few gives is room =
+    → WritesAt SameText rest old (put_mid at (length old - at) old part) at len (at + n)
+WritesAt-put rest old part added at len n within long few gives is room =
     let all = length-append (take at old) (part ++ drop (length old - at) (drop at old)) in
     let both = length-append part (drop (length old - at) (drop at old)) in
     let front = length-take-le at old within in

@@ -5,7 +5,7 @@ use Rattle.std.proofs.lemmas.List.Concat.{flat_map-append}
 use Rattle.std.specs.List.{flat_map}
 use Rattle.utf16_transcode.specs.Decodes.{DecodesAs}
 use Rattle.utf16_transcode.specs.Decomposition.{Decomposition, IsSplitInChunks, decided}
-use Rattle.utf16_transcode.specs.WholeText.{WritesWholeText}
+use Rattle.utf16_transcode.specs.WholeText.{WritesWhole}
 use Rattle.utf16_transcode.specs.Stops.{StopsLossyAs, StopsLossyWhole, TextDoesNotFit}
 use Rattle.utf16_transcode.specs.Transcoded.{DecodesAsTo}
 use Rattle.utf16_transcode.specs.declared.progress.Stop.{Stop}
@@ -31,13 +31,13 @@ module _ (parts : Decomposition) (into : ℕ → List ℕ) (split : IsSplitInChu
     abbrev rest : List ℕ
     rest = drop read input
 
-    pub WritesWholeText-decoded : WritesWholeText parts.whole into input to read written
-    WritesWholeText-decoded = record { within = d.within; fits = d.fits; shown = whole_text input rest (take written to) d.decodes }
+    pub WritesWhole-decoded : WritesWhole parts.whole into input to read written
+    WritesWhole-decoded = record { within = d.within; fits = d.fits; shown = whole_text input rest (take written to) d.decodes }
 
     -- the replacement of the tail was appended
-    pub WritesWholeText-end : (next : List ℕ) (last : ℕ) → parts.tail rest ≡ rest → last ≤ length next
-        → take last next ≡ take written to ++ flat_map into (parts.at_end rest) → WritesWholeText parts.whole into input next (length input) last
-    WritesWholeText-end next last same room bytes = record {
+    pub WritesWhole-end : (next : List ℕ) (last : ℕ) → parts.tail rest ≡ rest → last ≤ length next
+        → take last next ≡ take written to ++ flat_map into (parts.at_end rest) → WritesWhole parts.whole into input next (length input) last
+    WritesWhole-end next last same room bytes = record {
       within = omega arith;
       fits = room;
       shown =

@@ -18,14 +18,14 @@ abbrev pub TranscodesToUtf8 : Bool → List ℕ → List ℕ → Type 0
 TranscodesToUtf8 big raw utf8 = IsUtf16 big raw × (utf8 ≡ encode_utf8_all (text_of big raw))
 
 -- the first bytes of the input were read, and their output is at the start of the buffer
-pub record TranscodesPrefix (SameText : List ℕ → List ℕ → Type 0) (input to : List ℕ) (read written : ℕ) : Type 0 where
+pub record Writes (SameText : List ℕ → List ℕ → Type 0) (input to : List ℕ) (read written : ℕ) : Type 0 where
   pub within : read ≤ length input
   pub fits : written ≤ length to
   pub gives : SameText (take read input) (take written to)
 
 -- some bytes of the rest were read, and their output was written at an offset of the buffer; it
 -- ends at `last`
-pub record TranscodesPart (SameText : List ℕ → List ℕ → Type 0) (rest old new : List ℕ) (at len last : ℕ) : Type 0 where
+pub record WritesAt (SameText : List ℕ → List ℕ → Type 0) (rest old new : List ℕ) (at len last : ℕ) : Type 0 where
   pub within : len ≤ length rest
   pub fits : last ≤ length new
   pub added : List ℕ

@@ -5,7 +5,7 @@ use Rattle.std.specs.List.{flat_map}
 
 -- the first bytes of the input were read, and what was written is a prefix of the bytes of the
 -- whole text; the bytes of the rest's whole text follow it
-pub record WritesWholeText (text : List ℕ → List ℕ) (into : ℕ → List ℕ) (input to : List ℕ) (read written : ℕ) : Type 0 where
+pub record WritesWhole (text : List ℕ → List ℕ) (into : ℕ → List ℕ) (input to : List ℕ) (read written : ℕ) : Type 0 where
   pub within : read ≤ length input
   pub fits : written ≤ length to
   pub shown : flat_map into (text input) ≡ take written to ++ flat_map into (text (drop read input))

@@ -10,7 +10,7 @@ ghost use Rattle.std.specs.Char.{encode_utf8, len_utf8};
 ghost use Rattle.utf16_units.specs.Encoding.{char_bytes, IsUtf16, units_of, utf8_of};
 ghost use Rattle.utf16_units.specs.IllFormed.{IsIllFormedAt};
 ghost use Rattle.utf16_units.specs.Unit.{unit_of};
-ghost use Rattle.utf16_transcode.specs.Transcoded.{TranscodesPart, TranscodesToUtf8, TranscodesPrefix};
+ghost use Rattle.utf16_transcode.specs.Transcoded.{WritesAt, TranscodesToUtf8, Writes};
 ghost use Rattle.utf16_transcode.specs.Stops.{BeginsWith, IsIllFormedUtf16, StopsDecoding};
 
 use crate::direction::Direction;
@@ -31,7 +31,7 @@ use utf16_units::{Moved, Utf16Order, first_char_len, utf16_len, validate_raw_utf
 /// Linear time in the number of bytes read.
 #[inline(always)]
 pub fn to_utf8<E: Utf16Order>(raw: &[u8], to: &mut [u8]) -> Progress
-    ensures wrote { TranscodesPrefix (TranscodesToUtf8 E.BIG) raw.now to.new result.read result.written }
+    ensures wrote { Writes (TranscodesToUtf8 E.BIG) raw.now to.new result.read result.written }
     ensures stop { StopsDecoding E.BIG raw.now result.read (length to.new - result.written)
         result.stop }
 {
@@ -114,7 +114,7 @@ impl<E: Utf16Order> Direction for ToUtf8<E> {
 // Writes the ASCII at the start of a short input of eight code units or more.
 #[inline(always)]
 fn write_ascii_start<E: Utf16Order>(raw: &[u8], to: &mut [u8]) -> Moved
-    ensures wrote { TranscodesPrefix (TranscodesToUtf8 E.BIG) raw.now to.new result.read result.written }
+    ensures wrote { Writes (TranscodesToUtf8 E.BIG) raw.now to.new result.read result.written }
     ensures short { length raw.now < 16 → (result.read ≡ 0) × (result.written ≡ 0) }
 {
     let nothing = Moved {
@@ -134,8 +134,8 @@ fn write_ascii_start<E: Utf16Order>(raw: &[u8], to: &mut [u8]) -> Moved
 // after their UTF-8.
 #[inline(always)]
 fn write_ascii_from<E: Utf16Order>(raw: &[u8], to: &mut [u8], from: Moved) -> Moved
-    requires { TranscodesPrefix (TranscodesToUtf8 E.BIG) raw.now to.old from.read from.written }
-    ensures { TranscodesPrefix (TranscodesToUtf8 E.BIG) raw.now to.new result.read result.written }
+    requires { Writes (TranscodesToUtf8 E.BIG) raw.now to.old from.read from.written }
+    ensures { Writes (TranscodesToUtf8 E.BIG) raw.now to.new result.read result.written }
 {
     // The code units that fit if they are ASCII.
     let units = ((raw.len() - from.read) / 2).min(to.len() - from.written);
@@ -161,12 +161,12 @@ fn write_ascii_from<E: Utf16Order>(raw: &[u8], to: &mut [u8], from: Moved) -> Mo
 // eight, together with those before them, which are written again.
 #[inline(always)]
 fn write_last_ascii<E: Utf16Order>(raw: &[u8], to: &mut [u8], from: Moved, end: Moved) -> Moved
-    requires wrote { TranscodesPrefix (TranscodesToUtf8 E.BIG) raw.now to.old from.read from.written }
+    requires wrote { Writes (TranscodesToUtf8 E.BIG) raw.now to.old from.read from.written }
     requires few { end.read ≤ from.read + 16 }
     requires within { end.read ≤ length raw.now }
     requires space { end.written ≤ length to.old }
     requires ascii { end.read + 2 * from.written ≡ from.read + 2 * end.written }
-    ensures { TranscodesPrefix (TranscodesToUtf8 E.BIG) raw.now to.new result.read result.written }
+    ensures { Writes (TranscodesToUtf8 E.BIG) raw.now to.new result.read result.written }
 {
     if end.read <= from.read || end.read < 16 {
         return from;
@@ -181,8 +181,8 @@ fn write_last_ascii<E: Utf16Order>(raw: &[u8], to: &mut [u8], from: Moved, end: 
 // one, up to the first surrogate.
 #[inline(always)]
 fn write_few_units<E: Utf16Order>(raw: &[u8], to: &mut [u8], from: Moved) -> Moved
-    requires { TranscodesPrefix (TranscodesToUtf8 E.BIG) raw.now to.old from.read from.written }
-    ensures wrote { TranscodesPrefix (TranscodesToUtf8 E.BIG) raw.now to.new result.read result.written }
+    requires { Writes (TranscodesToUtf8 E.BIG) raw.now to.old from.read from.written }
+    ensures wrote { Writes (TranscodesToUtf8 E.BIG) raw.now to.new result.read result.written }
     ensures ascii { All (λ unit. unit < 0x80) (units_of E.BIG raw.now)
         → length raw.now < from.read + 16
         → from.written + (length raw.now - from.read) / 2 * 3 ≤ length to.old
@@ -210,8 +210,8 @@ fn write_few_units<E: Utf16Order>(raw: &[u8], to: &mut [u8], from: Moved) -> Mov
 // far as it surely fits. It leaves a rest of fewer than four code units.
 #[inline(always)]
 fn write_short_rest<E: Utf16Order>(raw: &[u8], to: &mut [u8], from: Moved) -> Moved
-    requires { TranscodesPrefix (TranscodesToUtf8 E.BIG) raw.now to.old from.read from.written }
-    ensures wrote { TranscodesPrefix (TranscodesToUtf8 E.BIG) raw.now to.new result.read result.written }
+    requires { Writes (TranscodesToUtf8 E.BIG) raw.now to.old from.read from.written }
+    ensures wrote { Writes (TranscodesToUtf8 E.BIG) raw.now to.new result.read result.written }
     ensures more { from.read ≤ result.read }
 {
     let Strategy::Short = strategy_for(raw.len()) else {
@@ -235,7 +235,7 @@ fn write_plain_unit<E: Utf16Order>(rest: &[u8], to: &mut [u8], at: usize) -> Opt
     requires some { 2 ≤ length rest.now }
     requires space { at + 3 ≤ length to.old }
     ensures puts { IfSome result (λ end.
-        TranscodesPart (TranscodesToUtf8 E.BIG) rest.now to.old to.new at 2 end) }
+        WritesAt (TranscodesToUtf8 E.BIG) rest.now to.old to.new at 2 end) }
     ensures near { IfSome result (λ end. end ≤ at + 3) }
     ensures none { result ≡ None
         → unit_of E.BIG (slice_index rest.now 0) (slice_index rest.now 1) / 0x800 ≡ 0x1B }

@@ -9,7 +9,7 @@ ghost use Rattle.std.specs.Prelude.{◌≡◌, ◌≢◌, ◌-◌, ◌<◌, ◌�
 ghost use Rattle.utf16_units.specs.Split.{lossy_text, split_items};
 ghost use Rattle.std.specs.Char.{encode_utf8};
 ghost use Rattle.utf16_transcode.specs.Decodes.{utf16_parts};
-ghost use Rattle.utf16_transcode.specs.WholeText.{WritesWholeText};
+ghost use Rattle.utf16_transcode.specs.WholeText.{WritesWhole};
 ghost use Rattle.utf16_transcode.specs.Stops.{StopsLossy, StopsLossyWhole};
 ghost use Rattle.utf16_transcode.specs.Transcoded.{DecodesTo};
 ghost use Rattle.utf16_transcode.specs.declared.progress.Stop.TheVariants.{NoSpace};
@@ -51,7 +51,7 @@ pub fn to_utf8_partial<E: Utf16Order>(raw: &[u8], to: &mut [u8]) -> Progress
 ///
 /// Linear time in the number of bytes read.
 pub fn to_utf8_lossy<E: Utf16Order>(raw: &[u8], to: &mut [u8]) -> Progress
-    ensures shown { WritesWholeText (lossy_text E.BIG) encode_utf8 raw.now to.new result.read
+    ensures shown { WritesWhole (lossy_text E.BIG) encode_utf8 raw.now to.new result.read
         result.written }
     ensures stop { StopsLossyWhole (lossy_text E.BIG) encode_utf8 (drop result.read raw.now)
         (length to.new - result.written) result.stop }

@@ -4,7 +4,7 @@ ghost use Rattle.std.specs.Prelude.{◌≡◌, ◌≤◌, ◌<◌, ◌+◌, ◌-
 ghost use Rattle.std.specs.Char.{IsScalar};
 ghost use Rattle.std.specs.List.{flat_map};
 ghost use Rattle.utf16_transcode.specs.Stops.{BeginsWith};
-ghost use Rattle.utf16_transcode.specs.Transcoded.{SameText, Joins, TranscodesPrefix};
+ghost use Rattle.utf16_transcode.specs.Transcoded.{SameText, Joins, Writes};
 
 use utf16_units::Moved;
 
@@ -63,7 +63,8 @@ pub trait Direction {
     /// of a short input, and often much of a long one. At most seven characters of ASCII are
     /// written if the buffer has four bytes for each.
     fn begin(input: &[u8], to: &mut [u8]) -> Moved
-        ensures wrote { TranscodesPrefix (SameText IsValid other) input.now to.new result.read result.written }
+        ensures wrote { Writes (SameText IsValid other) input.now to.new result.read
+            result.written }
         ensures few_ascii { (text : List ℕ) → All (λ c. c < 0x80) text
             → input.now ≡ flat_map from text → length text < 8
             → 4 * length text ≤ length to.old → result.read ≡ length input.now };
@@ -90,11 +91,11 @@ pub trait Direction {
     fn fitting_prefix(text: &[u8], written: &[u8], room: usize) -> Moved
         requires text { SameText IsValid other text.now written.now }
         requires long { room < length written.now }
-        ensures prefix { TranscodesPrefix (SameText IsValid other) text.now written.now result.read
+        ensures prefix { Writes (SameText IsValid other) text.now written.now result.read
             result.written }
         ensures fits { result.written ≤ room }
         ensures longest { (read end : ℕ)
-            → TranscodesPrefix (SameText IsValid other) text.now written.now read end → end ≤ room
+            → Writes (SameText IsValid other) text.now written.now read end → end ≤ room
             → end ≤ result.written }
         ensures most { room < result.written + 4 };
 
@@ -119,7 +120,7 @@ pub trait Direction {
     /// Writes a valid prefix, which may be empty, in the second encoding to the start of a buffer,
     /// as far as it fits, and validates it at the same time.
     fn write_front(rest: &[u8], to: &mut [u8]) -> Moved
-        ensures { TranscodesPrefix (SameText IsValid other) rest.now to.new result.read result.written };
+        ensures { Writes (SameText IsValid other) rest.now to.new result.read result.written };
 
     /// States what proofs need, and does nothing. Fewer bytes need no more space, and a block fits
     /// in the buffer on the stack. A character takes at most four bytes. Two texts together are a

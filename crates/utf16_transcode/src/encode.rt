@@ -13,7 +13,7 @@ ghost use Rattle.std.specs.Str.Lossy.{second_byte_max, second_byte_min};
 ghost use Rattle.utf16_units.specs.Boundary.{IsBoundary};
 ghost use Rattle.utf16_units.specs.Encoding.{IsUtf16, char_bytes, char_size, encode, text_of};
 ghost use Rattle.utf16_transcode.specs.FromUtf8.{TranscodesToUtf16, IsIllFormedUtf8, IsIllFormedUtf8At, StopsEncoding};
-ghost use Rattle.utf16_transcode.specs.Transcoded.{TranscodesPrefix};
+ghost use Rattle.utf16_transcode.specs.Transcoded.{Writes};
 ghost use Rattle.utf16_transcode.specs.Stops.{BeginsWith};
 
 use crate::chars::{char_of_four, char_of_three, char_of_two};
@@ -39,7 +39,7 @@ const SHORT_LEN: usize = 32;
 /// Linear time in the number of bytes read.
 #[inline(always)]
 pub fn from_utf8<E: Utf16Order>(text: &[u8], to: &mut [u8]) -> Progress
-    ensures wrote { TranscodesPrefix (TranscodesToUtf16 E.BIG) text.now to.new result.read result.written }
+    ensures wrote { Writes (TranscodesToUtf16 E.BIG) text.now to.new result.read result.written }
     ensures stop { StopsEncoding E.BIG text.now result.read (length to.new - result.written)
         result.stop }
 {
@@ -144,7 +144,7 @@ fn last_boundary<E: Utf16Order>(utf16: &[u8], at: usize) -> usize
 // Writes the ASCII at the start of the bytes character by character, as far as it fits.
 #[inline(always)]
 fn write_ascii_chars<E: Utf16Order>(bytes: &[u8], to: &mut [u8]) -> Moved
-    ensures wrote { TranscodesPrefix (TranscodesToUtf16 E.BIG) bytes.now to.new result.read result.written }
+    ensures wrote { Writes (TranscodesToUtf16 E.BIG) bytes.now to.new result.read result.written }
     ensures stop { result.read < length bytes.now → 2 * result.read + 2 ≤ length to.old
         → 0x80 ≤ slice_index bytes.now result.read }
 {
@@ -165,8 +165,8 @@ fn write_ascii_chars<E: Utf16Order>(bytes: &[u8], to: &mut [u8]) -> Moved
 // well formed.
 #[inline(always)]
 fn write_short_rest<E: Utf16Order>(text: &[u8], to: &mut [u8], from: Moved) -> Moved
-    requires { TranscodesPrefix (TranscodesToUtf16 E.BIG) text.now to.old from.read from.written }
-    ensures wrote { TranscodesPrefix (TranscodesToUtf16 E.BIG) text.now to.new result.read result.written }
+    requires { Writes (TranscodesToUtf16 E.BIG) text.now to.old from.read from.written }
+    ensures wrote { Writes (TranscodesToUtf16 E.BIG) text.now to.new result.read result.written }
     ensures more { from.read ≤ result.read }
 {
     if text.len() >= SHORT_LEN {

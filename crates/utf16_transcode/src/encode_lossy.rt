@@ -5,7 +5,7 @@ ghost use Rattle.std.specs.List.{flat_map};
 ghost use Rattle.utf16_units.specs.Encoding.{char_bytes, size};
 ghost use Rattle.utf16_transcode.specs.FromUtf8.{text_of_utf8};
 ghost use Rattle.utf16_transcode.specs.Utf8Stream.{DecodesUtf8To, FirstItem, StopsLossyUtf8, utf8_parts};
-ghost use Rattle.utf16_transcode.specs.WholeText.{WritesWholeText};
+ghost use Rattle.utf16_transcode.specs.WholeText.{WritesWhole};
 ghost use Rattle.utf16_transcode.specs.Stops.{StopsLossyWhole};
 
 use crate::direction::BLOCK_LEN;
@@ -94,7 +94,7 @@ fn write_after_ill_formed<E: Utf16Order>(text: &[u8], to: &mut [u8]) -> Moved
 ///
 /// `String::from_utf8_lossy` replaces the same sequences.
 pub fn from_utf8_lossy<E: Utf16Order>(text: &[u8], to: &mut [u8]) -> Progress
-    ensures shown { WritesWholeText text_of_utf8 (char_bytes E.BIG) text.now to.new result.read
+    ensures shown { WritesWhole text_of_utf8 (char_bytes E.BIG) text.now to.new result.read
         result.written }
     ensures stop { StopsLossyWhole text_of_utf8 (char_bytes E.BIG) (drop result.read text.now)
         (length to.new - result.written) result.stop }

@@ -5,7 +5,7 @@
 //! is overwritten.
 
 ghost use Rattle.std.specs.Prelude.{◌≡◌, ◌*◌, ◌<◌, ◌≤◌, [], ◌∷◌, bit_and, length, map, slice_index};
-ghost use Rattle.utf16_transcode.specs.Transcoded.{TranscodesPrefix};
+ghost use Rattle.utf16_transcode.specs.Transcoded.{Writes};
 ghost use Rattle.utf16_transcode.specs.FromUtf8.{TranscodesToUtf16};
 ghost use Rattle.utf16_transcode.specs.Utf8Stream.{DecodesUtf8To, FirstItem};
 
@@ -83,7 +83,7 @@ fn write_items_once<E: Utf16Order>(text: &[u8], to: &mut [u8]) -> Step
 // the written ones may be overwritten.
 #[inline(always)]
 fn write_some_ascii<E: Utf16Order>(text: &[u8], to: &mut [u8]) -> usize
-    ensures wrote { TranscodesPrefix (TranscodesToUtf16 E.BIG) text.now to.new result (2 * result) }
+    ensures wrote { Writes (TranscodesToUtf16 E.BIG) text.now to.new result (2 * result) }
     ensures most { 0 < result → result < 16 → 0x80 ≤ slice_index text.now result }
     ensures len { length to.new ≡ length to.old }
 {

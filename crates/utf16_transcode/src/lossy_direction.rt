@@ -5,7 +5,7 @@ ghost use Rattle.std.specs.Prelude.{◌≡◌, ◌↔◌, ◌-◌, ◌<◌, ◌�
 ghost use Rattle.std.specs.List.{flat_map};
 ghost use Rattle.utf16_transcode.specs.Decomposition.{Decomposition, IsSplitInChunks, decided};
 ghost use Rattle.utf16_transcode.specs.Stops.{Stops, StopsLossyAs, TextDoesNotFit};
-ghost use Rattle.utf16_transcode.specs.Transcoded.{DecodesAsTo, SameText, TranscodesPrefix};
+ghost use Rattle.utf16_transcode.specs.Transcoded.{DecodesAsTo, SameText, Writes};
 ghost use Rattle.utf16_transcode.specs.declared.progress.Stop.{Stop};
 ghost use Rattle.utf16_transcode.specs.declared.progress.Stop.TheVariants.{IllFormed};
 
@@ -65,7 +65,7 @@ pub trait LossyDirection {
         ensures chunks { IsSplitInChunks parts }
         ensures short { (c : ℕ) → length (into c) ≤ 4 }
         ensures text { (input to : List ℕ) (n w : ℕ)
-            → TranscodesPrefix (SameText Self.Text.IsValid Self.Text.other) input to n w
+            → Writes (SameText Self.Text.IsValid Self.Text.other) input to n w
             → DecodesAsTo parts into input to n w }
         ensures stops { (input : List ℕ) (n left : ℕ) (stop : Stop)
             → ((len : ℕ) → ¬ (stop ≡ IllFormed len))

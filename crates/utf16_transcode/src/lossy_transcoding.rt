@@ -1,7 +1,7 @@
 //! Transcoding that continues after ill-formed sequences, and replaces each of them.
 
 ghost use Rattle.std.specs.Prelude.{◌≡◌, ◌-◌, drop, length};
-ghost use Rattle.utf16_transcode.specs.WholeText.{WritesWholeText};
+ghost use Rattle.utf16_transcode.specs.WholeText.{WritesWhole};
 ghost use Rattle.utf16_transcode.specs.Stops.{StopsLossyAs, StopsLossyWhole};
 ghost use Rattle.utf16_transcode.specs.Transcoded.{DecodesAsTo};
 ghost use Rattle.utf16_transcode.specs.declared.progress.Stop.TheVariants.{NoSpace};
@@ -49,7 +49,7 @@ pub fn transcode_partial<D: LossyDirection>(input: &[u8], to: &mut [u8]) -> Prog
 /// Writes the whole input to the start of a buffer, as far as whole characters fit, and replaces
 /// each ill-formed sequence and a tail at the end.
 pub fn transcode_lossy<D: LossyDirection>(input: &[u8], to: &mut [u8]) -> Progress
-    ensures shown { WritesWholeText D.parts.whole D.into input.now to.new result.read result.written }
+    ensures shown { WritesWhole D.parts.whole D.into input.now to.new result.read result.written }
     ensures stop { StopsLossyWhole D.parts.whole D.into (drop result.read input.now)
         (length to.new - result.written) result.stop }
     ensures between { result.stop ≡ NoSpace

@@ -10,7 +10,7 @@
 
 ghost use Rattle.std.specs.Prelude.{◌≡◌, ◌≤◌, ◌<◌, ◌+◌, ◌-◌, ◌⊎◌, ℕ, IfErr, IfOk, IfSome, length};
 ghost use Rattle.utf16_transcode.specs.Stops.{BeginsWith, Stops, StopsHere};
-ghost use Rattle.utf16_transcode.specs.Transcoded.{SameText, TranscodesPart, TranscodesPrefix};
+ghost use Rattle.utf16_transcode.specs.Transcoded.{SameText, WritesAt, Writes};
 
 use crate::direction::{BLOCK_LEN, BLOCK_ROOM, Direction};
 use crate::progress::{Progress, Stop};
@@ -22,7 +22,8 @@ use utf16_units::strategy::FEW_TEXT;
 /// characters fit.
 #[inline(always)]
 pub fn transcode<D: Direction>(input: &[u8], to: &mut [u8]) -> Progress
-    ensures wrote { TranscodesPrefix (SameText D.IsValid D.other) input.now to.new result.read result.written }
+    ensures wrote { Writes (SameText D.IsValid D.other) input.now to.new result.read
+        result.written }
     ensures stop { Stops D.from D.into D.IsIllFormed input.now result.read
         (length to.new - result.written) result.stop }
 {
@@ -42,8 +43,9 @@ pub fn transcode<D: Direction>(input: &[u8], to: &mut [u8]) -> Progress
 #[inline(never)]
 fn transcode_many<D: Direction>(input: &[u8], to: &mut [u8], begun: Moved) -> Progress
     requires some { begun.read < length input.now }
-    requires begun { TranscodesPrefix (SameText D.IsValid D.other) input.now to.old begun.read begun.written }
-    ensures wrote { TranscodesPrefix (SameText D.IsValid D.other) input.now to.new result.read result.written }
+    requires begun { Writes (SameText D.IsValid D.other) input.now to.old begun.read begun.written }
+    ensures wrote { Writes (SameText D.IsValid D.other) input.now to.new result.read
+        result.written }
     ensures stop { Stops D.from D.into D.IsIllFormed input.now result.read
         (length to.new - result.written) result.stop }
 {
@@ -93,7 +95,8 @@ fn transcode_many<D: Direction>(input: &[u8], to: &mut [u8], begun: Moved) -> Pr
 // them.
 fn write_piece<D: Direction>(rest: &[u8], to: &mut [u8], at: usize) -> Moved
     requires { at ≤ length to.old }
-    ensures { TranscodesPart (SameText D.IsValid D.other) rest.now to.old to.new at result.read result.written }
+    ensures { WritesAt (SameText D.IsValid D.other) rest.now to.old to.new at result.read
+        result.written }
 {
     D::laws();
     let mut read = 0;
@@ -117,7 +120,8 @@ fn write_piece<D: Direction>(rest: &[u8], to: &mut [u8], at: usize) -> Moved
 // all bytes surely fit.
 fn write_validated_tail<D: Direction>(rest: &[u8], to: &mut [u8], at: usize) -> Moved
     requires { at ≤ length to.old }
-    ensures { TranscodesPart (SameText D.IsValid D.other) rest.now to.old to.new at result.read result.written }
+    ensures { WritesAt (SameText D.IsValid D.other) rest.now to.old to.new at result.read
+        result.written }
 {
     D::laws();
     if rest.len() < FEW_TEXT {
@@ -134,7 +138,8 @@ fn write_validated_tail<D: Direction>(rest: &[u8], to: &mut [u8], at: usize) -> 
 #[inline(always)]
 fn write_valid<D: Direction>(rest: &[u8], to: &mut [u8], at: usize) -> Moved
     requires { at + D.room_for (length rest.now) ≤ length to.old }
-    ensures { TranscodesPart (SameText D.IsValid D.other) rest.now to.old to.new at result.read result.written }
+    ensures { WritesAt (SameText D.IsValid D.other) rest.now to.old to.new at result.read
+        result.written }
 {
     D::laws();
     let len = D::valid_len(rest);
@@ -156,7 +161,8 @@ fn write_valid<D: Direction>(rest: &[u8], to: &mut [u8], at: usize) -> Moved
 fn write_near_end<D: Direction>(rest: &[u8], to: &mut [u8], at: usize) -> Moved
     requires some { 0 < length rest.now }
     requires within { at ≤ length to.old }
-    ensures { TranscodesPart (SameText D.IsValid D.other) rest.now to.old to.new at result.read result.written }
+    ensures { WritesAt (SameText D.IsValid D.other) rest.now to.old to.new at result.read
+        result.written }
 {
     D::laws();
     if to.len() - at < 3 * FEW_TEXT {
@@ -202,7 +208,8 @@ fn write_buffered_block<D: Direction>(
     at: usize,
 ) -> Moved
     requires { at ≤ length to.old }
-    ensures { TranscodesPart (SameText D.IsValid D.other) rest.now to.old to.new at result.read result.written }
+    ensures { WritesAt (SameText D.IsValid D.other) rest.now to.old to.new at result.read
+        result.written }
 {
     let most = if to.len() - at <= BLOCK_LEN {
         BLOCK_LEN
@@ -217,7 +224,8 @@ fn write_buffered_block<D: Direction>(
 fn write_buffered_text<D: Direction>(rest: &[u8], buf: &mut [u8], to: &mut [u8], at: usize) -> Moved
     requires space { BLOCK_ROOM ≤ length buf.old }
     requires within { at ≤ length to.old }
-    ensures { TranscodesPart (SameText D.IsValid D.other) rest.now to.old to.new at result.read result.written }
+    ensures { WritesAt (SameText D.IsValid D.other) rest.now to.old to.new at result.read
+        result.written }
 {
     D::laws();
     let len = D::valid_len(&rest[..rest.len().min(BLOCK_LEN)]);
@@ -230,7 +238,7 @@ fn write_buffered_text<D: Direction>(rest: &[u8], buf: &mut [u8], to: &mut [u8],
 fn write_fitting<D: Direction>(text: &[u8], written: &[u8], to: &mut [u8], at: usize) -> Moved
     requires text { SameText D.IsValid D.other text.now written.now }
     requires within { at ≤ length to.old }
-    ensures bytes { TranscodesPart (SameText D.IsValid D.other) text.now to.old to.new at result.read
+    ensures bytes { WritesAt (SameText D.IsValid D.other) text.now to.old to.new at result.read
         result.written }
     ensures most { (result.read ≡ length text.now) ⊎ (length to.new - result.written < 4) }
 {
@@ -245,7 +253,7 @@ fn write_fitting<D: Direction>(text: &[u8], written: &[u8], to: &mut [u8], at: u
 #[inline(always)]
 fn prefix_for<D: Direction>(text: &[u8], written: &[u8], room: usize) -> Moved
     requires { SameText D.IsValid D.other text.now written.now }
-    ensures prefix { TranscodesPrefix (SameText D.IsValid D.other) text.now written.now result.read
+    ensures prefix { Writes (SameText D.IsValid D.other) text.now written.now result.read
         result.written }
     ensures fits { result.written ≤ room }
     ensures most { (result.read ≡ length text.now) ⊎ (room < result.written + 4) }
@@ -264,7 +272,8 @@ fn prefix_for<D: Direction>(text: &[u8], written: &[u8], room: usize) -> Moved
 // writes, it goes character by character.
 fn write_chars<D: Direction>(rest: &[u8], to: &mut [u8], at: usize) -> Moved
     requires { at ≤ length to.old }
-    ensures { TranscodesPart (SameText D.IsValid D.other) rest.now to.old to.new at result.read result.written }
+    ensures { WritesAt (SameText D.IsValid D.other) rest.now to.old to.new at result.read
+        result.written }
 {
     D::laws();
     let begun = D::begin(rest, &mut to[at..]);
@@ -286,7 +295,7 @@ fn write_next_char<D: Direction>(rest: &[u8], to: &mut [u8], at: usize) -> Resul
     requires not_empty { 0 < length rest.now }
     requires within { at ≤ length to.old }
     ensures wrote { IfOk result (λ r.
-        TranscodesPart (SameText D.IsValid D.other) rest.now to.old to.new at r.read r.written) }
+        WritesAt (SameText D.IsValid D.other) rest.now to.old to.new at r.read r.written) }
     ensures advances { IfOk result (λ r. 0 < r.read) }
     ensures stop { IfErr result (StopsHere D.from D.into D.IsIllFormedAt rest.now
         (length to.new - at)) }

@@ -6,10 +6,10 @@ use Rattle.std.specs.List.{flat_map}
 use Rattle.utf16_units.specs.Split.{split_tail}
 use Rattle.utf16_units.proofs.IllFormedLemmas.{rest_from}
 use Rattle.utf16_units.proofs.SplitUnique.{length-split_tail}
-use Rattle.utf16_transcode.specs.WholeText.{WritesWholeText}
+use Rattle.utf16_transcode.specs.WholeText.{WritesWhole}
 use Rattle.utf16_transcode.specs.declared.progress.Stop.{Stop}
 use Rattle.utf16_transcode.specs.declared.progress.Stop.TheVariants.{Incomplete, Done, IllFormed, NoSpace}
-use Rattle.utf16_transcode.proofs.WholeLemmas.{WritesWholeText-decoded, stops_whole, whole_tail, whole_text}
+use Rattle.utf16_transcode.proofs.WholeLemmas.{WritesWhole-decoded, stops_whole, whole_tail, whole_text}
 use Rattle.utf16_wtf8.specs.ToWtf8.{DecodesToWtf8, StopsBeforeTail, StopsToWtf8, points_of, tail_points, wtf8_parts}
 use Rattle.utf16_wtf8.specs.Wtf8.{code_points, generalized_utf8}
 use Rattle.utf16_wtf8.proofs.PointLemmas.{points-nil, units-none}
@@ -21,8 +21,8 @@ nothing (b ∷ bytes) e = absurd (omega arith)
 
 module _ (big : Bool) (raw to : List ℕ) (read written : ℕ) (decodes : DecodesToWtf8 big raw to read written) where
   -- what is certain was written
-  pub WritesWholeText-certain : WritesWholeText (points_of big) generalized_utf8 raw to read written
-  WritesWholeText-certain = WritesWholeText-decoded (wtf8_parts big) generalized_utf8 (wtf8_chunks big) raw to read written decodes
+  pub WritesWhole-certain : WritesWhole (points_of big) generalized_utf8 raw to read written
+  WritesWhole-certain = WritesWhole-decoded (wtf8_parts big) generalized_utf8 (wtf8_chunks big) raw to read written decodes
 
   abbrev rest : List ℕ
   rest = rest_from raw read
@@ -40,9 +40,9 @@ module _ (big : Bool) (raw to : List ℕ) (read written : ℕ) (decodes : Decode
       omega (arith, length-drop last raw)
 
   -- and the unit of a tail after it
-  pub WritesWholeText-tail : (next : List ℕ) (end : ℕ) → split_tail big (drop read raw) ≡ drop read raw → end ≤ length next
-      → take end next ≡ take written to ++ flat_map generalized_utf8 (tail_points big rest) → WritesWholeText (points_of big) generalized_utf8 raw next last end
-  WritesWholeText-tail next end same fits bytes = record {
+  pub WritesWhole-tail : (next : List ℕ) (end : ℕ) → split_tail big (drop read raw) ≡ drop read raw → end ≤ length next
+      → take end next ≡ take written to ++ flat_map generalized_utf8 (tail_points big rest) → WritesWhole (points_of big) generalized_utf8 raw next last end
+  WritesWhole-tail next end same fits bytes = record {
     within = let few = size in let within = decodes.within in omega arith;
     fits = fits;
     shown =

@@ -16,7 +16,7 @@ use Rattle.utf16_units.proofs.IllFormedLemmas.{rest_from}
 use Rattle.utf16_units.proofs.UnitLemmas.{length-unit_bytes}
 use Rattle.utf8_bytes.proofs.ValidLemmas.{IsValidUpTo-computed, front_valid}
 use Rattle.utf16_transcode.specs.FromUtf8.{TranscodesToUtf16}
-use Rattle.utf16_transcode.specs.Transcoded.{TranscodesPrefix}
+use Rattle.utf16_transcode.specs.Transcoded.{Writes}
 use Rattle.utf16_transcode.specs.declared.progress.Stop.{Stop}
 use Rattle.utf16_transcode.specs.declared.progress.Stop.TheVariants.{Incomplete, Done, IllFormed, NoSpace}
 use Rattle.utf16_transcode.proofs.DecodesUtf8.{flat_encode}
@@ -94,7 +94,7 @@ module _ (wtf8 text : List ℕ) (read len : ℕ) (leading : Bool) (counts : Coun
     last = counts.1.last;
   }
 
-  encoded : TranscodesPrefix (TranscodesToUtf16 false) rest part (length text) (length part)
+  encoded : Writes (TranscodesToUtf16 false) rest part (length text) (length part)
   encoded = record {
     within = let few = utf8_valid_len_le rest in let same = text_len in omega arith;
     fits = omega arith;
@@ -201,7 +201,7 @@ within_longest wtf8 read n longest within is = ⊎_elim
     (λ (valid : IsWtf8ValidUpTo wtf8 read). ⊎_elim (λ (past : read < n). absurd (valid.longest n past is)) (λ (most : n ≤ read). most) (cases_lt read n))
     longest
 
-module _ (wtf8 : List ℕ) (len : ℕ) (has : HasUtf16Len wtf8 len) (big : Bool) (to : List ℕ) (read written : ℕ) (wrote : TranscodesPrefix (TranscodesFromWtf8 big) wtf8 to read written) where
+module _ (wtf8 : List ℕ) (len : ℕ) (has : HasUtf16Len wtf8 len) (big : Bool) (to : List ℕ) (read written : ℕ) (wrote : Writes (TranscodesFromWtf8 big) wtf8 to read written) where
   abbrev points : List ℕ
   points = wrote.gives.points
 

@@ -19,7 +19,7 @@ use Rattle.utf16_units.proofs.EncodingLemmas.{All-from_all_scalars}
 use Rattle.utf16_units.proofs.IllFormedLemmas.{rest_from}
 use Rattle.utf16_units.proofs.UnitLemmas.{length-unit_bytes}
 use Rattle.utf8_bytes.proofs.ValidLemmas.{none_at}
-use Rattle.utf16_transcode.specs.Transcoded.{TranscodesPrefix}
+use Rattle.utf16_transcode.specs.Transcoded.{Writes}
 use Rattle.utf16_transcode.specs.declared.progress.Stop.{Stop}
 use Rattle.utf16_transcode.specs.declared.progress.Stop.TheVariants.{Incomplete, Done, IllFormed, NoSpace}
 use Rattle.utf16_transcode.proofs.TranscodedLemmas.{put_end-long, take-end}
@@ -71,7 +71,7 @@ module _ (bytes : List ℕ) (u : IsUtf8 bytes) where
   chars_in = ap chars (sym u.1.1) ∙ chars-encodes (text_in bytes u) u.1.0
 
 module _ (big : Bool) (wtf8 old part : List ℕ) (read at n w : ℕ) (leading : Bool) (before : ReadsWtf8 big wtf8 old read at leading)
-    (text : TranscodesPrefix (TranscodesToUtf16 big) (rest_from wtf8 read) part n w) (long : length part ≡ length old - at) where
+    (text : Writes (TranscodesToUtf16 big) (rest_from wtf8 read) part n w) (long : length part ≡ length old - at) where
   abbrev new : List ℕ
   new = put_mid at (length old - at) old part
 

@@ -8,7 +8,7 @@ use Rattle.std.specs.Prelude.{◌==◌, ◌&&◌, if◌then◌else◌, nat_lt, s
 use Rattle.std.specs.Int.{is_in_range}
 use Rattle.std.specs.Str.Lossy.{second_byte_max, second_byte_min, utf8_error_len}
 use Rattle.utf16_units.specs.Unit.{IsTrailing}
-use Rattle.utf16_transcode.specs.Transcoded.{TranscodesPrefix}
+use Rattle.utf16_transcode.specs.Transcoded.{Writes}
 use Rattle.utf16_transcode.specs.declared.progress.Stop.{Stop}
 use Rattle.utf16_transcode.specs.declared.progress.Stop.TheVariants.{Incomplete, Done, IllFormed, NoSpace}
 use Rattle.utf16_wtf8.specs.FromWtf8.{IsIllFormedWtf8, IsWtf8ValidUpTo, NextPointDoesNotFit, NoPointContinues, StopsFromWtf8Partial, TranscodesFromWtf8, wtf8_error_len}
@@ -154,8 +154,8 @@ does_not_fit_longer big front back read left here =
       too_long = here.too_long;
     }
 
-abbrev pub TranscodesPrefix-longer : (big : Bool) (front back to : List ℕ) (read written : ℕ) → TranscodesPrefix (TranscodesFromWtf8 big) front to read written → TranscodesPrefix (TranscodesFromWtf8 big) (front ++ back) to read written
-TranscodesPrefix-longer big front back to read written wrote = record {
+abbrev pub Writes-longer : (big : Bool) (front back to : List ℕ) (read written : ℕ) → Writes (TranscodesFromWtf8 big) front to read written → Writes (TranscodesFromWtf8 big) (front ++ back) to read written
+Writes-longer big front back to read written wrote = record {
   within = omega (arith, wrote.within, length-append front back);
   fits = wrote.fits;
   gives = record {

@@ -8,7 +8,7 @@ use Rattle.utf16_units.proofs.CharLemmas.{one_unit_bytes}
 use Rattle.utf16_units.proofs.EncodingLemmas.{All-front}
 use Rattle.utf16_units.proofs.PairLemmas.{is_of}
 use Rattle.utf16_units.proofs.UnitLemmas.{length-unit_bytes}
-use Rattle.utf16_transcode.specs.Transcoded.{TranscodesPrefix}
+use Rattle.utf16_transcode.specs.Transcoded.{Writes}
 use Rattle.utf16_transcode.specs.declared.progress.Stop.{Stop}
 use Rattle.utf16_transcode.specs.declared.progress.Stop.TheVariants.{Incomplete, Done, IllFormed, NoSpace}
 use Rattle.utf16_wtf8.specs.FromWtf8.{EndsLeading, IsIllFormedWtf8, LeavesLeading, ReadsWtf8, StopsFromWtf8, StopsFromWtf8Partial, TranscodesFromWtf8, wtf8_error_len}
@@ -86,8 +86,8 @@ module _ (big : Bool) (wtf8 to : List ℕ) (read written : ℕ) (before : ReadsW
       sym (take-take (written - 2) written to (omega arith)) ∙ ap (take (written - 2)) units
       ∙ take_at (flat_map (char_bytes big) last.front) (char_bytes big last.lead) (written - 2) (omega arith)
 
-  pub TranscodesPrefix-before : TranscodesPrefix (TranscodesFromWtf8 big) wtf8 to (read - 3) (written - 2)
-  TranscodesPrefix-before = record {
+  pub Writes-before : Writes (TranscodesFromWtf8 big) wtf8 to (read - 3) (written - 2)
+  Writes-before = record {
     within = let within = before.within in omega arith;
     fits = let fits = before.fits in omega arith;
     gives = record {

@@ -6,7 +6,7 @@ use Rattle.std.proofs.lemmas.List.Concat.{flat_map-append}
 use Rattle.std.proofs.lemmas.List.Elements.{All-head}
 use Rattle.utf16_units.specs.Encoding.{char_bytes}
 use Rattle.utf16_units.specs.Unit.{IsLeading}
-use Rattle.utf16_transcode.specs.Transcoded.{TranscodesPrefix}
+use Rattle.utf16_transcode.specs.Transcoded.{Writes}
 use Rattle.utf16_transcode.specs.declared.progress.Stop.{Stop}
 use Rattle.utf16_transcode.specs.declared.progress.Stop.TheVariants.{Incomplete, Done, IllFormed, NoSpace}
 use Rattle.utf16_transcode.proofs.TranscodedLemmas.{put_end-long, take-end}
@@ -179,16 +179,16 @@ module _ (bytes points : List ℕ) (read : ℕ) (within : read ≤ length bytes)
         )
 
 -- what a second call wrote follows what the first one wrote
-module _ (big : Bool) (bytes old part : List ℕ) (read at n w : ℕ) (before : TranscodesPrefix (TranscodesFromWtf8 big) bytes old read at)
-    (seam : IsSeam before.gives.points (drop read bytes)) (after : TranscodesPrefix (TranscodesFromWtf8 big) (drop read bytes) part n w) (long : length part ≡ length old - at) where
+module _ (big : Bool) (bytes old part : List ℕ) (read at n w : ℕ) (before : Writes (TranscodesFromWtf8 big) bytes old read at)
+    (seam : IsSeam before.gives.points (drop read bytes)) (after : Writes (TranscodesFromWtf8 big) (drop read bytes) part n w) (long : length part ≡ length old - at) where
   abbrev new : List ℕ
   new = put_mid at (length old - at) old part
 
   new_long : length new ≡ length old
   new_long = put_end-long at old part before.fits long
 
-  pub TranscodesPrefix-behind : TranscodesPrefix (TranscodesFromWtf8 big) bytes new (read + n) (at + w)
-  TranscodesPrefix-behind = record {
+  pub Writes-behind : Writes (TranscodesFromWtf8 big) bytes new (read + n) (at + w)
+  Writes-behind = record {
     within = omega (arith, before.within, after.within, length-drop read bytes);
     fits = omega (arith, before.fits, after.fits, long, new_long);
     gives = record {

@@ -4,7 +4,7 @@ use borrow.Rule.Slice.PartMut.{put_mid}
 use Rattle.std.proofs.lemmas.Bool.{cases_lt}
 use Rattle.std.proofs.lemmas.List.{drop-append-le, drop_all}
 use Rattle.utf16_units.proofs.IllFormedLemmas.{rest_from, take-past}
-use Rattle.utf16_transcode.specs.Transcoded.{TranscodesPrefix}
+use Rattle.utf16_transcode.specs.Transcoded.{Writes}
 use Rattle.utf16_transcode.specs.declared.progress.Stop.{Stop}
 use Rattle.utf16_transcode.specs.declared.progress.Stop.TheVariants.{Incomplete, Done, IllFormed, NoSpace}
 use Rattle.utf16_transcode.proofs.StreamSteps.{join_drop, piece_joined}
@@ -12,8 +12,8 @@ use Rattle.utf16_wtf8.specs.FromWtf8.{EndsLeading, IsIllFormedWtf8, LeavesLeadin
 use Rattle.utf16_wtf8.specs.Stream.{FeedsWtf8, StopsFeedingWtf8, encoded_len}
 use Rattle.utf16_wtf8.specs.Wtf8.{SpellsWtf8, generalized_utf8}
 use Rattle.utf16_wtf8.proofs.FewLemmas.{few_left}
-use Rattle.utf16_wtf8.proofs.LongerLemmas.{IsDecided, TranscodesPrefix-longer, not_cut, not_done, stops_longer}
-use Rattle.utf16_wtf8.proofs.SeamLemmas.{IsSeam, TranscodesPrefix-behind, fits_behind, stops_behind}
+use Rattle.utf16_wtf8.proofs.LongerLemmas.{IsDecided, Writes-longer, not_cut, not_done, stops_longer}
+use Rattle.utf16_wtf8.proofs.SeamLemmas.{IsSeam, Writes-behind, fits_behind, stops_behind}
 
 -- the first twelve bytes of pending bytes and a chunk
 pub start_bytes : (pending chunk : List ℕ) (n : ℕ) → length pending ≤ 12 → n ≤ 12 - length pending → (length chunk ≤ n) ⊎ (12 - length pending ≤ n)
@@ -36,11 +36,11 @@ window_joined bytes window is = ap (λ w. w ++ drop 12 bytes) is ∙ take-append
 
 -- what a call for a window that holds not all bytes did, it did for all bytes, unless it read all
 module _ (big : Bool) (pending chunk window : List ℕ) (is : window ≡ take 12 (pending ++ chunk)) where
-  pub TranscodesPrefix-window : (to : List ℕ) (read written : ℕ) → TranscodesPrefix (TranscodesFromWtf8 big) window to read written
-      → TranscodesPrefix (TranscodesFromWtf8 big) (pending ++ chunk) to read written
-  TranscodesPrefix-window to read written wrote =
-      subst (λ b. TranscodesPrefix (TranscodesFromWtf8 big) b to read written) (window_joined (pending ++ chunk) window is)
-      (TranscodesPrefix-longer big window (drop 12 (pending ++ chunk)) to read written wrote)
+  pub Writes-window : (to : List ℕ) (read written : ℕ) → Writes (TranscodesFromWtf8 big) window to read written
+      → Writes (TranscodesFromWtf8 big) (pending ++ chunk) to read written
+  Writes-window to read written wrote =
+      subst (λ b. Writes (TranscodesFromWtf8 big) b to read written) (window_joined (pending ++ chunk) window is)
+      (Writes-longer big window (drop 12 (pending ++ chunk)) to read written wrote)
 
   pub stops_window : (read room : ℕ) (stop : Stop) → IsDecided stop → StopsFromWtf8Partial big window read room stop
       → StopsFromWtf8Partial big (pending ++ chunk) read room stop
@@ -89,13 +89,13 @@ pub record ReadStart (big : Bool) (pending chunk to : List ℕ) (read at : ℕ) 
   pub window : List ℕ
   pub stop : Stop
   pub is : window ≡ take 12 (pending ++ chunk)
-  pub wrote : TranscodesPrefix (TranscodesFromWtf8 big) window to read at
+  pub wrote : Writes (TranscodesFromWtf8 big) window to read at
   pub ended : (stop ≡ Done) ⊎ (stop ≡ Incomplete)
   pub here : StopsFromWtf8Partial big window read (length to - at) stop
   pub past : length pending ≤ read
 
 pub read_start : (big : Bool) (pending chunk to : List ℕ) (read at : ℕ) (window : List ℕ) (stop : Stop) → window ≡ take 12 (pending ++ chunk)
-    → TranscodesPrefix (TranscodesFromWtf8 big) window to read at → (stop ≡ Done) ⊎ (stop ≡ Incomplete) → StopsFromWtf8Partial big window read (length to - at) stop
+    → Writes (TranscodesFromWtf8 big) window to read at → (stop ≡ Done) ⊎ (stop ≡ Incomplete) → StopsFromWtf8Partial big window read (length to - at) stop
     → length pending ≤ 6 → 12 ≤ length window → ReadStart big pending chunk to read at
 read_start big pending chunk to read at window stop is wrote ended here few full = record {
   window = window;
@@ -113,7 +113,7 @@ start_within big pending chunk to read at start =
 
 -- a second call for the rest of the chunk, after all pending bytes
 module _ (big : Bool) (pending chunk to part : List ℕ) (read at n w : ℕ) (start : ReadStart big pending chunk to read at)
-    (rest : TranscodesPrefix (TranscodesFromWtf8 big) (rest_from chunk (read - length pending)) part n w) (long : length part ≡ length to - at) where
+    (rest : Writes (TranscodesFromWtf8 big) (rest_from chunk (read - length pending)) part n w) (long : length part ≡ length to - at) where
   abbrev window : List ℕ
   window = start.window
 
@@ -129,19 +129,19 @@ module _ (big : Bool) (pending chunk to part : List ℕ) (read at n w : ℕ) (st
   behind : rest_from chunk (read - length pending) ≡ drop read (window ++ back)
   behind = behind_pending pending chunk read start.past ∙ ap (drop read) (sym all)
 
-  abbrev before : TranscodesPrefix (TranscodesFromWtf8 big) (window ++ back) to read at
-  before = TranscodesPrefix-longer big window back to read at start.wrote
+  abbrev before : Writes (TranscodesFromWtf8 big) (window ++ back) to read at
+  before = Writes-longer big window back to read at start.wrote
 
   seam : IsSeam before.gives.points (drop read (window ++ back))
   seam = seam_here big window read (length to - at) start.wrote.gives.points back start.wrote.within start.wrote.gives.spells start.stop start.ended start.here
 
-  after : TranscodesPrefix (TranscodesFromWtf8 big) (drop read (window ++ back)) part n w
-  after = subst (λ b. TranscodesPrefix (TranscodesFromWtf8 big) b part n w) behind rest
+  after : Writes (TranscodesFromWtf8 big) (drop read (window ++ back)) part n w
+  after = subst (λ b. Writes (TranscodesFromWtf8 big) b part n w) behind rest
 
-  pub TranscodesPrefix-joined : TranscodesPrefix (TranscodesFromWtf8 big) (pending ++ chunk) new (read + n) (at + w)
-  TranscodesPrefix-joined =
-      subst (λ b. TranscodesPrefix (TranscodesFromWtf8 big) b new (read + n) (at + w)) all
-      (TranscodesPrefix-behind big (window ++ back) to part read at n w before seam after long)
+  pub Writes-joined : Writes (TranscodesFromWtf8 big) (pending ++ chunk) new (read + n) (at + w)
+  Writes-joined =
+      subst (λ b. Writes (TranscodesFromWtf8 big) b new (read + n) (at + w)) all
+      (Writes-behind big (window ++ back) to part read at n w before seam after long)
 
   pub stops_joined : (next : Stop) → StopsFromWtf8Partial big (rest_from chunk (read - length pending)) n (length part - w) next
       → StopsFromWtf8Partial big (pending ++ chunk) (read + n) (length new - (at + w)) next
@@ -228,7 +228,7 @@ tail_joined pending chunk left rest held at left_is rest_is is few =
 pub tail_few : (bytes held : List ℕ) (at : ℕ) → held ≡ drop at bytes → length bytes ≤ at + 6 → length held ≤ 6
 tail_few bytes held at is few = omega (arith, ap length is, length-drop at bytes, few)
 
-pub Feeds-wrote : (big : Bool) (pending chunk left to : List ℕ) (at read written : ℕ) → TranscodesPrefix (TranscodesFromWtf8 big) (pending ++ chunk) to at written
+pub Feeds-wrote : (big : Bool) (pending chunk left to : List ℕ) (at read written : ℕ) → Writes (TranscodesFromWtf8 big) (pending ++ chunk) to at written
     → read ≤ length chunk → left ++ drop read chunk ≡ drop at (pending ++ chunk) → FeedsWtf8 big pending chunk left to read written
 Feeds-wrote big pending chunk left to at read written wrote within rest = record {
   within = within;

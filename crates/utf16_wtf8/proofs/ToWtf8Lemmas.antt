@@ -15,7 +15,7 @@ use Rattle.utf16_units.proofs.SplitIllFormed.{lone_item, split_items-fault, spli
 use Rattle.utf16_units.proofs.SplitJoin.{split_items-text, split_tail-text}
 use Rattle.utf16_transcode.specs.Decomposition.{IsSplitInChunks}
 use Rattle.utf16_transcode.specs.Stops.{IsIllFormedUtf16, StopsDecoding, TextDoesNotFit}
-use Rattle.utf16_transcode.specs.Transcoded.{TranscodesToUtf8, TranscodesPrefix}
+use Rattle.utf16_transcode.specs.Transcoded.{TranscodesToUtf8, Writes}
 use Rattle.utf16_transcode.specs.declared.progress.Stop.{Stop}
 use Rattle.utf16_transcode.specs.declared.progress.Stop.TheVariants.{Incomplete, Done, IllFormed, NoSpace}
 use Rattle.utf16_transcode.proofs.DecodeLossyLemmas.{stops_lossy}
@@ -57,7 +57,7 @@ wtf8_chunks big = record {
 -- ---- texts
 
 -- a text at the start was written, and its characters are decoded
-pub DecodesToWtf8-text : (big : Bool) (raw to : List ℕ) (n w : ℕ) → TranscodesPrefix (TranscodesToUtf8 big) raw to n w → DecodesToWtf8 big raw to n w
+pub DecodesToWtf8-text : (big : Bool) (raw to : List ℕ) (n w : ℕ) → Writes (TranscodesToUtf8 big) raw to n w → DecodesToWtf8 big raw to n w
 DecodesToWtf8-text big raw to n w wrote =
     let front = take n raw in
     let text = text_of big front in

@@ -5,7 +5,7 @@ use Rattle.std.specs.List.{flat_map}
 use Rattle.std.specs.Str.Lossy.{utf8_error_len}
 use Rattle.utf16_units.specs.Encoding.{char_bytes, size}
 use Rattle.utf16_units.specs.Unit.{IsLeading, IsTrailing}
-use Rattle.utf16_transcode.specs.Transcoded.{TranscodesPrefix}
+use Rattle.utf16_transcode.specs.Transcoded.{Writes}
 use Rattle.utf16_transcode.specs.declared.progress.Stop.{Stop}
 use Rattle.utf16_transcode.specs.declared.progress.Stop.TheVariants.{Incomplete, Done, IllFormed, NoSpace}
 use Rattle.utf16_wtf8.specs.Wtf8.{IsCodePoint, IsWtf8, SpellsWtf8, ends_leading, generalized_utf8}
@@ -125,5 +125,5 @@ pub record HasUtf16Len (wtf8 : List ℕ) (len : ℕ) : Type 0 where
 -- the buffer is shorter
 abbrev pub IsWrittenIfItFits : List ℕ → ℕ → Type 0
 IsWrittenIfItFits wtf8 len =
-    (big : Bool) (to : List ℕ) (read written : ℕ) (stop : Stop) → TranscodesPrefix (TranscodesFromWtf8 big) wtf8 to read written
+    (big : Bool) (to : List ℕ) (read written : ℕ) (stop : Stop) → Writes (TranscodesFromWtf8 big) wtf8 to read written
     → StopsFromWtf8 big wtf8 read (length to - written) stop → (stop ≢ NoSpace → written ≡ len) × (stop ≡ NoSpace → length to < len)

@@ -2,7 +2,7 @@
 
 ghost use Rattle.std.specs.Prelude.{◌≡◌, ◌≢◌, ◌↔◌, ◌-◌, ◌%◌, ◌<◌, ◌≤◌, [], drop, length, take};
 ghost use Rattle.std.specs.List.{flat_map};
-ghost use Rattle.utf16_transcode.specs.WholeText.{WritesWholeText};
+ghost use Rattle.utf16_transcode.specs.WholeText.{WritesWhole};
 ghost use Rattle.utf16_transcode.specs.Stream.{stream_pending};
 ghost use Rattle.utf16_transcode.specs.declared.progress.Stop.TheVariants.{Done, Incomplete, NoSpace};
 ghost use Rattle.utf16_wtf8.specs.ToWtf8.{DecodesToWtf8, StopsBeforeTail, StopsToWtf8, points_of, tail_points};
@@ -37,7 +37,7 @@ pub fn to_wtf8_partial<E: Utf16Order>(raw: &[u8], to: &mut [u8]) -> Progress
 ///
 /// Linear time in the number of bytes read.
 pub fn to_wtf8<E: Utf16Order>(raw: &[u8], to: &mut [u8]) -> Progress
-    ensures shown { WritesWholeText (points_of E.BIG) generalized_utf8 raw.now to.new result.read
+    ensures shown { WritesWhole (points_of E.BIG) generalized_utf8 raw.now to.new result.read
         result.written }
     ensures stop { StopsToWtf8 E.BIG (drop result.read raw.now)
         (length to.new - result.written) result.stop }

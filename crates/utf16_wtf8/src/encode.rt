@@ -1,7 +1,7 @@
 //! WTF-8 to UTF-16: text as UTF-8, and surrogates where that stops.
 
 ghost use Rattle.std.specs.Prelude.{◌≡◌, ◌+◌, ◌-◌, ◌≤◌, true, IfErr, IfOk, length};
-ghost use Rattle.utf16_transcode.specs.Transcoded.{TranscodesPrefix};
+ghost use Rattle.utf16_transcode.specs.Transcoded.{Writes};
 ghost use Rattle.utf16_transcode.specs.declared.progress.Stop.TheVariants.{Incomplete};
 ghost use Rattle.utf16_wtf8.specs.FromWtf8.{BeginsWithSurrogate, LeavesLeading, ReadsWtf8, StopsAfter, StopsFromWtf8, StopsFromWtf8Partial, TranscodesFromWtf8, surrogate_begins};
 
@@ -25,7 +25,7 @@ pub(crate) const UNIT_LEN: usize = 2;
 ///
 /// Linear time in the number of bytes read.
 pub fn from_wtf8<E: Utf16Order>(wtf8: &[u8], to: &mut [u8]) -> Progress
-    ensures wrote { TranscodesPrefix (TranscodesFromWtf8 E.BIG) wtf8.now to.new result.read result.written }
+    ensures wrote { Writes (TranscodesFromWtf8 E.BIG) wtf8.now to.new result.read result.written }
     ensures stop { StopsFromWtf8 E.BIG wtf8.now result.read (length to.new - result.written)
         result.stop }
 {
@@ -43,7 +43,7 @@ pub fn from_wtf8<E: Utf16Order>(wtf8: &[u8], to: &mut [u8]) -> Progress
 ///
 /// Linear time in the number of bytes read.
 pub fn from_wtf8_partial<E: Utf16Order>(wtf8: &[u8], to: &mut [u8]) -> Progress
-    ensures wrote { TranscodesPrefix (TranscodesFromWtf8 E.BIG) wtf8.now to.new result.read result.written }
+    ensures wrote { Writes (TranscodesFromWtf8 E.BIG) wtf8.now to.new result.read result.written }
     ensures stop { StopsFromWtf8Partial E.BIG wtf8.now result.read
         (length to.new - result.written) result.stop }
     ensures few { result.stop ≡ Incomplete → length wtf8.now ≤ result.read + 6 }

@@ -2,7 +2,7 @@
 //! own.
 
 ghost use Rattle.std.specs.Prelude.{◌≡◌, ◌≢◌, ◌+◌, ◌-◌, ◌≤◌, [], ◌∷◌, ◌++◌, drop, length, take};
-ghost use Rattle.utf16_transcode.specs.Transcoded.{TranscodesPrefix};
+ghost use Rattle.utf16_transcode.specs.Transcoded.{Writes};
 ghost use Rattle.utf16_transcode.specs.declared.progress.Stop.TheVariants.{Done, Incomplete, NoSpace};
 ghost use Rattle.utf16_wtf8.specs.FromWtf8.{LeavesLeading, StopsFromWtf8, StopsFromWtf8Partial, TranscodesFromWtf8};
 ghost use Rattle.utf16_wtf8.specs.Stream.{FeedsWtf8, StopsFeedingWtf8, encoded_len, wtf8_pending};
@@ -98,7 +98,7 @@ impl Wtf8Stream {
     /// begins. With `Incomplete`, the stream ends inside a code point, which was left out.
     /// `IllFormed` is returned only if `feed` did not set the fields of the stream.
     pub fn finish<E: Utf16Order>(&mut self, to: &mut [u8]) -> Progress
-        ensures wrote { TranscodesPrefix (TranscodesFromWtf8 E.BIG) (wtf8_pending self.old) to.new result.read
+        ensures wrote { Writes (TranscodesFromWtf8 E.BIG) (wtf8_pending self.old) to.new result.read
             result.written }
         ensures stop { StopsFromWtf8 E.BIG (wtf8_pending self.old) result.read
             (length to.new - result.written) result.stop }
@@ -138,7 +138,7 @@ impl Wtf8Stream {
 // six of them, so it reads all that are pending, unless it stops for a reason that stays.
 fn from_joined<E: Utf16Order>(pending: &[u8], chunk: &[u8], to: &mut [u8]) -> Progress
     requires { length pending.now ≤ 6 }
-    ensures wrote { TranscodesPrefix (TranscodesFromWtf8 E.BIG) (pending.now ++ chunk.now) to.new result.read
+    ensures wrote { Writes (TranscodesFromWtf8 E.BIG) (pending.now ++ chunk.now) to.new result.read
         result.written }
     ensures stop { StopsFromWtf8Partial E.BIG (pending.now ++ chunk.now) result.read
         (length to.new - result.written) result.stop }

@@ -1,5 +1,5 @@
 use Rattle.std.proofs.Common.{◌-◌, length, drop, arith, rules}
-use Rattle.utf16_transcode.specs.WholeText.{WritesWholeText}
+use Rattle.utf16_transcode.specs.WholeText.{WritesWhole}
 use Rattle.utf16_wtf8.specs.ToWtf8.{StopsToWtf8, points_of}
 use Rattle.utf16_wtf8.specs.Wtf8.{generalized_utf8}
 use Rattle.dethrux.specs.Numbers.{is_big, stop_of}
@@ -11,6 +11,6 @@ returns-clause-succeeds c enough =
     let big = is_big c.args.byte_order in
     let to = c.if-is_big_endian.to in
     let r = c.progress_of.result in
-    let shows : WritesWholeText (points_of big) generalized_utf8 c.args.utf16.now to r.read r.written = search rules in
+    let shows : WritesWhole (points_of big) generalized_utf8 c.args.utf16.now to r.read r.written = search rules in
     let stops : StopsToWtf8 big (drop r.read c.args.utf16.now) (length to - r.written) (stop_of r.status r.error_len) = search rules in
     to_wtf8_fits big c.args.utf16.now to r.read r.written _ (λ k. omega (arith, c.type_inv.utf16 k)) shows stops enough

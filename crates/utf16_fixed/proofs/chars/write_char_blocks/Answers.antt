@@ -1,6 +1,6 @@
 use Rattle.std.proofs.Common.{arith, drop, refl, subst, sym, take}
 use Rattle.std.proofs.lemmas.List.{take_rest}
-use Rattle.utf16_transcode.proofs.TranscodedLemmas.{TranscodesPrefix-then}
+use Rattle.utf16_transcode.proofs.TranscodedLemmas.{Writes-then}
 use Rattle.utf16_units.specs.Encoding.{Encodes, encode}
 use Rattle.utf16_fixed.proofs.PartLemmas.{length-rest}
 use Rattle.utf16_fixed.proofs.TextLemmas.{utf16_joins}
@@ -17,7 +17,7 @@ loop-done-preserved g c =
     let chars = take 8 (drop read utf32) in
     record {
       wrote =
-          TranscodesPrefix-then (utf16_joins big) _ _ _ _ _ 8 _ now.wrote
+          Writes-then (utf16_joins big) _ _ _ _ _ 8 _ now.wrote
           (record {
             within = omega (arith, length-rest utf32 read, now.wrote.within, c.loop-done-test.true);
             fits = omega (arith, end.ensures.written_to, end.auto.to, c.loop-done-test.true);

@@ -3,9 +3,9 @@ use Rattle.utf16_units.specs.Encoding.{IsUtf16, char_bytes}
 use Rattle.utf16_units.specs.IllFormed.{IsIllFormedAt}
 use Rattle.utf16_units.proofs.EncodingLemmas.{IsUtf16-from_Encodes}
 use Rattle.utf16_transcode.specs.Stops.{IsIllFormedUtf16}
-use Rattle.utf16_transcode.specs.Transcoded.{TranscodesPrefix}
+use Rattle.utf16_transcode.specs.Transcoded.{Writes}
 use Rattle.utf16_transcode.proofs.ToUtf8Lemmas.{faults_there}
-use Rattle.utf16_transcode.proofs.TranscodedLemmas.{TranscodesPrefix-none, TranscodesPrefix-then, stops_there}
+use Rattle.utf16_transcode.proofs.TranscodedLemmas.{Writes-none, Writes-then, stops_there}
 use Rattle.utf16_fixed.specs.Stops32.{StopsToUtf32}
 use Rattle.utf16_fixed.specs.Utf32.{TranscodesToUtf32, utf32_units}
 use Rattle.utf16_fixed.proofs.RoomLemmas.{to_utf32_fits}
@@ -15,16 +15,16 @@ use Rattle.utf16_fixed.proofs.decode.to_utf32.Goals as goal
 use Rattle.utf16_fixed.proofs.decode.to_utf32.Goals.{In-Err}
 
 pub loop-done-init : goal.loop-done-init
-loop-done-init g c = TranscodesPrefix-none (utf32_empty g.E.Utf16Order.BIG) _ _
+loop-done-init g c = Writes-none (utf32_empty g.E.Utf16Order.BIG) _ _
 
 pub loop-done-preserved : goal.loop-done-preserved
-loop-done-preserved g c = TranscodesPrefix-then (utf32_joins g.E.Utf16Order.BIG) _ _ _ _ _ _ _ c.write_run-done.ensures.wrote c.in-Ok.ensures.wrote
+loop-done-preserved g c = Writes-then (utf32_joins g.E.Utf16Order.BIG) _ _ _ _ _ _ _ c.write_run-done.ensures.wrote c.in-Ok.ensures.wrote
 
 -- an error leaves the buffer as it is
 kept : (g : Over) (c : In-Err g)
-    → TranscodesPrefix (TranscodesToUtf32 g.E.Utf16Order.BIG) c.args.raw.now c.write_next_char.new.to c.write_run-done.result.read c.write_run-done.result.written
+    → Writes (TranscodesToUtf32 g.E.Utf16Order.BIG) c.args.raw.now c.write_next_char.new.to c.write_run-done.result.read c.write_run-done.result.written
 kept g c =
-    subst (λ to. TranscodesPrefix (TranscodesToUtf32 g.E.Utf16Order.BIG) c.args.raw.now to c.write_run-done.result.read c.write_run-done.result.written)
+    subst (λ to. Writes (TranscodesToUtf32 g.E.Utf16Order.BIG) c.args.raw.now to c.write_run-done.result.read c.write_run-done.result.written)
     (sym c.in-Err.ensures.unchanged) c.write_run-done.ensures.wrote
 
 pub returns-in-Err-clause-wrote : goal.returns-in-Err-clause-wrote

@@ -1,12 +1,12 @@
 use Rattle.std.proofs.Common.{◌≤◌, ◌-◌, length}
-use Rattle.utf16_transcode.specs.Transcoded.{TranscodesPrefix}
+use Rattle.utf16_transcode.specs.Transcoded.{Writes}
 use Rattle.utf16_fixed.specs.Utf32.{TranscodesToUtf32}
 use Rattle.utf16_fixed.proofs.decode.write_pair_blocks.Given as goal
 
 -- what was read so far is written
 abbrev pub invariant-loop-read : goal.invariant-loop-read
 invariant-loop-read g l = record {
-  wrote : TranscodesPrefix (TranscodesToUtf32 g.E.Utf16Order.BIG) l.raw l.to l.read l.written;
+  wrote : Writes (TranscodesToUtf32 g.E.Utf16Order.BIG) l.raw l.to l.read l.written;
   after : l.fn.from.read ≤ l.read;
 }
 

@@ -1,7 +1,7 @@
 use Rattle.std.proofs.Common.{◌-◌, length, rules, subst, sym}
 use Rattle.utf16_units.specs.Encoding.{char_bytes}
-use Rattle.utf16_transcode.specs.Transcoded.{TranscodesPrefix}
-use Rattle.utf16_transcode.proofs.TranscodedLemmas.{TranscodesPrefix-none, TranscodesPrefix-then, stops_there}
+use Rattle.utf16_transcode.specs.Transcoded.{Writes}
+use Rattle.utf16_transcode.proofs.TranscodedLemmas.{Writes-none, Writes-then, stops_there}
 use Rattle.utf16_fixed.specs.Stops32.{IsIllFormedUtf32, IsIllFormedUtf32At, StopsFromUtf32}
 use Rattle.utf16_fixed.specs.Utf32.{IsUtf32, TranscodesFromUtf32, utf32_units}
 use Rattle.utf16_fixed.proofs.RoomLemmas.{from_utf32_fits}
@@ -12,16 +12,16 @@ use Rattle.utf16_fixed.proofs.encode.from_utf32.Goals as goal
 use Rattle.utf16_fixed.proofs.encode.from_utf32.Goals.{In-Err}
 
 pub loop-done-init : goal.loop-done-init
-loop-done-init g c = TranscodesPrefix-none (utf16_empty g.E.Utf16Order.BIG) _ _
+loop-done-init g c = Writes-none (utf16_empty g.E.Utf16Order.BIG) _ _
 
 pub loop-done-preserved : goal.loop-done-preserved
-loop-done-preserved g c = TranscodesPrefix-then (utf16_joins g.E.Utf16Order.BIG) _ _ _ _ _ _ _ c.write_run-done.ensures.wrote c.in-Ok.ensures.wrote
+loop-done-preserved g c = Writes-then (utf16_joins g.E.Utf16Order.BIG) _ _ _ _ _ _ _ c.write_run-done.ensures.wrote c.in-Ok.ensures.wrote
 
 -- an error leaves the buffer as it is
 kept : (g : Over) (c : In-Err g)
-    → TranscodesPrefix (TranscodesFromUtf32 g.E.Utf16Order.BIG) c.args.utf32.now c.write_next_char.new.to c.write_run-done.result.read c.write_run-done.result.written
+    → Writes (TranscodesFromUtf32 g.E.Utf16Order.BIG) c.args.utf32.now c.write_next_char.new.to c.write_run-done.result.read c.write_run-done.result.written
 kept g c =
-    subst (λ to. TranscodesPrefix (TranscodesFromUtf32 g.E.Utf16Order.BIG) c.args.utf32.now to c.write_run-done.result.read c.write_run-done.result.written)
+    subst (λ to. Writes (TranscodesFromUtf32 g.E.Utf16Order.BIG) c.args.utf32.now to c.write_run-done.result.read c.write_run-done.result.written)
     (sym c.in-Err.ensures.unchanged) c.write_run-done.ensures.wrote
 
 pub returns-in-Err-clause-wrote : goal.returns-in-Err-clause-wrote

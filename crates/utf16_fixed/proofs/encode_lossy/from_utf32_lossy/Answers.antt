@@ -1,7 +1,7 @@
 use Rattle.std.proofs.Common.{◌+◌, ◌-◌, ◌++◌, ◌∙◌, Some, ap, length, take, rules, subst}
 use borrow.Rule.Slice.PartMut.{put_mid}
 use Rattle.utf16_units.proofs.IllFormedLemmas.{rest_from}
-use Rattle.utf16_transcode.proofs.TranscodedLemmas.{TranscodesPrefix-none}
+use Rattle.utf16_transcode.proofs.TranscodedLemmas.{Writes-none}
 use Rattle.utf16_fixed.specs.Stops32.{IsIllFormedUtf32, StopsFromUtf32}
 use Rattle.utf16_fixed.proofs.ShowsLemmas.{from_utf32_lossy_fits, full_before_other, shown_empty, shown_marked, shown_rest, stops_shown}
 use Rattle.utf16_fixed.proofs.encode_lossy.from_utf32_lossy.Given.{Over}
@@ -9,7 +9,7 @@ use Rattle.utf16_fixed.proofs.encode_lossy.from_utf32_lossy.Goals as goal
 use Rattle.utf16_fixed.proofs.encode_lossy.from_utf32_lossy.Goals.{In-IllFormed}
 
 pub loop-replacement-init : goal.loop-replacement-init
-loop-replacement-init g c = TranscodesPrefix-none (shown_empty g.E.Utf16Order.BIG) _ _
+loop-replacement-init g c = Writes-none (shown_empty g.E.Utf16Order.BIG) _ _
 
 pub returns-in_default : goal.returns-in_default
 returns-in_default g c =

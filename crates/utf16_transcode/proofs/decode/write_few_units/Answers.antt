@@ -2,12 +2,12 @@ use Rattle.std.proofs.Common.{◌≡◌, ◌%◌, length-take-le, None, arith, r
 use Rattle.utf16_units.proofs.BackChar.{length-even}
 use Rattle.utf16_transcode.proofs.AsciiLemmas.{ascii_unit}
 use Rattle.utf16_transcode.proofs.ToUtf8Lemmas.{utf8_joins}
-use Rattle.utf16_transcode.proofs.TranscodedLemmas.{TranscodesPrefix-then}
+use Rattle.utf16_transcode.proofs.TranscodedLemmas.{Writes-then}
 use Rattle.utf16_transcode.proofs.decode.write_few_units.Goals as goal
 
 pub loop-read-preserved : goal.loop-read-preserved
 loop-read-preserved g c = record {
-  wrote = TranscodesPrefix-then (utf8_joins g.E.Utf16Order.BIG) _ _ _ _ _ _ _ c.loop-read.invariant.wrote c.in-Some.ensures.puts;
+  wrote = Writes-then (utf8_joins g.E.Utf16Order.BIG) _ _ _ _ _ _ _ c.loop-read.invariant.wrote c.in-Some.ensures.puts;
   space = search rules;
 }
 

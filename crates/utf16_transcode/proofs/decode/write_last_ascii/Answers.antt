@@ -4,10 +4,10 @@ use Rattle.std.proofs.lemmas.List.{take_rest}
 use Rattle.utf16_units.proofs.IllFormedLemmas.{rest_from}
 use Rattle.utf16_units.specs.Encoding.{units_of}
 use Rattle.utf16_units.proofs.BackChar.{length-even}
-use Rattle.utf16_transcode.specs.Transcoded.{TranscodesToUtf8, TranscodesPrefix}
+use Rattle.utf16_transcode.specs.Transcoded.{TranscodesToUtf8, Writes}
 use Rattle.utf16_transcode.proofs.LastLemmas.{taken_back, written_half}
 use Rattle.utf16_transcode.proofs.ToUtf8Lemmas.{utf8_joins}
-use Rattle.utf16_transcode.proofs.TranscodedLemmas.{TranscodesPart-put, TranscodesPrefix-then}
+use Rattle.utf16_transcode.proofs.TranscodedLemmas.{WritesAt-put, Writes-then}
 use Rattle.utf16_transcode.proofs.decode.write_last_ascii.Goals as goal
 
 pub overflow_sub-end-2 : goal.overflow_sub-end-2
@@ -41,7 +41,7 @@ returns g c =
     let even : read % 2 ≡ 0 = omega (arith, length-even big _ before.gives.0, length-take-le read raw before.within) in
     let back = taken_back big raw to read written start 16 before (omega (arith, c.requires.few, all)) (omega (arith, even, c.requires.ascii, all)) (omega (arith, c.if-end-from.false, all)) low end
     (omega (arith, even, c.requires.ascii, c.requires.few, all, there)) in
-    subst (λ n. TranscodesPrefix (TranscodesToUtf8 big) raw (put_mid end (length to - end) to part) n c.args.end.written) all
-    (subst (TranscodesPrefix (TranscodesToUtf8 big) raw (put_mid end (length to - end) to part) (start + 16)) there
-    (TranscodesPrefix-then (utf8_joins big) raw to _ start end 16 (end + 8) back
-    (TranscodesPart-put (rest_from raw start) to part (take 8 part) end 16 8 back.fits (search rules) (search rules) (eight.well_formed refl, eight.utf8 refl) refl (search rules))))
+    subst (λ n. Writes (TranscodesToUtf8 big) raw (put_mid end (length to - end) to part) n c.args.end.written) all
+    (subst (Writes (TranscodesToUtf8 big) raw (put_mid end (length to - end) to part) (start + 16)) there
+    (Writes-then (utf8_joins big) raw to _ start end 16 (end + 8) back
+    (WritesAt-put (rest_from raw start) to part (take 8 part) end 16 8 back.fits (search rules) (search rules) (eight.well_formed refl, eight.utf8 refl) refl (search rules))))

@@ -2,13 +2,13 @@ use Rattle.std.proofs.Common.{◌≡◌, ◌≤◌, ◌++◌, ℕ, Bool, List, l
 use Rattle.std.specs.Char.{encode_utf8}
 use Rattle.utf16_units.specs.Encoding.{char_bytes}
 use Rattle.utf16_transcode.specs.Stops.{BeginsWith}
-use Rattle.utf16_transcode.specs.Transcoded.{TranscodesPart, TranscodesToUtf8}
+use Rattle.utf16_transcode.specs.Transcoded.{WritesAt, TranscodesToUtf8}
 use Rattle.utf16_transcode.proofs.ToUtf8Lemmas.{char_gives}
 use Rattle.utf16_transcode.proofs.TranscodedLemmas.{first_gives}
 use Rattle.utf16_transcode.proofs.decode.write_plain_unit.Goals as goal
 
 one : (big : Bool) (rest old new : List ℕ) (at c end : ℕ) → BeginsWith (char_bytes big) rest c 2 → end ≤ length new → take end new ≡ take at old ++ encode_utf8 c
-    → TranscodesPart (TranscodesToUtf8 big) rest old new at 2 end
+    → WritesAt (TranscodesToUtf8 big) rest old new at 2 end
 one big rest old new at c end first fits bytes = record {
   within = first.within;
   fits = fits;

@@ -1,12 +1,12 @@
 use Rattle.std.proofs.Common.{slice_index, refl, arith}
 use Rattle.utf16_units.proofs.CharLemmas.{char_size_two}
 use Rattle.utf16_transcode.proofs.FromUtf8Lemmas.{ascii-more, utf16_empty}
-use Rattle.utf16_transcode.proofs.TranscodedLemmas.{TranscodesPrefix-none}
+use Rattle.utf16_transcode.proofs.TranscodedLemmas.{Writes-none}
 use Rattle.utf16_transcode.proofs.encode.write_ascii_chars.Goals as goal
 
 pub loop-len-init : goal.loop-len-init
 loop-len-init g c = record {
-  wrote = TranscodesPrefix-none (utf16_empty g.E.Utf16Order.BIG) _ _;
+  wrote = Writes-none (utf16_empty g.E.Utf16Order.BIG) _ _;
   twice = refl;
   most = omega arith;
 }

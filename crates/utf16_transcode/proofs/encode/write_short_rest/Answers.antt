@@ -1,7 +1,7 @@
 use Rattle.std.proofs.Common.{arith}
 use Rattle.std.specs.Char.{encode_utf8}
 use Rattle.utf16_units.specs.Encoding.{char_bytes}
-use Rattle.utf16_transcode.proofs.TranscodedLemmas.{TranscodesPrefix-then, first_gives}
+use Rattle.utf16_transcode.proofs.TranscodedLemmas.{Writes-then, first_gives}
 use Rattle.utf16_transcode.specs.FromUtf8.{TranscodesToUtf16}
 use Rattle.utf16_transcode.proofs.FromUtf8Lemmas.{char_gives, utf16_joins}
 use Rattle.utf16_transcode.proofs.encode.write_short_rest.Goals as goal
@@ -13,7 +13,7 @@ loop-read-preserved g c =
     let now = c.loop-read.invariant in
     record {
       wrote =
-          TranscodesPrefix-then (utf16_joins big) _ _ _ _ _ _ _ now.wrote
+          Writes-then (utf16_joins big) _ _ _ _ _ _ _ now.wrote
           record {
             within = first.within;
             fits = c.write_char-written.ensures.within;

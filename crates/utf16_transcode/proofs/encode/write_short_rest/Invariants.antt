@@ -1,12 +1,12 @@
 use Rattle.std.proofs.Common.{◌-◌, ◌≤◌, length}
-use Rattle.utf16_transcode.specs.Transcoded.{TranscodesPrefix}
+use Rattle.utf16_transcode.specs.Transcoded.{Writes}
 use Rattle.utf16_transcode.specs.FromUtf8.{TranscodesToUtf16}
 use Rattle.utf16_transcode.proofs.encode.write_short_rest.Given as goal
 
 -- what was read so far is written
 abbrev pub invariant-loop-read : goal.invariant-loop-read
 invariant-loop-read g l = record {
-  wrote : TranscodesPrefix (TranscodesToUtf16 g.E.Utf16Order.BIG) l.text l.to l.read l.written;
+  wrote : Writes (TranscodesToUtf16 g.E.Utf16Order.BIG) l.text l.to l.read l.written;
   more : l.fn.from.read ≤ l.read;
 }
 

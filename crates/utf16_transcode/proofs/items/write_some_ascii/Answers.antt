@@ -1,7 +1,7 @@
 use Rattle.std.proofs.Common.{◌≡◌, ◌*◌, ◌∙◌, ap, arith, length, length-take-le, subst, sym, take, take-take}
 use Rattle.std.proofs.lemmas.List.{get_or-take, length-map}
 use Rattle.std.specs.Str.{IsAscii}
-use Rattle.utf16_transcode.proofs.TranscodedLemmas.{TranscodesPrefix-none}
+use Rattle.utf16_transcode.proofs.TranscodedLemmas.{Writes-none}
 use Rattle.utf16_transcode.proofs.AsciiFront.{ascii-all, front-low, low-ascii, wrote-front}
 use Rattle.utf16_transcode.proofs.FromUtf8Lemmas.{utf16_empty}
 use Rattle.utf16_transcode.proofs.items.write_some_ascii.Given.{Over}
@@ -9,10 +9,10 @@ use Rattle.utf16_transcode.proofs.items.write_some_ascii.Goals as goal
 use Rattle.utf16_transcode.proofs.items.write_some_ascii.Goals.{After-low_bits}
 
 pub returns-then-text-lt16-clause-wrote : goal.returns-then-text-lt16-clause-wrote
-returns-then-text-lt16-clause-wrote g c = TranscodesPrefix-none (utf16_empty g.E.Utf16Order.BIG) _ _
+returns-then-text-lt16-clause-wrote g c = Writes-none (utf16_empty g.E.Utf16Order.BIG) _ _
 
 pub returns-then-len-lt4-clause-wrote : goal.returns-then-len-lt4-clause-wrote
-returns-then-len-lt4-clause-wrote g c = TranscodesPrefix-none (utf16_empty g.E.Utf16Order.BIG) _ _
+returns-then-len-lt4-clause-wrote g c = Writes-none (utf16_empty g.E.Utf16Order.BIG) _ _
 
 low : (g : Over) (c : After-low_bits g) → IsAscii c.low_bits.result
 low g c = subst (λ b. IsAscii b) (sym c.low_bits.ensures) (low-ascii (take 16 c.args.text.now))

@@ -4,7 +4,7 @@ use Rattle.utf16_units.specs.Split.{split_tail}
 use Rattle.utf16_transcode.proofs.WholeLemmas.{end_does_not_fit}
 use Rattle.utf16_wtf8.specs.ToWtf8.{DecodesToWtf8, StopsBeforeTail, StopsToWtf8, tail_points, wtf8_parts}
 use Rattle.utf16_wtf8.specs.Wtf8.{generalized_utf8}
-use Rattle.utf16_wtf8.proofs.DecodeLemmas.{WritesWholeText-certain, WritesWholeText-tail, all_left, odd_left, stops_certain}
+use Rattle.utf16_wtf8.proofs.DecodeLemmas.{WritesWhole-certain, WritesWhole-tail, all_left, odd_left, stops_certain}
 use Rattle.utf16_wtf8.proofs.ToWtf8Lemmas.{wtf8_chunks}
 use Rattle.utf16_wtf8.proofs.decode.to_wtf8.Given.{Over}
 use Rattle.utf16_wtf8.proofs.decode.to_wtf8.Goals as goal
@@ -14,7 +14,7 @@ pub returns-in_default : goal.returns-in_default
 returns-in_default g c =
     let front = c.to_wtf8_partial-front in
     record {
-      shown = WritesWholeText-certain g.E.Utf16Order.BIG c.args.raw.now front.new.to front.result.read front.result.written front.ensures.decodes;
+      shown = WritesWhole-certain g.E.Utf16Order.BIG c.args.raw.now front.new.to front.result.read front.result.written front.ensures.decodes;
       stop = stops_certain g.E.Utf16Order.BIG _ _ front.result.stop c.in_default.not-Incomplete front.ensures.stop;
       between = λ full. front.ensures.decodes;
     }
@@ -27,7 +27,7 @@ tail g c = subst (StopsBeforeTail g.E.Utf16Order.BIG _ _) c.in-Incomplete.is c.t
 pub returns-in_default-write_end-clause-shown : goal.returns-in_default-write_end-clause-shown
 returns-in_default-write_end-clause-shown g c =
     let front = c.to_wtf8_partial-front in
-    WritesWholeText-certain g.E.Utf16Order.BIG c.args.raw.now c.write_end.new.to front.result.read front.result.written
+    WritesWhole-certain g.E.Utf16Order.BIG c.args.raw.now c.write_end.new.to front.result.read front.result.written
     (subst (λ to. DecodesToWtf8 g.E.Utf16Order.BIG c.args.raw.now to front.result.read front.result.written) (sym (c.write_end.ensures.unchanged c.in_default-write_end.is)) front.ensures.decodes)
 
 pub returns-in_default-write_end-clause-stop : goal.returns-in_default-write_end-clause-stop
@@ -41,7 +41,7 @@ pub returns-clause-shown : goal.returns-clause-shown
 returns-clause-shown g c =
     let front = c.to_wtf8_partial-front in
     let cut = tail g (goal.at.returns-clause-shown g c).In-Incomplete in
-    WritesWholeText-tail g.E.Utf16Order.BIG c.args.raw.now front.new.to front.result.read front.result.written front.ensures.decodes c.write_end.new.to c.in-Some.written
+    WritesWhole-tail g.E.Utf16Order.BIG c.args.raw.now front.new.to front.result.read front.result.written front.ensures.decodes c.write_end.new.to c.in-Some.written
     cut.1 c.in-Some.ensures.within c.in-Some.ensures.bytes
 
 pub returns-clause-stop : goal.returns-clause-stop

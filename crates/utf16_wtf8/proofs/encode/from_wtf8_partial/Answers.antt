@@ -2,7 +2,7 @@ use Rattle.std.proofs.Common.{arith, inr, refl, subst, true}
 use Rattle.utf16_transcode.specs.declared.progress.Stop.TheVariants.{Incomplete}
 use Rattle.utf16_wtf8.specs.FromWtf8.{EndsLeading, ReadsWtf8}
 use Rattle.utf16_wtf8.proofs.FewLemmas.{few_left}
-use Rattle.utf16_wtf8.proofs.PartialLemmas.{TranscodesPrefix-before, ended, ends_as_read, leaves_leading, leaves_no_leading, stops_kept, three_read, two_written}
+use Rattle.utf16_wtf8.proofs.PartialLemmas.{Writes-before, ended, ends_as_read, leaves_leading, leaves_no_leading, stops_kept, three_read, two_written}
 use Rattle.utf16_wtf8.proofs.encode.from_wtf8_partial.Given.{Over}
 use Rattle.utf16_wtf8.proofs.encode.from_wtf8_partial.Goals as goal
 use Rattle.utf16_wtf8.proofs.encode.from_wtf8_partial.Goals.{In-Done}
@@ -34,7 +34,7 @@ pub overflow_sub-result-in-Done : goal.overflow_sub-result-in-Done
 overflow_sub-result-in-Done g c = two_written _ _ _ _ _ (leading g (goal.at.overflow_sub-result-in-Done g c).In-Done)
 
 pub returns-in-Done-clause-wrote : goal.returns-in-Done-clause-wrote
-returns-in-Done-clause-wrote g c = TranscodesPrefix-before _ _ _ _ _ (leading g (goal.at.returns-in-Done-clause-wrote g c).In-Done)
+returns-in-Done-clause-wrote g c = Writes-before _ _ _ _ _ (leading g (goal.at.returns-in-Done-clause-wrote g c).In-Done)
 
 pub returns-in-Done-clause-stop : goal.returns-in-Done-clause-stop
 returns-in-Done-clause-stop g c =

@@ -1,5 +1,5 @@
 use Rattle.std.proofs.Common.{◌≡◌, ◌-◌, ◌<◌, ◌≤◌, length, take, arith, length-take, rules}
-use Rattle.utf16_wtf8.proofs.StreamLemmas.{ReadStart, TranscodesPrefix-joined, TranscodesPrefix-window, fits_joined, leaves_all, read_start, start_within, stops_all, stops_joined, stops_window}
+use Rattle.utf16_wtf8.proofs.StreamLemmas.{ReadStart, Writes-joined, Writes-window, fits_joined, leaves_all, read_start, start_within, stops_all, stops_joined, stops_window}
 use Rattle.utf16_wtf8.proofs.stream.from_joined.Given.{Over}
 use Rattle.utf16_wtf8.proofs.stream.from_joined.Goals as goal
 use Rattle.utf16_wtf8.proofs.stream.from_joined.Goals.{In-Done, Then-len-lt-JOINED_LEN}
@@ -38,7 +38,7 @@ slice_bounds-behind-start g c = within g (goal.at.slice_bounds-behind-start g c)
 
 pub returns-in-IllFormed-clause-wrote : goal.returns-in-IllFormed-clause-wrote
 returns-in-IllFormed-clause-wrote g c =
-    TranscodesPrefix-window g.E.Utf16Order.BIG c.args.pending.now c.args.chunk.now _ c.joined_start-len.ensures.bytes _ _ _ c.from_wtf8_partial-front.ensures.wrote
+    Writes-window g.E.Utf16Order.BIG c.args.pending.now c.args.chunk.now _ c.joined_start-len.ensures.bytes _ _ _ c.from_wtf8_partial-front.ensures.wrote
 
 pub returns-in-IllFormed-clause-stop : goal.returns-in-IllFormed-clause-stop
 returns-in-IllFormed-clause-stop g c =
@@ -47,7 +47,7 @@ returns-in-IllFormed-clause-stop g c =
 
 pub returns-in-Done-clause-wrote : goal.returns-in-Done-clause-wrote
 returns-in-Done-clause-wrote g c =
-    TranscodesPrefix-joined _ _ _ _ _ _ _ _ _ (start g (goal.at.returns-in-Done-clause-wrote g c).In-Done) c.from_wtf8_partial-rest.ensures.wrote (search rules)
+    Writes-joined _ _ _ _ _ _ _ _ _ (start g (goal.at.returns-in-Done-clause-wrote g c).In-Done) c.from_wtf8_partial-rest.ensures.wrote (search rules)
 
 pub returns-in-Done-clause-stop : goal.returns-in-Done-clause-stop
 returns-in-Done-clause-stop g c =

@@ -3,7 +3,7 @@ use Rattle.std.proofs.lemmas.Bool.{cases_lt}
 use Rattle.std.proofs.lemmas.Str.{IsCharBoundary-from_take}
 use Rattle.std.specs.Str.{IsCharBoundary, IsUtf8, chars}
 use Rattle.utf16_units.specs.Encoding.{size}
-use Rattle.utf16_transcode.specs.Transcoded.{TranscodesToUtf8, TranscodesPrefix}
+use Rattle.utf16_transcode.specs.Transcoded.{TranscodesToUtf8, Writes}
 use Rattle.utf16_transcode.proofs.DecodePrefixLemmas.{boundary_is_near, prefix_to_utf8, utf8_given}
 use Rattle.utf16_transcode.proofs.decode.ToUtf8Direction.fitting_prefix.Goals as goal
 
@@ -19,7 +19,7 @@ returns-clause-prefix g c =
     let same = c.from_utf8_unchecked-text.ensures in
     let all : end.result - 0 ≡ end.result = omega arith in
     let front = c.range.ensures.value ∙ ap (λ n. take n c.from_utf8_unchecked-text.result.now) all ∙ ap (take end.result) same in
-    subst (λ n. TranscodesPrefix (TranscodesToUtf8 big) text utf8 n end.result) (sym (c.utf16_len.ensures ∙ ap (λ t. size (chars t)) front))
+    subst (λ n. Writes (TranscodesToUtf8 big) text utf8 n end.result) (sym (c.utf16_len.ensures ∙ ap (λ t. size (chars t)) front))
     (prefix_to_utf8 big text utf8 end.result c.requires.text (subst (λ t. IsCharBoundary t end.result) same end.ensures.boundary))
 
 pub returns-clause-most : goal.returns-clause-most

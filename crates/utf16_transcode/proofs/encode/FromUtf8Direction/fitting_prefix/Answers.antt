@@ -3,7 +3,7 @@ use Rattle.utf16_units.specs.Boundary.{IsBoundary}
 use Rattle.utf16_units.specs.Encoding.{text_of}
 use Rattle.utf16_units.proofs.BoundaryLemmas.{Encodes-to}
 use Rattle.utf16_units.proofs.EncodingLemmas.{Encodes-text_of, IsUtf16-from_Encodes, text_of-Encodes}
-use Rattle.utf16_transcode.specs.Transcoded.{TranscodesPrefix}
+use Rattle.utf16_transcode.specs.Transcoded.{Writes}
 use Rattle.utf16_transcode.specs.FromUtf8.{TranscodesToUtf16}
 use Rattle.utf16_transcode.proofs.EncodePrefixLemmas.{boundary_of, encoded, prefix_to_utf16}
 use Rattle.utf16_transcode.proofs.encode.FromUtf8Direction.fitting_prefix.Goals as goal
@@ -24,7 +24,7 @@ returns-clause-prefix g c =
     let utf8 = c.args._text.now in
     let end = c.last_boundary-end in
     let same = text_of-Encodes _ _ _ (encoded big utf8 c.args.written.now c.requires.text) in
-    subst (λ n. TranscodesPrefix (TranscodesToUtf16 big) utf8 c.args.written.now n end.result) (sym c.utf8_len.ensures)
+    subst (λ n. Writes (TranscodesToUtf16 big) utf8 c.args.written.now n end.result) (sym c.utf8_len.ensures)
     (prefix_to_utf16 big utf8 c.args.written.now end.result c.requires.text (subst (λ t. IsBoundary t end.result) same end.ensures.boundary))
 
 pub returns-clause-longest : goal.returns-clause-longest
