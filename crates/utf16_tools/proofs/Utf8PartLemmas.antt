@@ -6,7 +6,7 @@ use Rattle.utf16_units.specs.Encoding.{Encodes, char_bytes, size}
 use Rattle.utf16_units.proofs.EncodingLemmas.{size-append}
 use Rattle.utf8_bytes.specs.Split.{AreItems, IsItem, IsTail, Item, decided_text, good, ill, items_bytes, lossy_char, lossy_chars, split_items, split_tail}
 use Rattle.utf8_bytes.proofs.LawProofs.{cut_anywhere, split_extends}
-use Rattle.utf8_bytes.proofs.ResumesLemmas.{split_of_tail, tail_ends}
+use Rattle.utf8_bytes.proofs.RecipeLemmas.{split_of_tail, tail_ends}
 use Rattle.utf8_bytes.proofs.ShownLemmas.{length-IsTail}
 use Rattle.utf8_bytes.proofs.SplitLemmas.{Split-computed}
 use Rattle.utf16_transcode.proofs.DecodesUtf8.{flat_encode}

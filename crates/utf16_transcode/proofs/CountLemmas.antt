@@ -6,7 +6,7 @@ use Rattle.utf16_units.specs.Recipe.{Recipe, incomplete, resumed, valid}
 use Rattle.utf16_units.specs.Split.{good, split_items}
 use Rattle.utf16_units.proofs.EncodingLemmas.{Encodes-text_of, IsUtf16-from_Encodes}
 use Rattle.utf16_units.proofs.FirstChar.{AreBytes, first_unit}
-use Rattle.utf16_units.proofs.RecipeLemmas.{split_of_recipe, split_text, two}
+use Rattle.utf16_units.proofs.RecipeLemmas.{split_text, two, utf16_recipe}
 use Rattle.utf16_units.proofs.SplitIllFormed.{lone_item, split_items-fault, split_items-incomplete, split_tail-fault, split_tail-incomplete}
 use Rattle.utf16_transcode.specs.Replaced.{cut_off, ill_formed_count}
 use Rattle.utf16_transcode.specs.Unpaired.{lone_items}
@@ -49,9 +49,9 @@ module _ (big : Bool) (bytes : List ℕ) where
 
 none_by : {big : Bool} {bytes text kept : List ℕ} → AreBytes bytes → Recipe big bytes text kept → ill_formed_count big bytes ≡ 0 → IsUtf16 big bytes
 none_by {big} are (valid bytes text e) none = IsUtf16-from_Encodes big text bytes e
-none_by {big} are (resumed bytes front text kept n len at wrong e rest) none = absurd (omega (arith, count_fault big bytes n len are at wrong, none))
-none_by {big} are (incomplete bytes front n at wrong e) none = absurd (omega (arith, count_cut_off big bytes n at wrong, none))
+none_by {big} are (resumed bytes front text kept n len at e rest) none = absurd (omega (arith, count_fault big bytes n len are at.0 at.1, none))
+none_by {big} are (incomplete bytes front n at e) none = absurd (omega (arith, count_cut_off big bytes n at.0 at.1, none))
 
 -- there is none exactly if the bytes are a text
 pub count_none : (big : Bool) (bytes : List ℕ) → AreBytes bytes → (ill_formed_count big bytes ≡ 0) ↔ IsUtf16 big bytes
-count_none big bytes are = (none_by are (split_of_recipe big bytes are), count_text big bytes)
+count_none big bytes are = (none_by are (utf16_recipe big bytes are), count_text big bytes)

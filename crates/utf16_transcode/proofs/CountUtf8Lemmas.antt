@@ -2,9 +2,10 @@
 use Rattle.std.proofs.Common.{◌≡◌, ◌↔◌, ℕ, suc, ◌+◌, List, [], ◌∷◌, ◌++◌, None, Some, map, take, drop, refl, sym, ap, ap₂, ◌∙◌, arith, append-nil, length-drop}
 use Rattle.std.specs.Str.{IsUtf8, IsValidUpTo, chars}
 use Rattle.std.specs.Str.Lossy.{utf8_error_len}
-use Rattle.utf8_bytes.specs.Recipe.{Recipe, incomplete, resumed, valid}
+use Rattle.utf16_units.specs.Recipe.{incomplete, resumed, valid}
+use Rattle.utf8_bytes.specs.Recipe.{Recipe}
 use Rattle.utf8_bytes.specs.Split.{Item, good, ill, split_items}
-use Rattle.utf8_bytes.proofs.RecipeLemmas.{split_of_recipe}
+use Rattle.utf8_bytes.proofs.RecipeLemmas.{utf8_recipe}
 use Rattle.utf8_bytes.proofs.SplitIllFormed.{split_items-fault, split_items-incomplete, split_tail-fault, split_tail-incomplete}
 use Rattle.utf8_bytes.proofs.TextLemmas.{split_text}
 use Rattle.utf16_transcode.specs.Replaced.{cut_off, ill_formed_utf8_count, ill_items}
@@ -45,10 +46,10 @@ module _ (bytes : List ℕ) (n : ℕ) (at : IsValidUpTo bytes n) where
       ∙ omega (arith, text_none (chars (take n bytes)), some)
 
 none_by : {bytes text kept : List ℕ} → Recipe bytes text kept → ill_formed_utf8_count bytes ≡ 0 → IsUtf8 bytes
-none_by (valid bytes text) none = text
-none_by (resumed bytes text kept n len at error rest) none = absurd (omega (arith, count_fault bytes n at len error, none))
-none_by (incomplete bytes n at error) none = absurd (omega (arith, count_cut_off bytes n at error, none))
+none_by (valid bytes text e) none = e.0
+none_by (resumed bytes front text kept n len at e rest) none = absurd (omega (arith, count_fault bytes n at.0 len at.1, none))
+none_by (incomplete bytes front n at e) none = absurd (omega (arith, count_cut_off bytes n at.0 at.1, none))
 
 -- there is none exactly if the bytes are a text
 pub count_none : (bytes : List ℕ) → (ill_formed_utf8_count bytes ≡ 0) ↔ IsUtf8 bytes
-count_none bytes = (none_by (split_of_recipe bytes), count_text bytes)
+count_none bytes = (none_by (utf8_recipe bytes), count_text bytes)

@@ -14,13 +14,13 @@ use Rattle.utf16_units.specs.Laws.{BoundaryCuts, CutAnywhere, EncodedText, Found
 use Rattle.utf16_units.proofs.PartLemmas.{IsBoundary-append, IsBoundary-even, cut_at, text_between-append, text_between-behind, text_between-whole}
 use Rattle.utf16_units.proofs.BoundaryLemmas.{Encodes-between, IsBoundary-at_unit, IsBoundary-end, IsBoundary-start, char_size-pos, size-text_to, text_from-at, text_to-at, text_to-text_from}
 use Rattle.utf16_units.proofs.ContinuedLemmas.{none_where, two_never}
-use Rattle.utf16_units.proofs.FirstChar.{AreBytes-from_All, first_unit}
+use Rattle.utf16_units.proofs.FirstChar.{AreBytes, AreBytes-from_All, first_unit}
 use Rattle.utf16_units.proofs.FrontChar.{first_unit-char}
 use Rattle.utf16_units.proofs.EncodingLemmas.{All-after, IsUtf16-from_Encodes, all_scalars-from_All, encode-append, encode-cons, encode-nil, length-encode, size-append, size-cons, text_of-Encodes, text_of-encode, text_of-encode_then}
-use Rattle.utf16_units.specs.Recipe.{Recipe, Resumes}
+use Rattle.utf16_units.specs.Recipe.{utf16_coding}
 use Rattle.utf16_units.specs.Split.{lossy_char, lossy_chars, split_items, split_tail}
-use Rattle.utf16_units.proofs.RecipeLemmas.{lossy_chars-good, recipe_of_split, split_of_recipe, split_text}
-use Rattle.utf16_units.proofs.ResumesLemmas.{resumes_of_split, split_of_resumes}
+use Rattle.utf16_units.proofs.RecipeLemmas.{lossy_chars-good, split_text, splits}
+use Rattle.utf16_units.proofs.Resuming.{recipe_is_split as split_by_recipe, resumes_is_split as split_by_resuming}
 use Rattle.utf16_units.proofs.ShownLemmas.{split_within}
 use Rattle.utf16_units.proofs.SplitLemmas.{Split-computed}
 use Rattle.utf16_units.proofs.SplitUnique.{Split-unique}
@@ -55,24 +55,11 @@ split_extends big front back = (split_items-append big front back, split_tail-ap
 
 pub recipe_is_split : RecipeIsSplit
 recipe_is_split big bytes text kept all =
-    let are = AreBytes-from_All bytes all in (
-      (λ recipe.
-          let same = recipe_of_split are recipe in
-          (same.shown, same.tail)),
-      (λ same.
-          subst (λ t. Recipe big bytes t kept) (sym same.0)
-          (subst (Recipe big bytes (lossy_chars (split_items big bytes))) (sym same.1) (split_of_recipe big bytes are))),
-    )
+    split_by_recipe (utf16_coding big) AreBytes (λ b. lossy_chars (split_items big b)) (split_tail big) (splits big) bytes text kept (AreBytes-from_All bytes all)
 
 pub resumes_is_split : ResumesIsSplit
-resumes_is_split big pieces text kept all = (
-  (λ resumes.
-      let same = split_of_resumes all resumes in
-      (same.shown, same.tail)),
-  (λ same.
-      subst (λ t. Resumes big [] pieces t kept) (sym same.0)
-      (subst (Resumes big [] pieces (lossy_chars (split_items big (concat pieces)))) (sym same.1) (resumes_of_split big pieces all))),
-)
+resumes_is_split big pieces text kept all =
+    split_by_resuming (utf16_coding big) AreBytes (λ b. lossy_chars (split_items big b)) (split_tail big) (splits big) pieces text kept (AreBytes-from_All (concat pieces) all)
 
 pub text_is_shown : TextIsShown
 text_is_shown big text bytes e =

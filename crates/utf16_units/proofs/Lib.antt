@@ -11,8 +11,8 @@ pub mod SplitLemmas
 pub mod SplitUnique
 pub mod SplitJoin
 pub mod SplitIllFormed
+pub mod Resuming
 pub mod RecipeLemmas
-pub mod ResumesLemmas
 pub mod ShownLemmas
 pub mod FrontChar
 pub mod BoundaryLemmas

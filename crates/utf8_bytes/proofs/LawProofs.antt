@@ -6,10 +6,10 @@ use Rattle.utf8_bytes.specs.Split.{lossy_char, lossy_chars, split_items, split_t
 use Rattle.utf8_bytes.proofs.SplitLemmas.{Split-computed}
 use Rattle.utf8_bytes.proofs.SplitUnique.{Split-same, split_items-append, split_tail-append}
 use Rattle.utf8_bytes.proofs.TextLemmas.{shown_encode}
-use Rattle.utf8_bytes.specs.Recipe.{Recipe, Resumes}
-use Rattle.utf8_bytes.proofs.RecipeLemmas.{recipe_of_split, split_of_recipe}
+use Rattle.utf8_bytes.specs.Recipe.{utf8_coding}
+use Rattle.utf8_bytes.proofs.RecipeLemmas.{splits}
 use Rattle.std.specs.List.{concat}
-use Rattle.utf8_bytes.proofs.ResumesLemmas.{resumes_of_split, split_of_resumes}
+use Rattle.utf16_units.proofs.Resuming.{recipe_is_split as split_by_recipe, resumes_is_split as split_by_resuming}
 use Rattle.utf8_bytes.proofs.LossyLemmas.{lossy_text-append, lossy_text-is}
 use Rattle.utf8_bytes.proofs.ShownLemmas.{split_within}
 use Rattle.utf8_bytes.proofs.PartLemmas.{tail_from, tail_undecided}
@@ -40,22 +40,10 @@ pub text_is_shown : TextIsShown
 text_is_shown = shown_encode
 
 pub recipe_is_split : RecipeIsSplit
-recipe_is_split bytes text kept = (
-  (λ recipe.
-      let same = recipe_of_split recipe in
-      (same.shown, same.tail)),
-  (λ same. subst (λ t. Recipe bytes t kept) (sym same.0) (subst (Recipe bytes (lossy_chars (split_items bytes))) (sym same.1) (split_of_recipe bytes))),
-)
+recipe_is_split bytes text kept = split_by_recipe utf8_coding (λ b. Unit {0}) (λ b. lossy_chars (split_items b)) split_tail splits bytes text kept tt
 
 pub resumes_is_split : ResumesIsSplit
-resumes_is_split pieces text kept = (
-  (λ resumes.
-      let same = split_of_resumes resumes in
-      (same.shown, same.tail)),
-  (λ same.
-      subst (λ t. Resumes [] pieces t kept) (sym same.0)
-      (subst (Resumes [] pieces (lossy_chars (split_items (concat pieces)))) (sym same.1) (resumes_of_split pieces))),
-)
+resumes_is_split pieces text kept = split_by_resuming utf8_coding (λ b. Unit {0}) (λ b. lossy_chars (split_items b)) split_tail splits pieces text kept tt
 
 pub whole_is_lossy : WholeIsLossy
 whole_is_lossy = lossy_text-is

@@ -9,7 +9,6 @@ pub mod TextLemmas
 pub mod LawProofs
 pub mod SplitIllFormed
 pub mod RecipeLemmas
-pub mod ResumesLemmas
 pub mod LossyLemmas
 pub mod ShownLemmas
 pub mod MaximalLemmas

@@ -1,68 +1,64 @@
--- The recipe of the error's fields gives the items' text, with U+FFFD, and the tail of the split,
--- and nothing else.
-use Rattle.std.proofs.Common.{◌≡◌, ℕ, zero, suc, ◌+◌, ◌<◌, ◌≤◌, List, [], ◌∷◌, ◌++◌, Option, None, Some, length, take, drop, refl, sym, ap, ◌∙◌, subst, ⊎_elim, arith, length-drop}
+-- The split of UTF-8 is what a reader gets that resumes by the error: its items' text, with U+FFFD,
+-- and its tail.
+use Rattle.std.proofs.Common.{◌≡◌, ℕ, ◌+◌, ◌<◌, ◌≤◌, List, [], ◌∷◌, ◌++◌, None, Some, length, take, drop, refl, sym, ap, ◌∙◌, ⊎_elim, arith}
 use Rattle.std.proofs.lemmas.Bool.{cases_lt}
-use Rattle.std.proofs.lemmas.Str.{IsUtf8-nil}
+use Rattle.std.proofs.lemmas.List.{map-append}
+use Rattle.std.proofs.lemmas.Str.{IsUtf8-nil, chars-nil}
 use Rattle.std.specs.Str.{IsUtf8, IsValidUpTo, chars}
 use Rattle.std.specs.Str.Lossy.{utf8_error_len, utf8_valid_len}
-use Rattle.utf8_bytes.specs.Recipe.{Recipe, incomplete, resumed, valid}
-use Rattle.utf8_bytes.specs.Split.{lossy_chars, split_items, split_tail}
-use Rattle.utf8_bytes.proofs.BeginsLemmas.{no_bytes}
-use Rattle.utf8_bytes.proofs.PartLemmas.{subpart_at}
-use Rattle.utf8_bytes.proofs.SplitIllFormed.{shown-fault, shown-incomplete, split_tail-fault, split_tail-incomplete}
+use Rattle.utf16_units.specs.Recipe.{RecipeOf}
+use Rattle.utf16_units.proofs.Resuming.{Decided, SplitAtErrors, has_error, is_text, split_of_recipe}
+use Rattle.utf8_bytes.specs.Recipe.{utf8_coding}
+use Rattle.utf8_bytes.specs.Split.{IsTail, lossy_char, lossy_chars, split_items, split_tail}
+use Rattle.utf8_bytes.proofs.PartLemmas.{subpart_at, tail_undecided}
+use Rattle.utf8_bytes.proofs.SplitIllFormed.{shown-fault, shown-incomplete, split_tail-fault, split_tail-incomplete, split_undecided}
+use Rattle.utf8_bytes.proofs.SplitLemmas.{Split-computed}
+use Rattle.utf8_bytes.proofs.SplitUnique.{split_items-append, split_tail-append}
 use Rattle.utf8_bytes.proofs.TextLemmas.{shown_text}
 use Rattle.utf8_bytes.proofs.ValidLemmas.{IsValidUpTo-computed, all_valid, none_at}
 
--- the items' text, with U+FFFD, and the tail of the split
-pub record IsOfSplit (bytes text kept : List ℕ) : Type 0 where
-  pub shown : text ≡ lossy_chars (split_items bytes)
-  pub tail : kept ≡ split_tail bytes
+-- the computed tail is a tail
+pub tail_ends : (bytes : List ℕ) → IsTail (split_tail bytes)
+tail_ends bytes = (Split-computed bytes).ends
 
-pub recipe_of_split : {bytes text kept : List ℕ} → Recipe bytes text kept → IsOfSplit bytes text kept
-recipe_of_split (valid bytes text) =
-    let split = shown_text bytes text in
-    record { shown = sym split.0; tail = sym split.1 }
-recipe_of_split (resumed bytes text kept n len at error rest) =
-    let next = recipe_of_split rest in
-    record {
-      shown = ap (λ t. chars (take n bytes) ++ 0xFFFD ∷ t) next.shown ∙ sym (shown-fault bytes n at len error);
-      tail = next.tail ∙ sym (split_tail-fault bytes n at len error);
-    }
-recipe_of_split (incomplete bytes n at error) = record {
-  shown = sym (shown-incomplete bytes n at error);
-  tail = sym (split_tail-incomplete bytes n at error);
-}
+-- a tail has no item, and all of it is its tail
+pub split_of_tail : (tail : List ℕ) → IsTail tail → (split_items tail ≡ []) × (split_tail tail ≡ tail)
+split_of_tail tail ends =
+    let undecided = tail_undecided tail ends in
+    split_undecided tail undecided.0 undecided.1
 
--- what a reader gets who follows the recipe
-record Followed (bytes : List ℕ) : Type 0 where
-  text : List ℕ
-  kept : List ℕ
-  recipe : Recipe bytes text kept
-
-of_text : (bytes : List ℕ) → IsUtf8 bytes → Followed bytes
-of_text bytes text = record { text = chars bytes; kept = []; recipe = valid bytes text }
-
-at_fault : (bytes : List ℕ) (n : ℕ) (error : Option ℕ) → IsValidUpTo bytes n → utf8_error_len (drop n bytes) ≡ error
-    → ((m : ℕ) → 0 < m → Followed (drop m bytes)) → Followed bytes
-at_fault bytes n None at error next = record { text = chars (take n bytes); kept = drop n bytes; recipe = incomplete bytes n at error }
-at_fault bytes n (Some len) at error next =
-    let part = subpart_at (drop n bytes) len (none_at bytes n at) error in
-    let after = next (n + len) (omega (arith, part.some)) in
-    record { text = chars (take n bytes) ++ 0xFFFD ∷ after.text; kept = after.kept; recipe = resumed bytes after.text after.kept n len at error after.recipe }
-
--- it terminates, since each step leaves fewer bytes
-follow : (most : ℕ) (bytes : List ℕ) → length bytes ≤ most → Followed bytes
-follow zero bytes within = of_text bytes (subst IsUtf8 (sym (no_bytes bytes (omega arith))) IsUtf8-nil)
-follow (suc most) bytes within = ⊎_elim
+-- bytes that are not a text have an error
+decided : (bytes : List ℕ) → Decided utf8_coding bytes
+decided bytes = ⊎_elim
     (λ (short : utf8_valid_len bytes < length bytes).
-    at_fault bytes (utf8_valid_len bytes) _ (IsValidUpTo-computed bytes short) refl
-    (λ m some. let fewer = length-drop m bytes in follow most (drop m bytes) (omega arith)))
-    (λ (all : length bytes ≤ utf8_valid_len bytes). of_text bytes (all_valid bytes all))
+    let n = utf8_valid_len bytes in
+    let at = IsValidUpTo-computed bytes short in
+    has_error (chars (take n bytes)) n (utf8_error_len (drop n bytes)) (at, refl) (at.front, refl))
+    (λ (all : length bytes ≤ utf8_valid_len bytes). is_text (chars bytes) (all_valid bytes all, refl))
     (cases_lt (utf8_valid_len bytes) (length bytes))
 
--- the items' text, with U+FFFD, and the tail of the split are what the recipe gives
-pub split_of_recipe : (bytes : List ℕ) → Recipe bytes (lossy_chars (split_items bytes)) (split_tail bytes)
-split_of_recipe bytes =
-    let followed = follow (length bytes) bytes (omega arith) in
-    let same = recipe_of_split followed.recipe in
-    subst (λ t. Recipe bytes t (split_tail bytes)) same.shown (subst (Recipe bytes followed.text) same.tail followed.recipe)
+abbrev text : List ℕ → List ℕ
+text bytes = lossy_chars (split_items bytes)
+
+-- the split of UTF-8 is what a reader gets, whatever the numbers are
+pub splits : SplitAtErrors utf8_coding (λ bytes. Unit {0}) text split_tail
+splits = record {
+  nothing = (IsUtf8-nil, sym chars-nil);
+  whole = λ bytes given e.
+      let same = shown_text bytes e.0 in
+      (same.0 ∙ sym e.1, same.1);
+  fault = λ bytes front n len are at e.
+      (shown-fault bytes n at.0 len at.1 ∙ ap (λ f. f ++ 0xFFFD ∷ text (drop (n + len) bytes)) (sym e.1), split_tail-fault bytes n at.0 len at.1);
+  some = λ bytes n len at. (subpart_at (drop n bytes) len (none_at bytes n at.0) at.1).some;
+  cut = λ bytes front n at e. (shown-incomplete bytes n at.0 at.1 ∙ sym e.1, split_tail-incomplete bytes n at.0 at.1);
+  decides = decided;
+  joined = λ front back. (
+    ap lossy_chars (split_items-append front back) ∙ map-append lossy_char (split_items front) (split_items (split_tail front ++ back)),
+    split_tail-append front back,
+  );
+  dropped = λ n bytes are. tt;
+  parted = λ front back are. (tt, tt);
+}
+
+pub utf8_recipe : (bytes : List ℕ) → RecipeOf utf8_coding bytes (text bytes) (split_tail bytes)
+utf8_recipe bytes = split_of_recipe utf8_coding (λ b. Unit {0}) text split_tail splits bytes tt
