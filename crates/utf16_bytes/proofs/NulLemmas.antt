@@ -143,8 +143,6 @@ nul-unit bytes at unit to room is zero = record {
   nul = λ less. IsNul-bytes false bytes at to.even room (sym is ∙ zero);
 }
 
-pub nul-none : (bytes : List ℕ) (at : ℕ) → LacksNulTo bytes at → length bytes ≤ at → IsNulOffset false bytes at
-nul-none bytes at to all = record { within = to.within; before = to.lacks; nul = λ less. absurd (omega (arith, less, all)) }
 
 -- a part of them
 pub LacksNulTo-front : (bytes : List ℕ) (at less : ℕ) → LacksNulTo bytes at → less ≤ at → less % 2 ≡ 0 → LacksNulTo bytes less

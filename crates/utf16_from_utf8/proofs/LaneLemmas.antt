@@ -54,26 +54,6 @@ none_set v bits few set zeros = ⊎_elim
     absurd (omega (arith, first.1, zero)))
     (cases_lt bits 1)
 
--- if no lane of two vectors differs, they are the same
-pub none_differs : (xs ys : List ℕ) → length xs ≡ 16 → length ys ≡ 16
-    → mask_l (map (top 7) (zip2 (λ a b. cond (not (eqb a b)) 255 0) xs ys)) % 2 ^ 64 ≡ 0 → xs ≡ ys
-none_differs xs ys a b e =
-    let differ = λ (a b : ℕ). not (eqb a b) in
-    let few : length (zip2 differ xs ys) ≤ 64 = omega (arith, length-zip2 differ xs ys (a ∙ sym b), a) in
-    same xs ys (a ∙ sym b) (sym (mask_l-mod (zip2 differ xs ys) 64 few) ∙ sym (ap (λ bits. mask_l bits % 2 ^ 64) (tops_compared w8 differ xs ys)) ∙ e)
-  where
-    clear : (b : Bool) (n : ℕ) → cond (not b) 1 0 + 2 * n ≡ 0 → (b ≡ true) × (n ≡ 0)
-    clear true n e = (refl, omega arith)
-    clear false n e = absurd (omega arith)
-
-    same : (xs ys : List ℕ) → length xs ≡ length ys → mask_l (zip2 (λ (a b : ℕ). not (eqb a b)) xs ys) ≡ 0 → xs ≡ ys
-    same [] [] long e = refl
-    same [] (y ∷ ys) long e = absurd (omega arith)
-    same (x ∷ xs) [] long e = absurd (omega arith)
-    same (x ∷ xs) (y ∷ ys) long e =
-        let parts = clear (eqb x y) (mask_l (zip2 (λ (a b : ℕ). not (eqb a b)) xs ys)) e in
-        ap₂ (λ z zs. z ∷ zs) (eqb-true x y parts.0) (same xs ys (omega arith) parts.1)
-
 -- the positions of the lanes of two interleaved vectors
 abbrev pub sixteen : List ℕ
 sixteen = range_with_len 0 16

@@ -4,7 +4,6 @@ pub mod AsciiLemmas
 pub mod BlockLemmas
 pub mod FewLemmas
 pub mod FollowLemmas
-pub mod SupplementaryLemmas
 pub mod LaneByteLemmas
 pub mod LaneLemmas
 pub mod LimitLemmas

@@ -260,9 +260,3 @@ text-follows bytes at n utf8 within i below =
 -- the bytes of a text after the start of it that is a text
 pub rest-follows : (bytes : List ℕ) (at n : ℕ) → IsUtf8 bytes → IsUtf8 (take at bytes) → at + n ≤ length bytes → FollowTo n bytes at
 rest-follows bytes at n utf8 begun within = text-follows bytes at n (IsUtf8-drop bytes at utf8 (IsCharBoundary-from_take bytes at utf8 (omega (arith, within)) begun)) within
-
-pub text-any : (bytes : List ℕ) → IsUtf8 bytes → (i : ℕ) → suc (suc i) < length bytes → FollowsAny (slice_index bytes i) (slice_index bytes (suc i)) (slice_index bytes (suc (suc i)))
-text-any bytes utf8 i below =
-    let here : 0 + suc (suc i) ≡ suc (suc i) = omega arith in
-    subst (λ n. FollowsAny (slice_index bytes i) (slice_index bytes (suc i)) (slice_index bytes n)) here
-    (follows-any bytes 0 (length bytes) (text-follows bytes 0 (length bytes) utf8 (omega arith)) (suc (suc i)) below)

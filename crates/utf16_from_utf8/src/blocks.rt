@@ -11,7 +11,6 @@ ghost use Rattle.utf16_from_utf8.specs.Written.{IsWritten};
 use crate::ascii::{write_ascii, write_front};
 use crate::block::write_block;
 use crate::limits::{are_below, greatest};
-use crate::supplementary::write_supplementary;
 use crate::threes::write_threes;
 use utf16_units::{Moved, Utf16Order};
 
@@ -104,8 +103,7 @@ fn write_next<E: Utf16Order>(bytes: &[u8], out: &mut [u8], from: Moved) -> Moved
     write_block::<E, 4>(bytes, out, next)
 }
 
-// Writes the next characters, several at a time, as long as they have as many bytes as the first:
-// three or four.
+// Writes the next characters of three bytes, several at a time.
 #[inline(always)]
 fn write_run<E: Utf16Order>(bytes: &[u8], out: &mut [u8], from: Moved) -> Moved
     requires space { from.written + 128 ≤ length out.old }
@@ -115,14 +113,10 @@ fn write_run<E: Utf16Order>(bytes: &[u8], out: &mut [u8], from: Moved) -> Moved
     ensures advances { from.read ≤ result.read }
     ensures stays { result.read ≡ from.read → result.written ≡ from.written }
 {
-    let first = bytes[from.read];
-    if first < 0xE0 {
+    if !(0xE0..0xF0).contains(&bytes[from.read]) {
         return from;
     }
-    if first < 0xF0 {
-        return write_threes::<E>(bytes, out, from);
-    }
-    write_supplementary::<E>(bytes, out, from)
+    write_threes::<E>(bytes, out, from)
 }
 
 // Writes the next blocks of ASCII.

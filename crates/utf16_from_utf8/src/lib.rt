@@ -16,7 +16,6 @@ mod read;
 mod rest;
 mod short;
 mod sixteen;
-mod supplementary;
 mod text;
 mod threes;
 mod units;

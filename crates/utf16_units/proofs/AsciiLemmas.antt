@@ -81,7 +81,6 @@ AsciiTo-none big bytes = record { within = omega arith; even = refl; ascii = All
 pub AsciiTo-next : (big : Bool) (bytes : List ℕ) (at n : ℕ) → AsciiTo big bytes at → n % 2 ≡ 0 → at + n ≤ length bytes
     → All is_ascii (units_of big (take n (drop at bytes))) → AsciiTo big bytes (at + n)
 AsciiTo-next big bytes at n a even long next =
-    let was = a.even in
     record {
       within = long;
       even = omega arith;
@@ -100,7 +99,6 @@ ascii_right (x ∷ xs) ys all = ascii_right xs ys (All-tail is_ascii x (xs ++ ys
 pub ascii_next : (big : Bool) (bytes : List ℕ) (at n : ℕ) → AsciiTo big bytes at → n % 2 ≡ 0 → at + n ≤ length bytes
     → All is_ascii (units_of big bytes) → All is_ascii (units_of big (take n (drop at bytes)))
 ascii_next big bytes at n a even long all =
-    let was = a.even in
     let front = ascii_left (units_of big (take (at + n) bytes)) _ (subst (All is_ascii) (units_of-split big bytes (at + n) (omega arith) long) all) in
     ascii_right (units_of big (take at bytes)) _ (subst (All is_ascii) (units_of-next big bytes at n a.even a.within) front)
 

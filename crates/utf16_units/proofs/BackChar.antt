@@ -190,7 +190,6 @@ IsBoundary-unit big text i scalars b before = at_back b.back refl where
       ap (drop i) parts ∙ drop_at (encode big b.front) (encode big (c ∷ back)) i (length-encode big b.front ∙ b.offset) ∙ encode-cons big c back in
       let scalar : IsScalar c = All-head IsScalar c back (All-after b.front (c ∷ back) (subst (All IsScalar) (sym b.split ∙ ap (λ t. b.front ++ t) e) scalars)) in
       let even = size-even b.front in
-      let at = b.offset in
       (omega arith, λ trailing. first_unit-char big c (encode big back) scalar (subst (λ t. IsTrailing (first_unit big t)) rest trailing))
 
 module _ (big : Bool) (bytes : List ℕ) (i : ℕ) (t : IsUtf16 big bytes) where

@@ -24,7 +24,6 @@ little-units zero (x ∷ bytes) long fit = absurd (omega arith)
 little-units (suc n) [] long fit = absurd (omega arith)
 little-units (suc n) (x ∷ []) long fit = absurd (omega arith)
 little-units (suc n) (x ∷ y ∷ bytes) long fit =
-    let rest = number_l 256 bytes in
     let low = fit.0.fits in
     let high = fit.1.0.fits in
     ap₂ (λ u us. u ∷ us) (omega (arith, low, high))

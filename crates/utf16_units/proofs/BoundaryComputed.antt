@@ -15,7 +15,6 @@ start text i e = subst (IsBoundary text) (sym e) (IsBoundary-start text)
 behind : (c : ℕ) (text : List ℕ) (i : ℕ) → char_size c ≤ i → IsBoundary text (i - char_size c) → IsBoundary (c ∷ text) i
 behind c text i fits b =
     let whole = size-cons c b.front in
-    let rest = b.offset in
     record { front = c ∷ b.front; back = b.back; split = ap (λ t. c ∷ t) b.split; offset = omega arith }
 
 -- the prefix before a boundary has no character, or the first one and then a prefix of the rest

@@ -77,7 +77,6 @@ IsBoundary-start text = record { front = []; back = text; split = refl; offset =
 IsBoundary-cons : (c : ℕ) (text : List ℕ) (i : ℕ) → char_size c ≤ i → IsBoundary text (i - char_size c) → IsBoundary (c ∷ text) i
 IsBoundary-cons c text i fits b =
     let whole = size-cons c b.front in
-    let rest = b.offset in
     record { front = c ∷ b.front; back = b.back; split = ap (λ t. c ∷ t) b.split; offset = omega arith }
 
 drop-past : (xs ys : List ℕ) (n : ℕ) → length xs ≤ n → drop n (xs ++ ys) ≡ drop (n - length xs) ys
@@ -130,7 +129,6 @@ IsBoundary-at_unit big (c ∷ text) i scalars even within class =
     (cases_lt c 0x1_0000))
     (cases_eq i 0))
     (λ (fits : char_size c ≤ i).
-    let even_size : char_size c % 2 ≡ 0 = ⊎_elim (λ (s : char_size c ≡ 2). omega arith) (λ (s : char_size c ≡ 4). omega arith) (char_size_cases c) in
     let moved : drop i (encode big (c ∷ text)) ≡ drop (i - char_size c) (encode big text) =
     ap (drop i) cons ∙ drop-past (char_bytes big c) (encode big text) i (omega arith) ∙ ap (λ k. drop (i - k) (encode big text)) long in
     IsBoundary-cons c text i fits (IsBoundary-at_unit big text (i - char_size c) (All-tail IsScalar c text scalars) (omega arith) (omega arith)
@@ -148,7 +146,6 @@ text_from-back text i b = ap (λ t. text_from t i) (sym b.split) ∙ text_from-a
 pub IsBoundary-within : (text : List ℕ) (i : ℕ) → IsBoundary text i → i ≤ size text
 IsBoundary-within text i b =
     let whole = ap size (sym b.split) ∙ size-append b.front b.back in
-    let at = b.offset in
     omega arith
 
 pub IsBoundary-end : (text : List ℕ) → IsBoundary text (size text)
@@ -200,8 +197,6 @@ longer_prefix (x ∷ front) back (y ∷ other) rest e le =
 -- a boundary is also one of the rest after an earlier boundary
 pub IsBoundary-rest : (text : List ℕ) (i j : ℕ) → i ≤ j → IsBoundary text i → IsBoundary text j → IsBoundary (text_from text i) (j - i)
 IsBoundary-rest text i j le a b =
-    let start = a.offset in
-    let end = b.offset in
     let cut : size b.front - size a.front ≡ j - i = omega arith in
     subst (λ t. IsBoundary t (j - i)) (sym (text_from-back text i a))
     (subst (IsBoundary a.back) cut (longer_prefix a.front a.back b.front b.back (a.split ∙ sym b.split) (omega arith)))
@@ -211,7 +206,6 @@ pub text_between-end : (text : List ℕ) (i : ℕ) → IsBoundary text i → tex
 text_between-end text i b =
     let from = text_from-back text i b in
     let whole = ap size (sym b.split) ∙ size-append b.front b.back in
-    let at = b.offset in
     ap (λ t. text_to t (size text - i)) (from ∙ sym (append-nil b.back))
     ∙ text_to-at b.back [] (size text - i) (omega arith)
     ∙ sym from

@@ -28,7 +28,6 @@ utf16_chars-char c units scalar =
     ∙ utf16_chars_lone c units (λ (pair : IsPair c (get_or units 0 0)). ⊎_elim (λ (low : c < 0xD800). omega arith) (λ (high : (0xE000 ≤ c) × (c < 0x11_0000)). omega arith) cases)
     ∙ ap (λ o. o ∷ utf16_chars units) (lone_char c scalar))
     (λ (two : 0x1_0000 ≤ c).
-    let bound : c < 0x11_0000 = ⊎_elim (λ (low : c < 0xD800). omega arith) (λ (high : (0xE000 ≤ c) × (c < 0x11_0000)). omega arith) cases in
     let lead = 0xD800 + (c - 0x1_0000) / 0x400 in
     let trail = 0xDC00 + (c - 0x1_0000) % 0x400 in
     let pair : IsPair lead trail = (omega arith, omega arith, omega arith, omega arith) in

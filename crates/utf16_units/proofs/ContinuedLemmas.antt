@@ -17,7 +17,6 @@ use Rattle.utf16_units.proofs.FrontChar.{HasFirst, first_of, one_not_leading, on
 nothing_more : (big : Bool) (bytes : List ℕ) (n k : ℕ) → IsUtf16ValidUpTo big bytes n → 0 < k → k ≤ length (drop n bytes) → ¬ (IsUtf16 big (take k (drop n bytes)))
 nothing_more big bytes n k front some within t =
     let long = length-drop n bytes in
-    let fits = front.within in
     let longer : n + k ≤ n = front.longest (n + k) (omega arith)
     (subst (IsUtf16 big) (sym (take-add n k bytes)) (IsUtf16-append big (take n bytes) (take k (drop n bytes)) front.valid t)) in
     omega arith
@@ -53,7 +52,6 @@ no_more_after_two big bytes (x ∷ []) n front at refused whole b = absurd (whol
 no_more_after_two big bytes (x ∷ y ∷ after) n front at refused whole b =
     let rest = x ∷ y ∷ after in
     let goes_on : IsUtf16 big (rest ++ b.more) = subst (λ t. IsUtf16 big (t ++ b.more)) at (rest_continues big bytes n front b) in
-    let long = length-append rest b.more in
     let h = first_of big (rest ++ b.more) goes_on (omega arith) in
     let impossible : char_size h.char ≤ length rest → 0 < char_size h.char → ⊥ = λ within some.
     nothing_more big bytes n (char_size h.char) front some (subst (λ t. char_size h.char ≤ length t) (sym at) within)
@@ -128,7 +126,6 @@ completed true (x ∷ y ∷ []) bytes cut alive =
     let by : y < 256 = All-head (λ b. b < 256) y [] (All-tail (λ b. b < 256) x (y ∷ []) bytes) in
     (0xDC ∷ 0 ∷ [], four_bytes_text true x y 0xDC 0 bx by (omega arith) (omega arith) cut.0 (omega arith, omega arith))
 completed big (x ∷ y ∷ z ∷ w ∷ after) bytes cut alive =
-    let short = cut.1 in
     absurd (omega arith)
 completed false (x ∷ y ∷ z ∷ []) bytes cut alive =
     let bx : x < 256 = All-head (λ b. b < 256) x (y ∷ z ∷ []) bytes in
@@ -166,7 +163,6 @@ first_byte bytes h high =
     ⊎_elim (λ (low : h.char < 0xD800). omega (arith, high.0, high.1)) (λ (above : (0xE000 ≤ h.char) × (h.char < 0x11_0000)). omega (arith, high.0, high.1)) cases)
     (λ (pair : 0x1_0000 ≤ h.char).
     let byte : head_of bytes ≡ (0xD800 + (h.char - 0x1_0000) / 0x400) / 256 = ap head_of (two_spelled true bytes h pair) in
-    let below = two_below true bytes h pair in
     omega (arith, high.0, high.1))
     (cases_lt h.char 0x1_0000)
 

@@ -37,7 +37,6 @@ CountedTo-none big bytes = record { within = omega arith; even = refl; counted =
 pub CountedTo-next : (big : Bool) (bytes : List ℕ) (at n trailing more : ℕ) → CountedTo big bytes at trailing → n % 2 ≡ 0 → at + n ≤ length bytes
     → more ≡ count_by is_low_surrogate (units_of big (take n (drop at bytes))) → CountedTo big bytes (at + n) (trailing + more)
 CountedTo-next big bytes at n trailing more c even long is =
-    let was = c.even in
     let both = ap (count_by is_low_surrogate) (units_of-next big bytes at n c.even c.within)
     ∙ sum_by-append (λ u. cond (is_low_surrogate u) 1 0) (units_of big (take at bytes)) (units_of big (take n (drop at bytes))) in
     record { within = long; even = omega arith; counted = omega (arith, both, c.counted, is) }

@@ -120,7 +120,6 @@ module _ (big : Bool) (bytes : List ℕ) (f : HasFirst big bytes) (two : 0x1_000
   pair_is =
       let first = lead_is in
       let second = trail_is in
-      let below = two_below in
       omega arith
 
   two_splits : SplitsAt big bytes (surrogate_pair_char (first_unit big bytes) (second_unit big bytes)) 4

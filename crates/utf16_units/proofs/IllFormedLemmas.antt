@@ -73,7 +73,6 @@ pub IsUtf16-step : (big : Bool) (bytes : List ℕ) (at n : ℕ) → at ≤ lengt
     → BeginsWithChar big (rest_from bytes at) n → (at + n ≤ length bytes) × IsUtf16 big (take (at + n) bytes)
 IsUtf16-step big bytes at n within t begins =
     let long : length (rest_from bytes at) ≡ length bytes - at = ap length (take_rest bytes at) ∙ length-drop at bytes in
-    let le : n ≤ length (rest_from bytes at) = begins.within in
     let char : take n (drop at bytes) ≡ char_bytes big begins.char = ap (take n) (sym (take_rest bytes at)) ∙ begins.spelled in
     (omega arith, subst (IsUtf16 big) (ap (λ t. take at bytes ++ t) (sym char) ∙ sym (take-add at n bytes)) (IsUtf16-append big (take at bytes) (char_bytes big begins.char) t (IsUtf16-char big begins.char begins.scalar)))
 

@@ -32,7 +32,6 @@ PairedTo-none big bytes = record { within = omega arith; even = refl; paired = r
 pub PairedTo-next : (big : Bool) (bytes : List ℕ) (at n : ℕ) (before after : Bool) → PairedTo big bytes at before → n % 2 ≡ 0 → at + n ≤ length bytes
     → Paired before (units_of big (take n (drop at bytes))) after → PairedTo big bytes (at + n) after
 PairedTo-next big bytes at n before after p even long block =
-    let was = p.even in
     record {
       within = long;
       even = omega arith;
@@ -50,15 +49,12 @@ is_of m unit e =
 
 pub is_not_of : (m unit : ℕ) → in_class m unit ≡ false → ¬ ((1024 * m ≤ unit) × (unit ≤ 1024 * m + 1023))
 is_not_of m unit e is =
-    let upper = is.1 in
     false≢true (sym e ∙ and_from _ _ (le-leb _ _ is.0) (lt-ltb unit (1024 * m + 1024) (omega arith)))
 
 not_both : (unit : ℕ) → is_low_surrogate unit ≡ true → is_high_surrogate unit ≡ true → ⊥
 not_both unit low high =
     let l = is_of 55 unit low in
     let h = is_of 54 unit high in
-    let from = l.0 in
-    let to = h.1 in
     omega arith
 
 -- ---- the text
@@ -124,7 +120,6 @@ paired-text big bytes fit even p =
 module _ (big : Bool) (bytes : List ℕ) (at : ℕ) (fits : (k : ℕ) → Fits w8 (slice_index bytes k)) where
   before : (after : Bool) → PairedTo big bytes at after → TextBefore big (take at bytes) after
   before after p =
-      let even = p.even in
       text_before big false after (take at bytes) (chunk-fits w8 0 at bytes fits) (omega (arith, length-take-le at bytes p.within)) p.paired
 
   text_to : (after : Bool) (n : ℕ) → PairedTo big bytes at after → n + 2 * cond after 1 0 ≡ at → IsUtf16 big (take n bytes)

@@ -134,9 +134,6 @@ module _ (big : Bool) (bytes other : List ℕ) (at : ℕ) (s : SameTo bytes othe
   pub decided_at_end : length bytes % 2 ≡ 0 → length other % 2 ≡ 0 → (length bytes < at + 2) ⊎ (length other < at + 2)
       → nat_cmp (length bytes) (length other) ≡ units_cmp big bytes other
   decided_at_end even other_even ended =
-      let whole = s.even in
-      let within = s.within in
-      let other_within = s.other_within in
       let answer = λ (o : Ordering) (m : MatchOrdering o (length bytes < length other) (length bytes ≡ length other) (length other < length bytes)) (r : units_cmp big bytes other ≡ o).
       sym (nat_cmp_is (length bytes) (length other) o m) ∙ sym r in
       ⊎_elim

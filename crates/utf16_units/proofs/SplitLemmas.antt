@@ -133,7 +133,6 @@ module _ (big : Bool) (first second : ℕ) (bytes : List ℕ) where
       (λ (yes : is_incomplete big (first ∷ second ∷ bytes) ≡ true).
       let cut = IsIncomplete-from_is_incomplete big (first ∷ second ∷ bytes) yes in
       let two = long cut.0 in
-      let one = cut.1 in
       absurd (omega arith))
       (λ (no : is_incomplete big (first ∷ second ∷ bytes) ≡ false). no)
       (cases_Bool (is_incomplete big (first ∷ second ∷ bytes)))
@@ -155,7 +154,6 @@ BeginsUnpaired-tail : (big : Bool) (tail : List ℕ) → IsTail big tail → 2 �
 BeginsUnpaired-tail big [] ends long = absurd (omega arith)
 BeginsUnpaired-tail big (last ∷ []) ends long = absurd (omega arith)
 BeginsUnpaired-tail big (first ∷ second ∷ after) ends long = λ t.
-    let lead = ends.0 in
     omega arith
 
 module _ (lead trail : ℕ) (l : IsLeading lead) (t : IsTrailing trail) where

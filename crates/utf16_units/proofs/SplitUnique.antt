@@ -83,7 +83,6 @@ good_computed big c bytes items tail scalar computed =
     (subst (λ b. IsComputed big (b ++ bytes) (put_unit c items) tail) (sym (one_unit_bytes big c one))
     (unit_computed big c bytes items tail (λ lead. absurd (l lead)) computed)))
     (λ (two : 0x1_0000 ≤ c).
-    let below : c < 0x11_0000 = ⊎_elim (λ (low : c < 0xD800). omega arith) (λ (high : (0xE000 ≤ c) × (c < 0x11_0000)). high.1) cases in
     let lead = 0xD800 + (c - 0x1_0000) / 0x400 in
     let trail = 0xDC00 + (c - 0x1_0000) % 0x400 in
     let l : IsLeading lead = (omega arith, omega arith) in
@@ -153,7 +152,6 @@ pub length-IsTail : (big : Bool) (tail : List ℕ) → IsTail big tail → lengt
 length-IsTail big [] ends = omega arith
 length-IsTail big (last ∷ []) ends = omega arith
 length-IsTail big (first ∷ second ∷ after) ends =
-    let one = ends.1 in
     omega arith
 
 pub length-split_tail : (big : Bool) (bytes : List ℕ) → length (split_tail big bytes) ≤ 3
