@@ -1,7 +1,7 @@
 //! Appends a text in UTF-8 to bytes of UTF-16.
 //!
 //! No contract says how to write into capacity that is not initialized, so a text goes through a
-//! buffer on the stack; `ladder.rt` of `utf16_units` has its sizes. Each size has a function,
+//! buffer on the stack; `strategy.rt` of `utf16_units` has its sizes. Each size has a function,
 //! because clearing a buffer costs time.
 
 ghost use Rattle.std.specs.Prelude.{◌≡◌, ◌+◌, ◌*◌, ◌≤◌, ◌++◌, length, IsOk, OnErr, OnOk};

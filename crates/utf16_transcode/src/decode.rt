@@ -2,7 +2,7 @@
 //!
 //! A short text is written by its kind: ASCII eight code units at a time, fewer than eight code
 //! units one by one, and others eight at a time, validated while they are written. Only longer
-//! texts, and those that may not fit, take the steps of long texts. `ladder.rt` of `utf16_units`
+//! texts, and those that may not fit, take the steps of long texts. `strategy.rt` of `utf16_units`
 //! says which texts are short.
 
 ghost use Rattle.std.specs.Prelude.{All, ◌≡◌, ◌≢◌, ◌+◌, ◌-◌, ◌*◌, ◌/◌, ◌<◌, ◌≤◌, ◌++◌, IfSome, None, length, slice_index, take};
