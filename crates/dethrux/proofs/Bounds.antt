@@ -9,8 +9,8 @@ use Rattle.std.specs.Char.{encode_utf8}
 use Rattle.std.specs.List.{flat_map}
 use Rattle.std.specs.Str.{IsUtf8, chars, is_utf8}
 use Rattle.std.specs.Str.Lossy.{utf8_valid_len, valid_len_up_to}
-use Rattle.utf16_transcode.specs.Decodes.{utf16_parts}
-use Rattle.utf16_transcode.specs.Decomposition.{Decomposition, IsSplitInChunks, decided}
+use Rattle.utf16_transcode.specs.Decodes.{utf16_split}
+use Rattle.utf16_transcode.specs.StreamSplit.{StreamSplit, IsSplitInChunks, decided}
 use Rattle.utf16_transcode.specs.WholeText.{WritesWhole}
 use Rattle.utf16_transcode.specs.Stops.{StopsDecoding, StopsLossyAs, StopsLossyWhole}
 use Rattle.utf16_transcode.specs.Transcoded.{DecodesAsTo, TranscodesToUtf8, Writes}
@@ -19,7 +19,7 @@ use Rattle.utf16_transcode.specs.declared.progress.Stop.TheVariants.{Incomplete,
 use Rattle.utf16_transcode.proofs.DecodesSteps.{written_for, written_for-append}
 use Rattle.utf16_transcode.proofs.DecodeLossyLemmas.{DecodesTo-front, stops_lossy}
 use Rattle.utf16_transcode.specs.FromUtf8.{StopsEncoding, TranscodesToUtf16, text_of_utf8}
-use Rattle.utf16_transcode.specs.Utf8Stream.{utf8_parts}
+use Rattle.utf16_transcode.specs.Utf8Stream.{utf8_split}
 use Rattle.utf16_transcode.proofs.DecodesUtf8.{DecodesUtf8To-text, stops_text}
 use Rattle.utf16_transcode.proofs.FeedsUtf8.{flat_size}
 use Rattle.utf16_transcode.proofs.EncodeLossyLemmas.{chunk-most}
@@ -142,7 +142,7 @@ fed_within big pending chunk few first second =
     omega arith
 
 -- a call that decodes
-module _ (parts : Decomposition) (into : ℕ → List ℕ) (input to : List ℕ) (read written : ℕ) (decodes : DecodesAsTo parts into input to read written) where
+module _ (parts : StreamSplit) (into : ℕ → List ℕ) (input to : List ℕ) (read written : ℕ) (decodes : DecodesAsTo parts into input to read written) where
   decided_long : length (flat_map into (decided parts input)) ≡ written + length (flat_map into (decided parts (drop read input)))
   decided_long =
       let d = decodes.decodes in
@@ -193,7 +193,7 @@ module _ (big : Bool) (input to : List ℕ) (read written : ℕ) where
   to_utf8_fits stop are wrote here fits full =
       let decodes = DecodesTo-front big input to read written wrote.within wrote.fits wrote.gives in
       let most = decided_within big input are in
-      decided_fits (utf16_parts big) encode_utf8 input to read written decodes stop
+      decided_fits (utf16_split big) encode_utf8 input to read written decodes stop
       (stops_lossy big input read (length to - written) stop (λ len fault. (let same = sym fault ∙ full in cc)) here) (omega arith) full
 
   pub from_utf8_fits : (stop : Stop) → Writes (TranscodesToUtf16 big) input to read written → StopsEncoding big input read (length to - written) stop
@@ -201,7 +201,7 @@ module _ (big : Bool) (input to : List ℕ) (read written : ℕ) where
   from_utf8_fits stop wrote here fits full =
       let most = (shown_within input).2 in
       let long = flat_size big (utf8_decided_text input) in
-      decided_fits utf8_parts (char_bytes big) input to read written (DecodesUtf8To-text big input to read written wrote) stop
+      decided_fits utf8_split (char_bytes big) input to read written (DecodesUtf8To-text big input to read written wrote) stop
       (stops_text big input read (length to - written) stop (λ len fault. (let same = sym fault ∙ full in cc)) here) (omega arith) full
 
 -- the whole text of UTF-8 in UTF-16

@@ -7,14 +7,14 @@ use Rattle.utf16_units.specs.Encoding.{char_bytes}
 use Rattle.utf16_units.proofs.CharLemmas.{char_size_four, char_size_two, length-char_bytes}
 use Rattle.utf16_units.proofs.FirstChar.{AreBytes}
 use Rattle.utf16_units.proofs.Utf8Lemmas.{four_bytes}
-use Rattle.utf16_transcode.specs.Decomposition.{decided}
+use Rattle.utf16_transcode.specs.StreamSplit.{decided}
 use Rattle.utf16_transcode.specs.WholeText.{WritesWhole}
 use Rattle.utf16_transcode.specs.Transcoded.{Writes}
 use Rattle.utf16_transcode.specs.declared.progress.Stop.{Stop}
 use Rattle.utf16_transcode.specs.declared.progress.Stop.TheVariants.{Incomplete, Done, IllFormed, NoSpace}
 use Rattle.utf16_wtf8.specs.FromWtf8.{NextPointDoesNotFit, StopsFromWtf8, StopsFromWtf8Partial, TranscodesFromWtf8}
 use Rattle.utf16_wtf8.specs.Stream.{FeedsWtf8, StopsFeedingWtf8, encoded_len}
-use Rattle.utf16_wtf8.specs.ToWtf8.{StopsToWtf8, points_of, wtf8_parts}
+use Rattle.utf16_wtf8.specs.ToWtf8.{StopsToWtf8, points_of, wtf8_split}
 use Rattle.utf16_wtf8.specs.Wtf8.{generalized_utf8}
 use Rattle.utf16_wtf8.proofs.CodeLemmas.{some_bytes}
 use Rattle.utf16_wtf8.proofs.LenLemmas.{are_front, decided_len, points_len}
@@ -30,12 +30,12 @@ points_within big raw are =
     omega (arith, points_len big raw are, lossy_within big (take n raw) (are_front n raw are))
 
 -- what is certain of them
-pub decided_wtf8_within : (big : Bool) (raw : List ℕ) → AreBytes raw → length (flat_map generalized_utf8 (decided (wtf8_parts big) raw)) ≤ length raw / 2 * 3
+pub decided_wtf8_within : (big : Bool) (raw : List ℕ) → AreBytes raw → length (flat_map generalized_utf8 (decided (wtf8_split big) raw)) ≤ length raw / 2 * 3
 decided_wtf8_within big raw are = omega (arith, decided_len big raw are, decided_within big raw are)
 
 -- the same for a chunk and at most three pending bytes before it
 pub fed_wtf8_within : (big : Bool) (pending chunk : List ℕ) → length pending ≤ 3 → AreBytes pending → AreBytes chunk
-    → length (flat_map generalized_utf8 (decided (wtf8_parts big) (pending ++ chunk))) ≤ (length chunk + 3) / 2 * 3
+    → length (flat_map generalized_utf8 (decided (wtf8_split big) (pending ++ chunk))) ≤ (length chunk + 3) / 2 * 3
 fed_wtf8_within big pending chunk few first second =
     let all = length-append pending chunk in
     let within = decided_wtf8_within big (pending ++ chunk) (are_bytes pending chunk first second) in

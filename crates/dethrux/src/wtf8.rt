@@ -2,13 +2,13 @@
 
 ghost use Rattle.std.specs.Prelude.{◌≡◌, ◌≢◌, ◌↔◌, ◌+◌, ◌-◌, ◌*◌, ◌/◌, ◌%◌, ◌<◌, ◌≤◌, [], ◌++◌, drop, length, take};
 ghost use Rattle.std.specs.List.{flat_map};
-ghost use Rattle.utf16_transcode.specs.Decomposition.{decided};
+ghost use Rattle.utf16_transcode.specs.StreamSplit.{decided};
 ghost use Rattle.utf16_transcode.specs.WholeText.{WritesWhole};
 ghost use Rattle.utf16_transcode.specs.Stream.{FeedsAs, StopsFeedingAs, stream_pending};
 ghost use Rattle.utf16_transcode.specs.Transcoded.{Writes};
 ghost use Rattle.utf16_transcode.specs.declared.progress.Stop.TheVariants.{Done, Incomplete, NoSpace};
 ghost use Rattle.utf16_wtf8.specs.FromWtf8.{HasUtf16Len, IsWrittenIfItFits, LeavesLeading, StopsFromWtf8, StopsFromWtf8Partial, TranscodesFromWtf8};
-ghost use Rattle.utf16_wtf8.specs.ToWtf8.{DecodesToWtf8, StopsBeforeTail, StopsToWtf8, points_of, tail_points, wtf8_parts};
+ghost use Rattle.utf16_wtf8.specs.ToWtf8.{DecodesToWtf8, StopsBeforeTail, StopsToWtf8, points_of, tail_points, wtf8_split};
 ghost use Rattle.utf16_wtf8.specs.Wtf8.{generalized_utf8};
 ghost use Rattle.dethrux.specs.Numbers.{AreNumbers, is_big, stop_of};
 
@@ -64,7 +64,7 @@ pub extern "C" fn dethrux_to_wtf8_partial(byte_order: u32, utf16: &[u8], to: &mu
         → stop_of result.status result.error_len ≢ NoSpace }
     ensures filled { stop_of result.status result.error_len ≡ NoSpace
         → length to.new < result.written + 4 }
-    ensures advances { 4 ≤ length to.new → decided (wtf8_parts (is_big byte_order)) utf16.now ≢ []
+    ensures advances { 4 ≤ length to.new → decided (wtf8_split (is_big byte_order)) utf16.now ≢ []
         → 0 < result.read }
     ensures numbers { AreNumbers result.status result.error_len }
 {
@@ -80,15 +80,15 @@ pub extern "C" fn dethrux_wtf8_decoder_feed(
     chunk: &[u8],
     to: &mut [u8],
 ) -> Progress
-    ensures feeds { FeedsAs (wtf8_parts (is_big byte_order)) generalized_utf8
+    ensures feeds { FeedsAs (wtf8_split (is_big byte_order)) generalized_utf8
         (stream_pending decoder.old) chunk.now (stream_pending decoder.new) to.new result.read
         result.written }
-    ensures stop { StopsFeedingAs (wtf8_parts (is_big byte_order)) generalized_utf8
+    ensures stop { StopsFeedingAs (wtf8_split (is_big byte_order)) generalized_utf8
         (stream_pending decoder.old) chunk.now (stream_pending decoder.new) result.read
         (length to.new - result.written) (stop_of result.status result.error_len) }
     ensures done { (stop_of result.status result.error_len ≡ Done)
         ↔ (length (flat_map generalized_utf8
-        (decided (wtf8_parts (is_big byte_order)) (stream_pending decoder.old ++ chunk.now)))
+        (decided (wtf8_split (is_big byte_order)) (stream_pending decoder.old ++ chunk.now)))
         ≤ length to.new) }
     ensures filled { stop_of result.status result.error_len ≡ NoSpace
         → length to.new < result.written + 4 }

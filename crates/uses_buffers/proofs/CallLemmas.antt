@@ -5,7 +5,7 @@ use Rattle.std.proofs.lemmas.List.Concat.{flat_map-append}
 use Rattle.std.proofs.lemmas.List.Sums.{sum_by-cons}
 use Rattle.std.specs.List.{flat_map}
 use Rattle.utf16_transcode.specs.Decodes.{DecodesAs}
-use Rattle.utf16_transcode.specs.Decomposition.{Decomposition, IsSplitInChunks, decided}
+use Rattle.utf16_transcode.specs.StreamSplit.{StreamSplit, IsSplitInChunks, decided}
 use Rattle.utf16_transcode.specs.Stream.{FeedsAs, StopsFeedingAs}
 use Rattle.utf16_transcode.specs.declared.progress.Stop.{Stop}
 use Rattle.utf16_transcode.specs.declared.progress.Stop.TheVariants.{Incomplete, Done, IllFormed, NoSpace}
@@ -57,7 +57,7 @@ module _ (Promised : List ℕ → Call → Type 0) (conversion : Conversion ℕ 
 -- ---- a stream, through any number of calls for each chunk
 
 -- one call: what follows its chunk in the stream is left too
-module _ (parts : Decomposition) (into : ℕ → List ℕ) (split : IsSplitInChunks parts) (bytes pending chunk left to old all next : List ℕ) (read written : ℕ)
+module _ (parts : StreamSplit) (into : ℕ → List ℕ) (split : IsSplitInChunks parts) (bytes pending chunk left to old all next : List ℕ) (read written : ℕ)
     (before : DecodesAs parts into bytes (pending ++ chunk) old all) (feeds : FeedsAs parts into pending chunk left to read written) (grown : next ≡ all ++ take written to) where
   pub feed_more : DecodesAs parts into bytes (left ++ rest_from chunk read) old next
   feed_more =
@@ -92,7 +92,7 @@ module _ (parts : Decomposition) (into : ℕ → List ℕ) (split : IsSplitInChu
   feed_end room NoSpace other done = absurd (other refl)
 
 -- what is certain of the chunks so far, and one chunk more
-module _ (parts : Decomposition) (into : ℕ → List ℕ) (split : IsSplitInChunks parts) (front back pending all next left : List ℕ)
+module _ (parts : StreamSplit) (into : ℕ → List ℕ) (split : IsSplitInChunks parts) (front back pending all next left : List ℕ)
     (so_far : all ≡ flat_map into (decided parts front)) (tail : pending ≡ parts.tail front) where
   pub chunk_text : next ≡ all ++ flat_map into (decided parts (pending ++ back)) → next ≡ flat_map into (decided parts (front ++ back))
   chunk_text grown =
@@ -103,7 +103,7 @@ module _ (parts : Decomposition) (into : ℕ → List ℕ) (split : IsSplitInChu
   chunk_tail is = is ∙ ap (λ p. parts.tail (p ++ back)) tail ∙ sym (split.tail front back)
 
 -- the end of a stream
-module _ (parts : Decomposition) (into : ℕ → List ℕ) (split : IsSplitInChunks parts) where
+module _ (parts : StreamSplit) (into : ℕ → List ℕ) (split : IsSplitInChunks parts) where
   pub end_text : (bytes pending all next : List ℕ) → all ≡ flat_map into (decided parts bytes) → pending ≡ parts.tail bytes
       → next ≡ all ++ flat_map into (parts.at_end pending) → next ≡ flat_map into (parts.whole bytes)
   end_text bytes pending all next so_far tail grown =
@@ -120,7 +120,7 @@ module _ (parts : Decomposition) (into : ℕ → List ℕ) (split : IsSplitInChu
 
 -- ---- a stream, in any chunks
 
-module _ (parts : Decomposition) (into : ℕ → List ℕ) (split : IsSplitInChunks parts) where
+module _ (parts : StreamSplit) (into : ℕ → List ℕ) (split : IsSplitInChunks parts) where
   -- one call: what follows its chunk in the stream is left too
   fed_whole : (pending bytes left to : List ℕ) (offered read written : ℕ) → FeedsAs parts into pending (take offered bytes) left to read written
       → flat_map into (parts.whole (pending ++ bytes)) ≡ take written to ++ flat_map into (parts.whole (left ++ drop read bytes))

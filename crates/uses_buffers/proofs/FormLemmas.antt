@@ -4,7 +4,7 @@ use Rattle.std.proofs.Common.{◌≡◌, ℕ, ◌+◌, ◌<◌, ◌≤◌, List,
 use Rattle.std.proofs.lemmas.List.{drop-drop}
 use Rattle.std.specs.List.{flat_map}
 use Rattle.utf16_transcode.specs.Decodes.{DecodesAs}
-use Rattle.utf16_transcode.specs.Decomposition.{Decomposition, IsSplitInChunks, decided}
+use Rattle.utf16_transcode.specs.StreamSplit.{StreamSplit, IsSplitInChunks, decided}
 use Rattle.utf16_transcode.specs.Stops.{NextDoesNotFit, Stops, StopsLossyAs, StopsLossyWhole}
 use Rattle.utf16_transcode.specs.Transcoded.{SameText, Joins}
 use Rattle.utf16_transcode.specs.declared.progress.Stop.{Stop}
@@ -89,12 +89,12 @@ lossy_end text into empty input out n stop done =
     ∙ append-nil out)
 
 -- the whole of nothing is nothing
-pub whole_nothing : (parts : Decomposition) (into : ℕ → List ℕ) → IsSplitInChunks parts → parts.whole [] ≡ []
+pub whole_nothing : (parts : StreamSplit) (into : ℕ → List ℕ) → IsSplitInChunks parts → parts.whole [] ≡ []
 whole_nothing parts into split = whole_tail parts into split [] split.nothing ∙ split.no_end
 
 -- ---- what is certain
 
-module _ (parts : Decomposition) (into : ℕ → List ℕ) where
+module _ (parts : StreamSplit) (into : ℕ → List ℕ) where
   -- what is shown appended to what was shown before
   pub decodes_onto : (bytes rest old new : List ℕ) → DecodesAs parts into bytes rest [] new → DecodesAs parts into bytes rest old (old ++ new)
   decodes_onto bytes rest old new d = record { taken = d.taken; items = d.items; tail = d.tail; text = ap (λ t. old ++ t) d.text }

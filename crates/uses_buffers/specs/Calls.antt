@@ -1,7 +1,7 @@
 -- An input that is converted in several calls, each with the bytes that the call before left.
 use Rattle.std.specs.Prelude.{◌≡◌, ◌≢◌, ℕ, ◌+◌, ◌-◌, ◌≤◌, List, [], ◌∷◌, ◌++◌, Option, None, Some, length, take, drop, sum_by}
 use Rattle.std.specs.List.{flat_map}
-use Rattle.utf16_transcode.specs.Decomposition.{Decomposition}
+use Rattle.utf16_transcode.specs.StreamSplit.{StreamSplit}
 use Rattle.utf16_transcode.specs.WholeText.{WritesWhole}
 use Rattle.utf16_transcode.specs.Stops.{Stops, StopsLossyAs, StopsLossyWhole}
 use Rattle.utf16_transcode.specs.Stream.{FeedsAs, StopsFeedingAs}
@@ -47,7 +47,7 @@ IsLossyCall text into input call =
     × StopsLossyWhole text into (drop call.read input) (length call.to - call.written) call.stop
 
 -- what `transcode_partial` promises
-abbrev pub IsPartialCall : Decomposition → (ℕ → List ℕ) → List ℕ → Call → Type 0
+abbrev pub IsPartialCall : StreamSplit → (ℕ → List ℕ) → List ℕ → Call → Type 0
 IsPartialCall parts into input call =
     DecodesAsTo parts into input call.to call.read call.written
     × StopsLossyAs parts into (drop call.read input) (length call.to - call.written) call.stop
@@ -93,7 +93,7 @@ pub record Feed : Type 0 where
 abbrev pub feed_output : Feed → List ℕ
 feed_output feed = take feed.written feed.to
 
-module _ (parts : Decomposition) (into : ℕ → List ℕ) where
+module _ (parts : StreamSplit) (into : ℕ → List ℕ) where
   -- what `feed` promises of a call, after pending bytes and with these bytes of the stream left
   abbrev pub IsFeed : List ℕ → List ℕ → Feed → Type 0
   IsFeed pending bytes feed =

@@ -5,7 +5,7 @@ use Rattle.std.specs.List.{flat_map}
 use Rattle.utf16_units.specs.Encoding.{Encodes, char_bytes}
 use Rattle.utf16_units.specs.Split.{lossy_text}
 use Rattle.utf16_transcode.specs.Decodes.{DecodesAs}
-use Rattle.utf16_transcode.specs.Decomposition.{Decomposition}
+use Rattle.utf16_transcode.specs.StreamSplit.{StreamSplit}
 use Rattle.utf16_transcode.specs.Stops.{IsIllFormedUtf16, Stops, StopsLossyAs, StopsLossyWhole}
 use Rattle.utf16_transcode.specs.declared.progress.Stop.{Stop}
 use Rattle.utf16_transcode.specs.declared.progress.Stop.TheVariants.{Incomplete, Done, IllFormed, NoSpace}
@@ -36,7 +36,7 @@ lossy text into = record {
 }
 
 -- a conversion of what is certain of any input
-abbrev pub partial : Decomposition → (ℕ → List ℕ) → Conversion ℕ ℕ Stop
+abbrev pub partial : StreamSplit → (ℕ → List ℕ) → Conversion ℕ ℕ Stop
 partial parts into = record {
   no_space = NoSpace;
   Writes = λ input out n. DecodesAs parts into input (drop n input) [] out;

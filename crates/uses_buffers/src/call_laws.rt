@@ -5,7 +5,7 @@
 
 ghost use Rattle.std.specs.Prelude.{◌≡◌, ◌++◌, ℕ, List};
 ghost use Rattle.std.specs.List.{flat_map};
-ghost use Rattle.utf16_transcode.specs.Decomposition.{decided};
+ghost use Rattle.utf16_transcode.specs.StreamSplit.{decided};
 ghost use Rattle.uses_buffers.specs.Calls.{Call, ConvertsUpTo, EndWith, Feed, FeedsAll, IsLossyCall, IsPartialCall, IsStrictCall, all_output, all_read, feed_output};
 
 use utf16_transcode::{Direction, LossyDirection};
@@ -13,8 +13,8 @@ use utf16_transcode::{Direction, LossyDirection};
 /// Lossy calls, of which each but the last stopped for lack of space, write the whole text.
 pub fn lossy_calls<D: LossyDirection>()
     ensures { (input : List ℕ) (calls : List Call) (last : Call)
-        → EndWith (IsLossyCall D.parts.whole D.into) input calls last
-        → all_output calls last ≡ flat_map D.into (D.parts.whole input) }
+        → EndWith (IsLossyCall D.split.whole D.into) input calls last
+        → all_output calls last ≡ flat_map D.into (D.split.whole input) }
 {
     D::lossy_laws();
 }
@@ -22,8 +22,8 @@ pub fn lossy_calls<D: LossyDirection>()
 /// Partial calls, of which each but the last stopped for lack of space, write all that is certain.
 pub fn partial_calls<D: LossyDirection>()
     ensures { (input : List ℕ) (calls : List Call) (last : Call)
-        → EndWith (IsPartialCall D.parts D.into) input calls last
-        → all_output calls last ≡ flat_map D.into (decided D.parts input) }
+        → EndWith (IsPartialCall D.split D.into) input calls last
+        → all_output calls last ≡ flat_map D.into (decided D.split input) }
 {
     D::lossy_laws();
 }
@@ -43,10 +43,10 @@ pub fn strict_calls<D: Direction>()
 /// replacement of what is pending at its end.
 pub fn stream_calls<D: LossyDirection>()
     ensures { (bytes : List ℕ) (feeds : List Feed) (last : Feed)
-        → FeedsAll D.parts D.into bytes feeds last
+        → FeedsAll D.split D.into bytes feeds last
         → (flat_map feed_output feeds ++ feed_output last) ++ flat_map D.into
-        (D.parts.at_end last.pending)
-        ≡ flat_map D.into (D.parts.whole bytes) }
+        (D.split.at_end last.pending)
+        ≡ flat_map D.into (D.split.whole bytes) }
 {
     D::lossy_laws();
 }

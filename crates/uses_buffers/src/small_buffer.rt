@@ -5,7 +5,7 @@
 ghost use Rattle.std.specs.Prelude.{◌≡◌, ◌≤◌, ◌++◌, IfOk, OnOk, length, drop};
 ghost use Rattle.std.specs.List.{flat_map};
 ghost use Rattle.std.specs.Vec.{vec_items};
-ghost use Rattle.utf16_transcode.specs.Decomposition.{decided};
+ghost use Rattle.utf16_transcode.specs.StreamSplit.{decided};
 ghost use Rattle.utf16_transcode.specs.Stream.{stream_pending};
 ghost use Rattle.utf16_transcode.specs.Transcoded.{SameText};
 ghost use Rattle.uses_buffers.specs.Calls.{ConvertsUpTo};
@@ -29,7 +29,7 @@ impl<D: LossyDirection> BufferCall for Lossy<D> {
 
     type Stop = Stop;
 
-    ghost conversion = { lossy D.parts.whole D.into };
+    ghost conversion = { lossy D.split.whole D.into };
 
     ghost least = { 4 };
 
@@ -58,7 +58,7 @@ pub fn lossy_through<D: LossyDirection, A: Allocator>(
     buffer: &mut [u8],
 ) -> Result<Vec<u8, A>, AllocError>
     requires { 4 ≤ length buffer.old }
-    ensures { IfOk result (λ all. vec_items all ≡ flat_map D.into (D.parts.whole input.now)) }
+    ensures { IfOk result (λ all. vec_items all ≡ flat_map D.into (D.split.whole input.now)) }
 {
     D::lossy_laws();
     Ok(call_through::<Lossy<D>, A>(alloc, input, buffer)?.0)
@@ -82,7 +82,7 @@ pub fn stream_through<D: LossyDirection, A: Allocator, B: Allocator>(
 ) -> Result<Vec<u8, A>, AllocError>
     requires { 4 ≤ length buffer.old }
     ensures { IfOk result (λ all. vec_items all
-        ≡ flat_map D.into (D.parts.whole (flat_map vec_items chunks.now))) }
+        ≡ flat_map D.into (D.split.whole (flat_map vec_items chunks.now))) }
 {
     D::lossy_laws();
     let (mut all, mut stream) = feed_chunks::<D, A, B>(alloc, chunks, buffer)?;
@@ -101,7 +101,7 @@ impl<D: LossyDirection> BufferCall for Partial<D> {
 
     type Stop = Stop;
 
-    ghost conversion = { partial D.parts D.into };
+    ghost conversion = { partial D.split D.into };
 
     ghost least = { 4 };
 
@@ -132,8 +132,8 @@ pub fn partial_through<D: LossyDirection, A: Allocator>(
 ) -> Result<(Vec<u8, A>, usize), AllocError>
     requires { 4 ≤ length buffer.old }
     ensures text { IfOk result (λ done. vec_items done.0
-        ≡ flat_map D.into (decided D.parts input.now)) }
-    ensures tail { IfOk result (λ done. drop done.1 input.now ≡ D.parts.tail input.now) }
+        ≡ flat_map D.into (decided D.split input.now)) }
+    ensures tail { IfOk result (λ done. drop done.1 input.now ≡ D.split.tail input.now) }
     ensures within { IfOk result (λ done. done.1 ≤ length input.now) }
 {
     D::lossy_laws();
@@ -195,9 +195,9 @@ pub(crate) fn feed_chunks<D: LossyDirection, A: Allocator, B: Allocator>(
 ) -> Result<(Vec<u8, A>, Stream), AllocError>
     requires { 4 ≤ length buffer.old }
     ensures text { IfOk result (λ fed. vec_items fed.0
-        ≡ flat_map D.into (decided D.parts (flat_map vec_items chunks.now))) }
+        ≡ flat_map D.into (decided D.split (flat_map vec_items chunks.now))) }
     ensures pending { IfOk result (λ fed.
-        stream_pending fed.1 ≡ D.parts.tail (flat_map vec_items chunks.now)) }
+        stream_pending fed.1 ≡ D.split.tail (flat_map vec_items chunks.now)) }
 {
     D::lossy_laws();
     let mut all = Vec::new(alloc);
@@ -217,9 +217,9 @@ fn feed_through<D: LossyDirection, A: Allocator>(
 ) -> Result<(), AllocError>
     requires { 4 ≤ length buffer.old }
     ensures text { OnOk result (vec_items all.new ≡ vec_items all.old
-        ++ flat_map D.into (decided D.parts (stream_pending stream.old ++ chunk.now))) }
+        ++ flat_map D.into (decided D.split (stream_pending stream.old ++ chunk.now))) }
     ensures pending { OnOk result (stream_pending stream.new
-        ≡ D.parts.tail (stream_pending stream.old ++ chunk.now)) }
+        ≡ D.split.tail (stream_pending stream.old ++ chunk.now)) }
 {
     D::lossy_laws();
     let mut rest = chunk;

@@ -143,7 +143,6 @@ nul-unit bytes at unit to room is zero = record {
   nul = λ less. IsNul-bytes false bytes at to.even room (sym is ∙ zero);
 }
 
-
 -- a part of them
 pub LacksNulTo-front : (bytes : List ℕ) (at less : ℕ) → LacksNulTo bytes at → less ≤ at → less % 2 ≡ 0 → LacksNulTo bytes less
 LacksNulTo-front bytes at less to few even =

@@ -12,8 +12,8 @@ use Rattle.utf16_units.proofs.FirstChar.{AreBytes, first_unit}
 use Rattle.utf16_units.proofs.RecipeLemmas.{lossy_char-lone_item, lossy_chars-good, two}
 use Rattle.utf16_units.proofs.SplitIllFormed.{AreBytes-drop, lone_item, split_items-fault, split_tail-fault}
 use Rattle.utf16_units.proofs.SplitJoin.{split_items-text, split_tail-text}
-use Rattle.utf16_transcode.specs.Decodes.{utf16_parts}
-use Rattle.utf16_transcode.specs.Decomposition.{decided}
+use Rattle.utf16_transcode.specs.Decodes.{utf16_split}
+use Rattle.utf16_transcode.specs.StreamSplit.{decided}
 use Rattle.utf16_transcode.specs.Stops.{IsIllFormedUtf16, TextDoesNotFit}
 use Rattle.utf16_transcode.specs.Transcoded.{Writes}
 use Rattle.utf16_transcode.specs.declared.progress.Stop.{Stop}
@@ -113,7 +113,7 @@ module _ (big : Bool) (raw : List ℕ) (read len : ℕ) (are : AreBytes raw) (so
         omega (arith, many, two, here.1.0);
     fits = omega (arith, room, length-set to at 0xFFFD);
     decodes =
-        Decodes-then (utf16_parts big) utf32_units raw rest (drop (read + len) raw) [] (take at to) (take (at + 1) (slice_set to at 0xFFFD)) before.decodes
+        Decodes-then (utf16_split big) utf32_units raw rest (drop (read + len) raw) [] (take at to) (take (at + 1) (slice_set to at 0xFFFD)) before.decodes
         (record {
           taken = lone ∷ [];
           items = items_here;
@@ -123,7 +123,7 @@ module _ (big : Bool) (raw : List ℕ) (read len : ℕ) (are : AreBytes raw) (so
   }
 
   -- or does not fit
-  pub replacement_is_too_long : (left : ℕ) → left < 1 → TextDoesNotFit utf32_units (decided (utf16_parts big) (drop read raw)) left
+  pub replacement_is_too_long : (left : ℕ) → left < 1 → TextDoesNotFit utf32_units (decided (utf16_split big) (drop read raw)) left
   unfolding rest lone
   replacement_is_too_long left full = record {
     char = 0xFFFD;

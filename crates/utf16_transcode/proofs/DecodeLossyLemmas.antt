@@ -20,7 +20,7 @@ use Rattle.utf16_units.proofs.ShownLemmas.{split_within}
 use Rattle.utf16_units.proofs.SplitLemmas.{Split-computed}
 use Rattle.utf16_units.proofs.SplitIllFormed.{lone_item, split_items-fault, split_tail-incomplete, split_tail-fault}
 use Rattle.utf16_units.proofs.SplitJoin.{split_items-text, split_tail-text}
-use Rattle.utf16_transcode.specs.Decodes.{Decodes, utf16_parts}
+use Rattle.utf16_transcode.specs.Decodes.{Decodes, utf16_split}
 use Rattle.utf16_transcode.specs.Transcoded.{DecodesTo, TranscodesToUtf8}
 use Rattle.utf16_transcode.specs.Stops.{IsIllFormedUtf16, StopsDecoding, StopsLossy, TextDoesNotFit}
 use Rattle.utf16_transcode.specs.declared.progress.Stop.{Stop}
@@ -163,7 +163,7 @@ module _ (big : Bool) (raw : List ℕ) (n len : ℕ) (found : IsIllFormedUtf16 b
       within = omega (arith, two_left, length-drop n raw, fault.0, found.0.within);
       fits = room;
       decodes =
-          Decodes-then (utf16_parts big) encode_utf8 raw (drop n raw) (drop (n + len) raw) [] (take w mid) (take last next) (Decodes-text big raw n [] (take w mid) text)
+          Decodes-then (utf16_split big) encode_utf8 raw (drop n raw) (drop (n + len) raw) [] (take w mid) (take last next) (Decodes-text big raw n [] (take w mid) text)
           (record {
             taken = lone ∷ [];
             items = items_here;
@@ -200,7 +200,7 @@ module _ (big : Bool) (rest : List ℕ) (e : Utf16Error) (is : IsErrorOf big res
       ≡ length (encode_utf8_all (text_of big (take n rest))) + 3 + length (encode_utf8_all (lossy_text big (drop len (drop n rest))))
   fault_size are len some =
       let front = encode_utf8_all (text_of big (take n rest)) in
-      let all = whole_text (utf16_parts big) encode_utf8 (utf16_chunks big) rest (drop len (drop n rest)) (front ++ encode_utf8 0xFFFD)
+      let all = whole_text (utf16_split big) encode_utf8 (utf16_chunks big) rest (drop len (drop n rest)) (front ++ encode_utf8 0xFFFD)
       (fault_decides big rest e is n at are len some [] front (front ++ encode_utf8 0xFFFD) refl refl) in
       let both = ap length all ∙ length-append (front ++ encode_utf8 0xFFFD) (encode_utf8_all (lossy_text big (drop len (drop n rest)))) in
       omega (arith, length-append front (encode_utf8 0xFFFD), mark_within)

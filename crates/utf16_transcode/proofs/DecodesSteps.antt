@@ -4,10 +4,10 @@ use Rattle.std.proofs.lemmas.List.{map-append}
 use Rattle.std.proofs.lemmas.List.Concat.{flat_map-append}
 use Rattle.std.specs.List.{flat_map}
 use Rattle.utf16_transcode.specs.Decodes.{DecodesAs}
-use Rattle.utf16_transcode.specs.Decomposition.{Decomposition, IsSplitInChunks}
+use Rattle.utf16_transcode.specs.StreamSplit.{StreamSplit, IsSplitInChunks}
 use Rattle.utf16_transcode.specs.Stops.{TextDoesNotFit}
 
-module _ (parts : Decomposition) (into : ℕ → List ℕ) where
+module _ (parts : StreamSplit) (into : ℕ → List ℕ) where
   -- what is written for items
   abbrev pub written_for : List parts.Item → List ℕ
   written_for items = flat_map into (map parts.shown items)

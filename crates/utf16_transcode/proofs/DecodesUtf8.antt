@@ -22,7 +22,7 @@ use Rattle.utf16_transcode.specs.declared.progress.Stop.{Stop}
 use Rattle.utf16_transcode.specs.declared.progress.Stop.TheVariants.{Incomplete, Done, IllFormed, NoSpace}
 use Rattle.utf16_transcode.proofs.DecodesSteps.{Decodes-none, Decodes-then}
 use Rattle.utf16_transcode.specs.FromUtf8.{StopsEncoding, TranscodesToUtf16}
-use Rattle.utf16_transcode.specs.Utf8Stream.{DecodesUtf8To, FirstItem, StopsLossyUtf8, utf8_parts}
+use Rattle.utf16_transcode.specs.Utf8Stream.{DecodesUtf8To, FirstItem, StopsLossyUtf8, utf8_split}
 use Rattle.utf16_transcode.proofs.FromUtf8Lemmas.{chars-char}
 
 -- a text in UTF-16, character by character
@@ -55,7 +55,7 @@ pub DecodesUtf8To-none : (big : Bool) (utf8 to : List ℕ) → DecodesUtf8To big
 DecodesUtf8To-none big utf8 to = record {
   within = omega arith;
   fits = omega arith;
-  decodes = Decodes-none utf8_parts (char_bytes big) utf8 [];
+  decodes = Decodes-none utf8_split (char_bytes big) utf8 [];
 }
 
 -- a text, whose characters are written
@@ -127,8 +127,8 @@ DecodesUtf8To-item big utf8 old new read at char n last before first fits bytes 
       within = omega (arith, length-drop read utf8);
       fits = fits;
       decodes =
-          Decodes-then utf8_parts (char_bytes big) utf8 rest (drop (read + n) utf8) [] (take at old) (take last new) before.decodes
-          (subst (λ r. DecodesAs utf8_parts (char_bytes big) rest r (take at old) (take last new)) (drop-drop n read utf8) (record {
+          Decodes-then utf8_split (char_bytes big) utf8 rest (drop (read + n) utf8) [] (take at old) (take last new) before.decodes
+          (subst (λ r. DecodesAs utf8_split (char_bytes big) rest r (take at old) (take last new)) (drop-drop n read utf8) (record {
             taken = first.item ∷ [];
             items = first.items;
             tail = first.tail;

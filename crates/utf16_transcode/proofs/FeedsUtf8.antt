@@ -12,10 +12,10 @@ use Rattle.utf8_bytes.proofs.LossyLemmas.{lossy_text-is}
 use Rattle.utf8_bytes.proofs.SplitLemmas.{Split-computed, Split-nil}
 use Rattle.utf8_bytes.proofs.SplitUnique.{Split-unique, split_items-append, split_tail-append}
 use Rattle.utf8_bytes.proofs.TableLemmas.{tail_nil}
-use Rattle.utf16_transcode.specs.Decomposition.{IsSplitInChunks}
+use Rattle.utf16_transcode.specs.StreamSplit.{IsSplitInChunks}
 use Rattle.utf16_transcode.specs.declared.progress.Stop.{Stop}
 use Rattle.utf16_transcode.specs.declared.progress.Stop.TheVariants.{Incomplete, Done, IllFormed, NoSpace}
-use Rattle.utf16_transcode.specs.Utf8Stream.{FeedsUtf8, StopsFeedingUtf8, utf8_parts}
+use Rattle.utf16_transcode.specs.Utf8Stream.{FeedsUtf8, StopsFeedingUtf8, utf8_split}
 use Rattle.utf16_transcode.proofs.DecodesUtf8.{flat_encode, length-split_tail, taken_bytes, undecided_items}
 
 -- a stream of UTF-8 may come in chunks
@@ -31,7 +31,7 @@ whole_is_both : (items : List Item) (tail : List ℕ) → whole_lossy_chars item
 whole_is_both items [] = sym (append-nil (lossy_chars items))
 whole_is_both items (first ∷ after) = refl
 
-pub utf8_chunks : IsSplitInChunks utf8_parts
+pub utf8_chunks : IsSplitInChunks utf8_split
 utf8_chunks = record {
   items = split_items-append;
   tail = split_tail-append;

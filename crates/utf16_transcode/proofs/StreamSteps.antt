@@ -7,7 +7,7 @@ use Rattle.std.proofs.lemmas.List.{drop-append-le, drop-drop, drop_all, map-appe
 use Rattle.std.specs.List.{flat_map}
 use Rattle.utf16_units.proofs.IllFormedLemmas.{rest_from, take-past}
 use Rattle.utf16_transcode.specs.Decodes.{DecodesAs}
-use Rattle.utf16_transcode.specs.Decomposition.{Decomposition, IsSplitInChunks, decided}
+use Rattle.utf16_transcode.specs.StreamSplit.{StreamSplit, IsSplitInChunks, decided}
 use Rattle.utf16_transcode.proofs.DecodesSteps.{Decodes-end, Decodes-more, Decodes-none, Decodes-then, tail_again, written_for, written_for-append}
 use Rattle.utf16_transcode.specs.Transcoded.{DecodesAsTo}
 use Rattle.utf16_transcode.specs.Stops.{StopsLossyAs, TextDoesNotFit}
@@ -45,11 +45,11 @@ join_drop pending piece at = ⊎_elim
     (cases_lt at (length pending))
 
 -- nothing is decoded
-pub DecodesTo-none : (parts : Decomposition) (into : ℕ → List ℕ) (input to : List ℕ) → DecodesAsTo parts into input to 0 0
+pub DecodesTo-none : (parts : StreamSplit) (into : ℕ → List ℕ) (input to : List ℕ) → DecodesAsTo parts into input to 0 0
 DecodesTo-none parts into input to = record { within = omega arith; fits = omega arith; decodes = Decodes-none parts into input [] }
 
 -- the first bytes of the rest were decoded, and what is shown of them appended
-module _ (parts : Decomposition) (into : ℕ → List ℕ) (split : IsSplitInChunks parts) (input old part window next : List ℕ) (read at n w : ℕ)
+module _ (parts : StreamSplit) (into : ℕ → List ℕ) (split : IsSplitInChunks parts) (input old part window next : List ℕ) (read at n w : ℕ)
     (before : DecodesAsTo parts into input old read at) (joined : window ++ next ≡ drop read input) (front : DecodesAsTo parts into window part n w)
     (long : length part ≡ length old - at) where
   abbrev new : List ℕ
@@ -103,7 +103,7 @@ module _ (parts : Decomposition) (into : ℕ → List ℕ) (split : IsSplitInChu
   stops_window Incomplete (inl full) here = absurd (cc)
 
 -- such a step over all of the rest, as a slice from `read` on
-module _ (parts : Decomposition) (into : ℕ → List ℕ) (split : IsSplitInChunks parts) (input old part : List ℕ) (read at n w : ℕ)
+module _ (parts : StreamSplit) (into : ℕ → List ℕ) (split : IsSplitInChunks parts) (input old part : List ℕ) (read at n w : ℕ)
     (before : DecodesAsTo parts into input old read at) (front : DecodesAsTo parts into (rest_from input read) part n w) (long : length part ≡ length old - at) where
   abbrev joined : rest_from input read ++ [] ≡ drop read input
   joined = append-nil (rest_from input read) ∙ take_rest input read
@@ -138,7 +138,7 @@ module _ (pending piece window : List ℕ) (read : ℕ) (within : read ≤ lengt
       drop_all 4 (drop read (pending ++ piece)) (omega (arith, short, few))
 
   -- if none of them is decoded, they are the last ones, or there is no space
-  pub start_stops : (parts : Decomposition) (into : ℕ → List ℕ) → IsSplitInChunks parts → (n room : ℕ) (stop : Stop) → n ≡ 0
+  pub start_stops : (parts : StreamSplit) (into : ℕ → List ℕ) → IsSplitInChunks parts → (n room : ℕ) (stop : Stop) → n ≡ 0
       → StopsLossyAs parts into (drop n window) room stop → (stop ≡ NoSpace) ⊎ (after_seam ≡ [])
   start_stops parts into split n room Done zero here = inr (few_after (omega (arith, zero, ap length here, length-drop n window)))
   start_stops parts into split n room (IllFormed len) zero here = absurd here
@@ -155,7 +155,7 @@ piece_joined pending piece read past =
 -- ---- what a stream holds
 
 -- if a call did not stop for lack of space, the rest is pending
-pub rest_undecided : (parts : Decomposition) (into : ℕ → List ℕ) → IsSplitInChunks parts → (rest : List ℕ) (room : ℕ) (stop : Stop) → ¬ (stop ≡ NoSpace)
+pub rest_undecided : (parts : StreamSplit) (into : ℕ → List ℕ) → IsSplitInChunks parts → (rest : List ℕ) (room : ℕ) (stop : Stop) → ¬ (stop ≡ NoSpace)
     → StopsLossyAs parts into rest room stop → parts.tail rest ≡ rest
 rest_undecided parts into split rest room Done some here = ap parts.tail here ∙ split.nothing ∙ sym here
 rest_undecided parts into split rest room (IllFormed len) some here = absurd here
@@ -163,7 +163,7 @@ rest_undecided parts into split rest room Incomplete some here = here.1
 rest_undecided parts into split rest room NoSpace some here = absurd (some refl)
 
 -- a part of pending bytes and a chunk was decoded
-module _ (parts : Decomposition) (into : ℕ → List ℕ) (split : IsSplitInChunks parts) (pending piece to : List ℕ) (at written : ℕ)
+module _ (parts : StreamSplit) (into : ℕ → List ℕ) (split : IsSplitInChunks parts) (pending piece to : List ℕ) (at written : ℕ)
     (front : DecodesAsTo parts into (pending ++ piece) to at written) where
   abbrev all : List ℕ
   all = pending ++ piece
@@ -246,7 +246,7 @@ module _ (parts : Decomposition) (into : ℕ → List ℕ) (split : IsSplitInChu
         omega (arith, shown_long, none, front.fits)
 
 -- if all of a chunk was taken, all that is certain was written
-pub fed_text : (parts : Decomposition) (into : ℕ → List ℕ) (split : IsSplitInChunks parts) (pending piece left to : List ℕ) (read written room : ℕ)
+pub fed_text : (parts : StreamSplit) (into : ℕ → List ℕ) (split : IsSplitInChunks parts) (pending piece left to : List ℕ) (read written room : ℕ)
     → FeedsAs parts into pending piece left to read written → StopsFeedingAs parts into pending piece left read room Done
     → take written to ≡ flat_map into (decided parts (pending ++ piece))
 fed_text parts into split pending piece left to read written room feeds done =

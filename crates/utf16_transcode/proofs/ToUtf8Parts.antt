@@ -6,8 +6,8 @@ use Rattle.std.specs.Char.{encode_utf8}
 use Rattle.utf16_units.specs.Split.{Item, lossy_char, lossy_chars, lossy_text, split_items, split_tail, whole_lossy_chars}
 use Rattle.utf16_units.proofs.SplitJoin.{split_items-append, split_tail-append}
 use Rattle.utf16_units.proofs.SplitUnique.{length-split_tail}
-use Rattle.utf16_transcode.specs.Decodes.{utf16_parts}
-use Rattle.utf16_transcode.specs.Decomposition.{IsSplitInChunks}
+use Rattle.utf16_transcode.specs.Decodes.{utf16_split}
+use Rattle.utf16_transcode.specs.StreamSplit.{IsSplitInChunks}
 use Rattle.utf16_transcode.proofs.DecodesLemmas.{undecided_items}
 
 -- the whole text is the text of the items and then of the tail
@@ -39,7 +39,7 @@ no_tail : (big : Bool) → split_tail big [] ≡ []
 unfolding split_tail
 no_tail big = refl
 
-pub utf16_chunks : (big : Bool) → IsSplitInChunks (utf16_parts big)
+pub utf16_chunks : (big : Bool) → IsSplitInChunks (utf16_split big)
 utf16_chunks big = record {
   items = split_items-append big;
   tail = split_tail-append big;

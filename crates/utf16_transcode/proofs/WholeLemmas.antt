@@ -4,14 +4,14 @@ use Rattle.std.proofs.lemmas.List.{drop_all, map-append}
 use Rattle.std.proofs.lemmas.List.Concat.{flat_map-append}
 use Rattle.std.specs.List.{flat_map}
 use Rattle.utf16_transcode.specs.Decodes.{DecodesAs}
-use Rattle.utf16_transcode.specs.Decomposition.{Decomposition, IsSplitInChunks, decided}
+use Rattle.utf16_transcode.specs.StreamSplit.{StreamSplit, IsSplitInChunks, decided}
 use Rattle.utf16_transcode.specs.WholeText.{WritesWhole}
 use Rattle.utf16_transcode.specs.Stops.{StopsLossyAs, StopsLossyWhole, TextDoesNotFit}
 use Rattle.utf16_transcode.specs.Transcoded.{DecodesAsTo}
 use Rattle.utf16_transcode.specs.declared.progress.Stop.{Stop}
 use Rattle.utf16_transcode.specs.declared.progress.Stop.TheVariants.{Incomplete, Done, IllFormed, NoSpace}
 
-module _ (parts : Decomposition) (into : ℕ → List ℕ) (split : IsSplitInChunks parts) where
+module _ (parts : StreamSplit) (into : ℕ → List ℕ) (split : IsSplitInChunks parts) where
   -- what was decoded is a prefix of the whole, and the rest's whole follows it
   pub whole_text : (bytes rest new : List ℕ) → DecodesAs parts into bytes rest [] new
       → flat_map into (parts.whole bytes) ≡ new ++ flat_map into (parts.whole rest)

@@ -3,11 +3,11 @@ use Rattle.std.specs.Prelude.{◌≡◌, ℕ, Bool, List, ◌++◌, [], map}
 use Rattle.std.specs.Char.{encode_utf8}
 use Rattle.std.specs.List.{flat_map}
 use Rattle.utf16_units.specs.Split.{Item, lossy_char, lossy_text, split_items, split_tail, whole_lossy_chars}
-use Rattle.utf16_transcode.specs.Decomposition.{Decomposition}
+use Rattle.utf16_transcode.specs.StreamSplit.{StreamSplit}
 
 -- the first items of the bytes were decoded, what is shown for them was appended to the old bytes,
 -- and the rest has the other items and the tail
-pub record DecodesAs (parts : Decomposition) (into : ℕ → List ℕ) (bytes rest old new : List ℕ) : Type 0 where
+pub record DecodesAs (parts : StreamSplit) (into : ℕ → List ℕ) (bytes rest old new : List ℕ) : Type 0 where
   pub taken : List parts.Item
   pub items : parts.items bytes ≡ taken ++ parts.items rest
   pub tail : parts.tail bytes ≡ parts.tail rest
@@ -15,8 +15,8 @@ pub record DecodesAs (parts : Decomposition) (into : ℕ → List ℕ) (bytes re
 
 -- UTF-16 as characters and unpaired surrogates, with U+FFFD for each unpaired surrogate and for a
 -- tail
-abbrev pub utf16_parts : Bool → Decomposition
-utf16_parts big = record {
+abbrev pub utf16_split : Bool → StreamSplit
+utf16_split big = record {
   Item = Item;
   items = split_items big;
   tail = split_tail big;
@@ -27,4 +27,4 @@ utf16_parts big = record {
 
 -- a step from UTF-16 to UTF-8
 abbrev pub Decodes : Bool → List ℕ → List ℕ → List ℕ → List ℕ → Type 0
-Decodes big = DecodesAs (utf16_parts big) encode_utf8
+Decodes big = DecodesAs (utf16_split big) encode_utf8

@@ -1,6 +1,6 @@
 pub mod Unpaired
 pub mod Replaced
-pub mod Decomposition
+pub mod StreamSplit
 pub mod Decodes
 pub mod Transcoded
 pub mod Stops

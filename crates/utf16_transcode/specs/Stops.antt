@@ -3,8 +3,8 @@ use Rattle.std.specs.Prelude.{◌≡◌, ◌≢◌, ℕ, ◌<◌, ◌≤◌, Boo
 use Rattle.std.specs.Char.{IsScalar, encode_utf8}
 use Rattle.utf16_units.specs.Encoding.{char_bytes}
 use Rattle.utf16_units.specs.IllFormed.{IsIllFormed, IsUtf16ValidUpTo}
-use Rattle.utf16_transcode.specs.Decodes.{utf16_parts}
-use Rattle.utf16_transcode.specs.Decomposition.{Decomposition, decided}
+use Rattle.utf16_transcode.specs.Decodes.{utf16_split}
+use Rattle.utf16_transcode.specs.StreamSplit.{StreamSplit, decided}
 use Rattle.utf16_transcode.specs.declared.progress.Stop.{Stop}
 use Rattle.utf16_transcode.specs.declared.progress.Stop.TheVariants.{Incomplete, Done, IllFormed, NoSpace}
 
@@ -51,7 +51,7 @@ pub record TextDoesNotFit (into : ℕ → List ℕ) (text : List ℕ) (left : �
 
 -- for a lossy call: no bytes are left, or more bytes could change what is left, or the next
 -- character does not fit
-abbrev pub StopsLossyAs : Decomposition → (ℕ → List ℕ) → List ℕ → ℕ → Stop → Type 0
+abbrev pub StopsLossyAs : StreamSplit → (ℕ → List ℕ) → List ℕ → ℕ → Stop → Type 0
 StopsLossyAs parts into rest left Done = rest ≡ []
 StopsLossyAs parts into rest left (IllFormed len) = ⊥
 StopsLossyAs parts into rest left Incomplete = (rest ≢ []) × (parts.tail rest ≡ rest)
@@ -59,7 +59,7 @@ StopsLossyAs parts into rest left NoSpace = TextDoesNotFit into (decided parts r
 
 -- the reasons for UTF-16, lossy
 abbrev pub StopsLossy : Bool → List ℕ → ℕ → Stop → Type 0
-StopsLossy big = StopsLossyAs (utf16_parts big) encode_utf8
+StopsLossy big = StopsLossyAs (utf16_split big) encode_utf8
 
 -- the reasons for a call that writes the whole text, including the text of a tail
 abbrev pub StopsLossyWhole : (List ℕ → List ℕ) → (ℕ → List ℕ) → List ℕ → ℕ → Stop → Type 0

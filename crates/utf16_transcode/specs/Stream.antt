@@ -1,8 +1,8 @@
 -- A stream that comes in chunks: what is pending between them, and what a chunk adds.
 use Rattle.std.specs.Prelude.{◌≡◌, ℕ, ◌≤◌, ◌⊎◌, Bool, List, [], ◌++◌, length, take, drop}
 use Rattle.std.specs.Char.{encode_utf8}
-use Rattle.utf16_transcode.specs.Decodes.{DecodesAs, utf16_parts}
-use Rattle.utf16_transcode.specs.Decomposition.{Decomposition, decided}
+use Rattle.utf16_transcode.specs.Decodes.{DecodesAs, utf16_split}
+use Rattle.utf16_transcode.specs.StreamSplit.{StreamSplit, decided}
 use Rattle.utf16_transcode.specs.Stops.{TextDoesNotFit}
 use Rattle.utf16_transcode.specs.declared.progress.Stop.{Stop}
 use Rattle.utf16_transcode.specs.declared.progress.Stop.TheVariants.{Incomplete, Done, IllFormed, NoSpace}
@@ -15,7 +15,7 @@ stream_pending stream = take stream.len stream.bytes
 -- the first bytes of a chunk were taken: some of the pending bytes and the chunk are decoded, and
 -- what is shown for them is at the start of the buffer; the rest is the bytes that are pending
 -- afterwards and what is left of the chunk
-pub record FeedsAs (parts : Decomposition) (into : ℕ → List ℕ) (pending piece left to : List ℕ) (read written : ℕ) : Type 0 where
+pub record FeedsAs (parts : StreamSplit) (into : ℕ → List ℕ) (pending piece left to : List ℕ) (read written : ℕ) : Type 0 where
   pub within : read ≤ length piece
   pub fits : written ≤ length to
   pub decodes : DecodesAs parts into (pending ++ piece) (left ++ drop read piece) [] (take written to)
@@ -23,7 +23,7 @@ pub record FeedsAs (parts : Decomposition) (into : ℕ → List ℕ) (pending pi
 -- why it stopped: all was taken and the tail of the split is pending; or the next character does
 -- not fit, and only the decoded bytes were taken, first the pending ones and then those of the
 -- chunk
-abbrev pub StopsFeedingAs : Decomposition → (ℕ → List ℕ) → List ℕ → List ℕ → List ℕ → ℕ → ℕ → Stop → Type 0
+abbrev pub StopsFeedingAs : StreamSplit → (ℕ → List ℕ) → List ℕ → List ℕ → List ℕ → ℕ → ℕ → Stop → Type 0
 StopsFeedingAs parts into pending piece left read room Done = (read ≡ length piece) × (left ≡ parts.tail (pending ++ piece))
 StopsFeedingAs parts into pending piece left read room (IllFormed len) = ⊥
 StopsFeedingAs parts into pending piece left read room Incomplete = ⊥
@@ -32,7 +32,7 @@ StopsFeedingAs parts into pending piece left read room NoSpace =
 
 -- a step for UTF-16
 abbrev pub Feeds : Bool → List ℕ → List ℕ → List ℕ → List ℕ → ℕ → ℕ → Type 0
-Feeds big = FeedsAs (utf16_parts big) encode_utf8
+Feeds big = FeedsAs (utf16_split big) encode_utf8
 
 abbrev pub StopsFeeding : Bool → List ℕ → List ℕ → List ℕ → ℕ → ℕ → Stop → Type 0
-StopsFeeding big = StopsFeedingAs (utf16_parts big) encode_utf8
+StopsFeeding big = StopsFeedingAs (utf16_split big) encode_utf8

@@ -2,8 +2,8 @@
 use Rattle.std.specs.Prelude.{◌≡◌, ℕ, ◌≤◌, Bool, List, [], ◌++◌, length, take, drop, encode_utf8_all}
 use Rattle.utf16_units.specs.Encoding.{IsUtf16, text_of}
 use Rattle.std.specs.Char.{encode_utf8}
-use Rattle.utf16_transcode.specs.Decodes.{DecodesAs, utf16_parts}
-use Rattle.utf16_transcode.specs.Decomposition.{Decomposition}
+use Rattle.utf16_transcode.specs.Decodes.{DecodesAs, utf16_split}
+use Rattle.utf16_transcode.specs.StreamSplit.{StreamSplit}
 
 -- valid bytes of one encoding, and the bytes of the same text in the other
 abbrev pub SameText : (List ℕ → Type 0) → (List ℕ → List ℕ) → List ℕ → List ℕ → Type 0
@@ -34,11 +34,11 @@ pub record WritesAt (SameText : List ℕ → List ℕ → Type 0) (rest old new 
 
 -- the first bytes of the input were decoded, and what is shown for them is at the start of the
 -- buffer
-pub record DecodesAsTo (parts : Decomposition) (into : ℕ → List ℕ) (input to : List ℕ) (read written : ℕ) : Type 0 where
+pub record DecodesAsTo (parts : StreamSplit) (into : ℕ → List ℕ) (input to : List ℕ) (read written : ℕ) : Type 0 where
   pub within : read ≤ length input
   pub fits : written ≤ length to
   pub decodes : DecodesAs parts into input (drop read input) [] (take written to)
 
 -- such a step from UTF-16 to UTF-8
 abbrev pub DecodesTo : Bool → List ℕ → List ℕ → ℕ → ℕ → Type 0
-DecodesTo big = DecodesAsTo (utf16_parts big) encode_utf8
+DecodesTo big = DecodesAsTo (utf16_split big) encode_utf8

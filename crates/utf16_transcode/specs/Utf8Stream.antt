@@ -3,7 +3,7 @@
 use Rattle.std.specs.Prelude.{◌≡◌, ℕ, ◌<◌, ◌≤◌, Bool, List, [], ◌∷◌, length, drop}
 use Rattle.utf16_units.specs.Encoding.{char_bytes}
 use Rattle.utf8_bytes.specs.Split.{Item, lossy_char, split_items, split_tail, whole_lossy_chars}
-use Rattle.utf16_transcode.specs.Decomposition.{Decomposition}
+use Rattle.utf16_transcode.specs.StreamSplit.{StreamSplit}
 use Rattle.utf16_transcode.specs.Stops.{StopsLossyAs}
 use Rattle.utf16_transcode.specs.Stream.{FeedsAs, StopsFeedingAs}
 use Rattle.utf16_transcode.specs.Transcoded.{DecodesAsTo}
@@ -11,8 +11,8 @@ use Rattle.utf16_transcode.specs.declared.progress.Stop.{Stop}
 use Rattle.utf16_transcode.specs.FromUtf8.{text_of_utf8}
 
 -- UTF-8 as characters and ill-formed subparts, with U+FFFD for each of these and for a tail
-abbrev pub utf8_parts : Decomposition
-utf8_parts = record {
+abbrev pub utf8_split : StreamSplit
+utf8_split = record {
   Item = Item;
   items = split_items;
   tail = split_tail;
@@ -23,7 +23,7 @@ utf8_parts = record {
 
 -- the first bytes of UTF-8 were decoded, and their text is at the start of the buffer in UTF-16
 abbrev pub DecodesUtf8To : Bool → List ℕ → List ℕ → ℕ → ℕ → Type 0
-DecodesUtf8To big = DecodesAsTo utf8_parts (char_bytes big)
+DecodesUtf8To big = DecodesAsTo utf8_split (char_bytes big)
 
 -- the first item of the bytes has n bytes, and its character is this one: U+FFFD for an ill-formed
 -- subpart
@@ -38,13 +38,13 @@ pub record FirstItem (bytes : List ℕ) (char n : ℕ) : Type 0 where
 -- for a lossy call: nothing is left, or more bytes could change what is left, or the next character
 -- does not fit
 abbrev pub StopsLossyUtf8 : Bool → List ℕ → ℕ → Stop → Type 0
-StopsLossyUtf8 big = StopsLossyAs utf8_parts (char_bytes big)
+StopsLossyUtf8 big = StopsLossyAs utf8_split (char_bytes big)
 
 -- the first bytes of a chunk were taken, and the text of what is decoded is at the start of the
 -- buffer in UTF-16
 abbrev pub FeedsUtf8 : Bool → List ℕ → List ℕ → List ℕ → List ℕ → ℕ → ℕ → Type 0
-FeedsUtf8 big = FeedsAs utf8_parts (char_bytes big)
+FeedsUtf8 big = FeedsAs utf8_split (char_bytes big)
 
 -- why the call stopped
 abbrev pub StopsFeedingUtf8 : Bool → List ℕ → List ℕ → List ℕ → ℕ → ℕ → Stop → Type 0
-StopsFeedingUtf8 big = StopsFeedingAs utf8_parts (char_bytes big)
+StopsFeedingUtf8 big = StopsFeedingAs utf8_split (char_bytes big)

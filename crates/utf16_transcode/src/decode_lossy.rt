@@ -8,7 +8,7 @@
 ghost use Rattle.std.specs.Prelude.{◌≡◌, ◌≢◌, ◌-◌, ◌<◌, ◌≤◌, [], length, drop};
 ghost use Rattle.utf16_units.specs.Split.{lossy_text, split_items};
 ghost use Rattle.std.specs.Char.{encode_utf8};
-ghost use Rattle.utf16_transcode.specs.Decodes.{utf16_parts};
+ghost use Rattle.utf16_transcode.specs.Decodes.{utf16_split};
 ghost use Rattle.utf16_transcode.specs.WholeText.{WritesWhole};
 ghost use Rattle.utf16_transcode.specs.Stops.{StopsLossy, StopsLossyWhole};
 ghost use Rattle.utf16_transcode.specs.Transcoded.{DecodesTo};
@@ -64,7 +64,7 @@ pub fn to_utf8_lossy<E: Utf16Order>(raw: &[u8], to: &mut [u8]) -> Progress
 impl<E: Utf16Order> LossyDirection for ToUtf8<E> {
     type Text = Self;
 
-    ghost parts = { utf16_parts E.BIG };
+    ghost split = { utf16_split E.BIG };
 
     ghost into = { encode_utf8 };
 

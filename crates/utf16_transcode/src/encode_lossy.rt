@@ -4,7 +4,7 @@ ghost use Rattle.std.specs.Prelude.{◌≡◌, ◌-◌, ◌*◌, ◌<◌, ◌≤
 ghost use Rattle.std.specs.List.{flat_map};
 ghost use Rattle.utf16_units.specs.Encoding.{char_bytes, size};
 ghost use Rattle.utf16_transcode.specs.FromUtf8.{text_of_utf8};
-ghost use Rattle.utf16_transcode.specs.Utf8Stream.{DecodesUtf8To, FirstItem, StopsLossyUtf8, utf8_parts};
+ghost use Rattle.utf16_transcode.specs.Utf8Stream.{DecodesUtf8To, FirstItem, StopsLossyUtf8, utf8_split};
 ghost use Rattle.utf16_transcode.specs.WholeText.{WritesWhole};
 ghost use Rattle.utf16_transcode.specs.Stops.{StopsLossyWhole};
 
@@ -15,7 +15,7 @@ use crate::lossy_direction::LossyDirection;
 use crate::lossy_transcoding::{transcode_lossy, transcode_partial};
 use crate::progress::Progress;
 use crate::replacement::REPLACEMENT_UNIT;
-use crate::sizes::is_short_text;
+use crate::sizes::is_text_within_block;
 use utf16_from_utf8::write_blocks;
 use utf16_to_utf8::put;
 use utf16_units::{Moved, Utf16Order, utf16_len};
@@ -107,7 +107,7 @@ pub fn from_utf8_lossy<E: Utf16Order>(text: &[u8], to: &mut [u8]) -> Progress
 impl<E: Utf16Order> LossyDirection for FromUtf8<E> {
     type Text = Self;
 
-    ghost parts = { utf8_parts };
+    ghost split = { utf8_split };
 
     ghost into = { char_bytes E.BIG };
 
@@ -144,7 +144,7 @@ pub fn from_utf8_lossy_len(text: &[u8]) -> usize
     ensures size { result ≡ size (text_of_utf8 text.now) }
     ensures most { result ≤ 2 * length text.now }
 {
-    if is_short_text(text) {
+    if is_text_within_block(text) {
         return utf16_len(unsafe { str::from_utf8_unchecked(text) });
     }
     if let Ok(text) = simdutf8::basic::from_utf8(text) {

@@ -3,7 +3,7 @@
 
 ghost use Rattle.std.specs.Prelude.{◌≡◌, ◌↔◌, ◌-◌, ◌<◌, ◌≤◌, ◌++◌, ℕ, List, IfSome, None, Some, drop, length, take};
 ghost use Rattle.std.specs.List.{flat_map};
-ghost use Rattle.utf16_transcode.specs.Decomposition.{Decomposition, IsSplitInChunks, decided};
+ghost use Rattle.utf16_transcode.specs.StreamSplit.{StreamSplit, IsSplitInChunks, decided};
 ghost use Rattle.utf16_transcode.specs.Stops.{Stops, StopsLossyAs, TextDoesNotFit};
 ghost use Rattle.utf16_transcode.specs.Transcoded.{DecodesAsTo, SameText, Writes};
 ghost use Rattle.utf16_transcode.specs.declared.progress.Stop.{Stop};
@@ -18,7 +18,7 @@ pub trait LossyDirection {
     type Text: Direction;
 
     // The items and the tail of any bytes, and the code points that are written for them.
-    ghost parts: { Decomposition };
+    ghost split: { StreamSplit };
 
     // The bytes of such a code point in the second encoding.
     ghost into: { ℕ → List ℕ };
@@ -35,11 +35,11 @@ pub trait LossyDirection {
         requires some { 0 < length input.now }
         requires ill_formed { Self.Text.IsIllFormedAt input.now (Some len) }
         ensures decodes { IfSome result (λ done.
-            DecodesAsTo parts into input.now to.new done.read done.written) }
+            DecodesAsTo split into input.now to.new done.read done.written) }
         ensures advances { IfSome result (λ done. 0 < done.read) }
         ensures sequence { IfSome result (λ done. len ≤ done.read) }
         ensures none { (result ≡ None)
-            ↔ TextDoesNotFit into (decided parts input.now) (length to.new) };
+            ↔ TextDoesNotFit into (decided split input.now) (length to.new) };
 
     /// Writes the replacement of a tail at the end of the input at `at`, and returns where it ends,
     /// or `None` if it does not fit. All other bytes of the buffer are unchanged.
@@ -51,10 +51,10 @@ pub trait LossyDirection {
         requires { at ≤ length to.old }
         ensures within { IfSome result (λ end. end ≤ length to.new) }
         ensures bytes { IfSome result (λ end.
-            take end to.new ≡ take at to.old ++ flat_map into (parts.at_end tail.now)) }
+            take end to.new ≡ take at to.old ++ flat_map into (split.at_end tail.now)) }
         ensures rest { IfSome result (λ end. drop end to.new ≡ drop end to.old) }
         ensures none { result ≡ None
-            → length to.new - at < length (flat_map into (parts.at_end tail.now)) }
+            → length to.new - at < length (flat_map into (split.at_end tail.now)) }
         ensures unchanged { result ≡ None → to.new ≡ to.old };
 
     /// States what the proofs of lossy calls and of a stream need, and does nothing. Bytes may come
@@ -62,13 +62,13 @@ pub trait LossyDirection {
     /// stops for another reason than an ill-formed sequence, a lossy call stops for the same
     /// reason.
     fn lossy_laws()
-        ensures chunks { IsSplitInChunks parts }
+        ensures chunks { IsSplitInChunks split }
         ensures short { (c : ℕ) → length (into c) ≤ 4 }
         ensures text { (input to : List ℕ) (n w : ℕ)
             → Writes (SameText Self.Text.IsValid Self.Text.other) input to n w
-            → DecodesAsTo parts into input to n w }
+            → DecodesAsTo split into input to n w }
         ensures stops { (input : List ℕ) (n left : ℕ) (stop : Stop)
             → ((len : ℕ) → ¬ (stop ≡ IllFormed len))
             → Stops Self.Text.from Self.Text.into Self.Text.IsIllFormed input n left stop
-            → StopsLossyAs parts into (drop n input) left stop };
+            → StopsLossyAs split into (drop n input) left stop };
 }

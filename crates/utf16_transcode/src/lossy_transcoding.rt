@@ -15,8 +15,8 @@ use crate::transcoding::transcode;
 /// and replaces each ill-formed sequence. A tail that more bytes could change is not read.
 #[inline(always)]
 pub fn transcode_partial<D: LossyDirection>(input: &[u8], to: &mut [u8]) -> Progress
-    ensures decodes { DecodesAsTo D.parts D.into input.now to.new result.read result.written }
-    ensures stop { StopsLossyAs D.parts D.into (drop result.read input.now)
+    ensures decodes { DecodesAsTo D.split D.into input.now to.new result.read result.written }
+    ensures stop { StopsLossyAs D.split D.into (drop result.read input.now)
         (length to.new - result.written) result.stop }
 {
     D::Text::laws();
@@ -49,11 +49,11 @@ pub fn transcode_partial<D: LossyDirection>(input: &[u8], to: &mut [u8]) -> Prog
 /// Writes the whole input to the start of a buffer, as far as whole characters fit, and replaces
 /// each ill-formed sequence and a tail at the end.
 pub fn transcode_lossy<D: LossyDirection>(input: &[u8], to: &mut [u8]) -> Progress
-    ensures shown { WritesWhole D.parts.whole D.into input.now to.new result.read result.written }
-    ensures stop { StopsLossyWhole D.parts.whole D.into (drop result.read input.now)
+    ensures shown { WritesWhole D.split.whole D.into input.now to.new result.read result.written }
+    ensures stop { StopsLossyWhole D.split.whole D.into (drop result.read input.now)
         (length to.new - result.written) result.stop }
     ensures between { result.stop ≡ NoSpace
-        → DecodesAsTo D.parts D.into input.now to.new result.read result.written }
+        → DecodesAsTo D.split D.into input.now to.new result.read result.written }
 {
     D::lossy_laws();
     let front = transcode_partial::<D>(input, to);

@@ -50,7 +50,7 @@ pub fn to_utf8_lossy_len<E: Utf16Order>(raw: &[u8]) -> usize
 pub fn from_utf8_len(text: &[u8]) -> usize
     ensures { result ≡ size (chars (take (utf8_valid_len text.now) text.now)) }
 {
-    if is_short_text(text) {
+    if is_text_within_block(text) {
         return utf16_len(unsafe { str::from_utf8_unchecked(text) });
     }
     match simdutf8::compat::from_utf8(text) {
@@ -63,7 +63,7 @@ pub fn from_utf8_len(text: &[u8]) -> usize
 
 // Whether the bytes are a text of eight bytes or more and less than a block, in which `simdutf8`
 // goes byte by byte: on 62 bytes of Greek that takes four times as long.
-pub(crate) fn is_short_text(bytes: &[u8]) -> bool
+pub(crate) fn is_text_within_block(bytes: &[u8]) -> bool
     ensures { IsTrue result → IsUtf8 bytes.now }
 {
     (FEW_TEXT..BLOCK_LEN).contains(&bytes.len()) && is_text(bytes)

@@ -2,7 +2,7 @@
 
 ghost use Rattle.std.specs.Prelude.{◌≡◌, ◌≢◌, ◌↔◌, ◌+◌, ◌-◌, ◌<◌, ◌≤◌, [], ◌∷◌, ◌++◌, length, take, drop};
 ghost use Rattle.std.specs.List.{flat_map};
-ghost use Rattle.utf16_transcode.specs.Decomposition.{decided};
+ghost use Rattle.utf16_transcode.specs.StreamSplit.{decided};
 ghost use Rattle.utf16_transcode.specs.Stops.{StopsLossyAs};
 ghost use Rattle.utf16_transcode.specs.Stream.{FeedsAs, StopsFeedingAs, stream_pending};
 ghost use Rattle.utf16_transcode.specs.Transcoded.{DecodesAsTo};
@@ -89,19 +89,19 @@ impl Stream {
     ///
     /// Linear time in the number of bytes read.
     pub fn feed<D: LossyDirection>(&mut self, piece: &[u8], to: &mut [u8]) -> Progress
-        ensures feeds { FeedsAs D.parts D.into (stream_pending self.old) piece.now
+        ensures feeds { FeedsAs D.split D.into (stream_pending self.old) piece.now
             (stream_pending self.new) to.new result.read result.written }
-        ensures stop { StopsFeedingAs D.parts D.into (stream_pending self.old) piece.now
+        ensures stop { StopsFeedingAs D.split D.into (stream_pending self.old) piece.now
             (stream_pending self.new) result.read (length to.new - result.written) result.stop }
         ensures done { (result.stop ≡ Done)
-            ↔ (length (flat_map D.into (decided D.parts (stream_pending self.old ++ piece.now)))
+            ↔ (length (flat_map D.into (decided D.split (stream_pending self.old ++ piece.now)))
             ≤ length to.new) }
         ensures text { result.stop ≡ Done → take result.written to.new
-            ≡ flat_map D.into (decided D.parts (stream_pending self.old ++ piece.now)) }
+            ≡ flat_map D.into (decided D.split (stream_pending self.old ++ piece.now)) }
         ensures pending { result.stop ≡ Done
-            → stream_pending self.new ≡ D.parts.tail (stream_pending self.old ++ piece.now) }
+            → stream_pending self.new ≡ D.split.tail (stream_pending self.old ++ piece.now) }
         ensures undecided { result.stop ≡ Done
-            → D.parts.tail (stream_pending self.new) ≡ stream_pending self.new }
+            → D.split.tail (stream_pending self.new) ≡ stream_pending self.new }
         ensures filled { result.stop ≡ NoSpace → length to.new < result.written + 4 }
         ensures few { self.new.len ≤ 3 }
     {
@@ -133,11 +133,11 @@ impl Stream {
     pub fn finish<D: LossyDirection>(&mut self, to: &mut [u8]) -> Progress
         ensures read { result.read ≡ 0 }
         ensures done { (result.stop ≡ Done)
-            ↔ (length (flat_map D.into (D.parts.at_end (stream_pending self.old)))
+            ↔ (length (flat_map D.into (D.split.at_end (stream_pending self.old)))
             ≤ length to.new) }
         ensures text { result.stop ≡ Done
             → take result.written to.new
-            ≡ flat_map D.into (D.parts.at_end (stream_pending self.old)) }
+            ≡ flat_map D.into (D.split.at_end (stream_pending self.old)) }
         ensures within { result.written ≤ length to.new }
         ensures rest { drop result.written to.new ≡ drop result.written to.old }
         ensures pending { result.stop ≡ Done → stream_pending self.new ≡ [] }
@@ -164,9 +164,9 @@ impl Stream {
 // contiguous. Four bytes at the chunk boundary pass through a buffer on the stack.
 fn transcode_joined<D: LossyDirection>(pending: &[u8], piece: &[u8], to: &mut [u8]) -> Progress
     requires { length pending.now ≤ 3 }
-    ensures decodes { DecodesAsTo D.parts D.into (pending.now ++ piece.now) to.new result.read
+    ensures decodes { DecodesAsTo D.split D.into (pending.now ++ piece.now) to.new result.read
         result.written }
-    ensures stop { StopsLossyAs D.parts D.into (drop result.read (pending.now ++ piece.now))
+    ensures stop { StopsLossyAs D.split D.into (drop result.read (pending.now ++ piece.now))
         (length to.new - result.written) result.stop }
 {
     D::lossy_laws();

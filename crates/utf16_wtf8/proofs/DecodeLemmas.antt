@@ -10,7 +10,7 @@ use Rattle.utf16_transcode.specs.WholeText.{WritesWhole}
 use Rattle.utf16_transcode.specs.declared.progress.Stop.{Stop}
 use Rattle.utf16_transcode.specs.declared.progress.Stop.TheVariants.{Incomplete, Done, IllFormed, NoSpace}
 use Rattle.utf16_transcode.proofs.WholeLemmas.{WritesWhole-decoded, stops_whole, whole_tail, whole_text}
-use Rattle.utf16_wtf8.specs.ToWtf8.{DecodesToWtf8, StopsBeforeTail, StopsToWtf8, points_of, tail_points, wtf8_parts}
+use Rattle.utf16_wtf8.specs.ToWtf8.{DecodesToWtf8, StopsBeforeTail, StopsToWtf8, points_of, tail_points, wtf8_split}
 use Rattle.utf16_wtf8.specs.Wtf8.{code_points, generalized_utf8}
 use Rattle.utf16_wtf8.proofs.PointLemmas.{points-nil, units-none}
 use Rattle.utf16_wtf8.proofs.ToWtf8Lemmas.{wtf8_chunks}
@@ -22,7 +22,7 @@ nothing (b ∷ bytes) e = absurd (omega arith)
 module _ (big : Bool) (raw to : List ℕ) (read written : ℕ) (decodes : DecodesToWtf8 big raw to read written) where
   -- what is certain was written
   pub WritesWhole-certain : WritesWhole (points_of big) generalized_utf8 raw to read written
-  WritesWhole-certain = WritesWhole-decoded (wtf8_parts big) generalized_utf8 (wtf8_chunks big) raw to read written decodes
+  WritesWhole-certain = WritesWhole-decoded (wtf8_split big) generalized_utf8 (wtf8_chunks big) raw to read written decodes
 
   abbrev rest : List ℕ
   rest = rest_from raw read
@@ -46,9 +46,9 @@ module _ (big : Bool) (raw to : List ℕ) (read written : ℕ) (decodes : Decode
     within = let few = size in let within = decodes.within in omega arith;
     fits = fits;
     shown =
-        whole_text (wtf8_parts big) generalized_utf8 (wtf8_chunks big) raw (drop read raw) (take written to) decodes.decodes
+        whole_text (wtf8_split big) generalized_utf8 (wtf8_chunks big) raw (drop read raw) (take written to) decodes.decodes
         ∙ ap (λ points. take written to ++ flat_map generalized_utf8 points)
-        (whole_tail (wtf8_parts big) generalized_utf8 (wtf8_chunks big) (drop read raw) same ∙ ap (tail_points big) (sym (take_rest raw read)))
+        (whole_tail (wtf8_split big) generalized_utf8 (wtf8_chunks big) (drop read raw) same ∙ ap (tail_points big) (sym (take_rest raw read)))
         ∙ sym bytes ∙ sym (append-nil (take end next))
         ∙ ap (λ points. take end next ++ flat_map generalized_utf8 points) (sym (ap code_points (units-none big (drop last raw) left) ∙ points-nil));
   }
@@ -79,4 +79,4 @@ pub stops_certain : (big : Bool) (rest : List ℕ) (left : ℕ) (stop : Stop) �
 stops_certain big bytes room Done other here = here
 stops_certain big bytes room (IllFormed len) other here = here
 stops_certain big bytes room Incomplete other here = absurd (other refl)
-stops_certain big bytes room NoSpace other here = stops_whole (wtf8_parts big) generalized_utf8 (wtf8_chunks big) bytes room NoSpace other here
+stops_certain big bytes room NoSpace other here = stops_whole (wtf8_split big) generalized_utf8 (wtf8_chunks big) bytes room NoSpace other here

@@ -13,7 +13,7 @@ use Rattle.utf16_units.proofs.FirstChar.{AreBytes, first_unit}
 use Rattle.utf16_units.proofs.RecipeLemmas.{two}
 use Rattle.utf16_units.proofs.SplitIllFormed.{lone_item, split_items-fault, split_tail-fault}
 use Rattle.utf16_units.proofs.SplitJoin.{split_items-text, split_tail-text}
-use Rattle.utf16_transcode.specs.Decomposition.{IsSplitInChunks}
+use Rattle.utf16_transcode.specs.StreamSplit.{IsSplitInChunks}
 use Rattle.utf16_transcode.specs.Stops.{IsIllFormedUtf16, StopsDecoding, TextDoesNotFit}
 use Rattle.utf16_transcode.specs.Transcoded.{TranscodesToUtf8, Writes}
 use Rattle.utf16_transcode.specs.declared.progress.Stop.{Stop}
@@ -22,7 +22,7 @@ use Rattle.utf16_transcode.proofs.DecodeLossyLemmas.{stops_lossy}
 use Rattle.utf16_transcode.proofs.DecodesSteps.{first_fits}
 use Rattle.utf16_transcode.proofs.ToUtf8Lemmas.{faults_there}
 use Rattle.utf16_transcode.proofs.ToUtf8Parts.{utf16_chunks}
-use Rattle.utf16_wtf8.specs.ToWtf8.{DecodesToWtf8, StopsBeforeTail, item_point, tail_points, wtf8_parts}
+use Rattle.utf16_wtf8.specs.ToWtf8.{DecodesToWtf8, StopsBeforeTail, item_point, tail_points, wtf8_split}
 use Rattle.utf16_wtf8.specs.Wtf8.{generalized_utf8}
 use Rattle.utf16_wtf8.proofs.PointLemmas.{points_of-split}
 
@@ -42,7 +42,7 @@ one_at_end big [] = omega arith
 one_at_end big (last ∷ []) = omega arith
 one_at_end big (first ∷ second ∷ after) = omega arith
 
-pub wtf8_chunks : (big : Bool) → IsSplitInChunks (wtf8_parts big)
+pub wtf8_chunks : (big : Bool) → IsSplitInChunks (wtf8_split big)
 wtf8_chunks big = record {
   items = (utf16_chunks big).items;
   tail = (utf16_chunks big).tail;

@@ -3,7 +3,7 @@ use Rattle.std.specs.Prelude.{◌≡◌, ℕ, Bool, List, [], ◌∷◌, length}
 use Rattle.utf16_units.specs.Encoding.{units_of}
 use Rattle.utf16_units.specs.Split.{Item, good, lone_lead, lone_trail, split_items, split_tail}
 use Rattle.utf16_units.specs.Unit.{unit_of}
-use Rattle.utf16_transcode.specs.Decomposition.{Decomposition}
+use Rattle.utf16_transcode.specs.StreamSplit.{StreamSplit}
 use Rattle.utf16_transcode.specs.Stops.{StopsLossyAs, TextDoesNotFit}
 use Rattle.utf16_transcode.specs.Transcoded.{DecodesAsTo}
 use Rattle.utf16_transcode.specs.declared.progress.Stop.{Stop}
@@ -28,8 +28,8 @@ abbrev pub points_of : Bool → List ℕ → List ℕ
 points_of big raw = code_points (units_of big raw)
 
 -- UTF-16 as characters and unpaired surrogates, each written as itself
-abbrev pub wtf8_parts : Bool → Decomposition
-wtf8_parts big = record {
+abbrev pub wtf8_split : Bool → StreamSplit
+wtf8_split big = record {
   Item = Item;
   items = split_items big;
   tail = split_tail big;
@@ -41,12 +41,12 @@ wtf8_parts big = record {
 -- the first bytes of UTF-16 were decoded, and their code points are at the start of the buffer in
 -- WTF-8
 abbrev pub DecodesToWtf8 : Bool → List ℕ → List ℕ → ℕ → ℕ → Type 0
-DecodesToWtf8 big = DecodesAsTo (wtf8_parts big) generalized_utf8
+DecodesToWtf8 big = DecodesAsTo (wtf8_split big) generalized_utf8
 
 -- for a call that leaves a tail: nothing is left, or more bytes could change what is left, or the
 -- next code point does not fit
 abbrev pub StopsBeforeTail : Bool → List ℕ → ℕ → Stop → Type 0
-StopsBeforeTail big = StopsLossyAs (wtf8_parts big) generalized_utf8
+StopsBeforeTail big = StopsLossyAs (wtf8_split big) generalized_utf8
 
 -- for a call that writes all code units: nothing is left, or an odd byte, or the next code point
 -- does not fit

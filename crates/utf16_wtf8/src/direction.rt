@@ -1,7 +1,7 @@
 //! The direction from UTF-16 to WTF-8: text is written as in UTF-8, and an unpaired surrogate as
 //! itself.
 
-ghost use Rattle.utf16_wtf8.specs.ToWtf8.{wtf8_parts};
+ghost use Rattle.utf16_wtf8.specs.ToWtf8.{wtf8_split};
 ghost use Rattle.utf16_wtf8.specs.Wtf8.{generalized_utf8};
 
 use crate::code_point::write_code_point;
@@ -17,7 +17,7 @@ pub struct ToWtf8<E: Utf16Order>(PhantomData<E>);
 impl<E: Utf16Order> LossyDirection for ToWtf8<E> {
     type Text = ToUtf8<E>;
 
-    ghost parts = { wtf8_parts E.BIG };
+    ghost split = { wtf8_split E.BIG };
 
     ghost into = { generalized_utf8 };
 

@@ -1,9 +1,9 @@
 use Rattle.std.proofs.Common.{◌≡◌, ◌↔◌, ◌≤◌, ◌++◌, true, false, flat_map, length, ap, subst, arith, rules}
 use Rattle.utf16_units.proofs.FirstChar.{AreBytes, AreBytes-from_All}
-use Rattle.utf16_transcode.specs.Decomposition.{decided}
+use Rattle.utf16_transcode.specs.StreamSplit.{decided}
 use Rattle.utf16_transcode.specs.Stream.{stream_pending}
 use Rattle.utf16_transcode.specs.declared.progress.Stop.TheVariants.{Done}
-use Rattle.utf16_wtf8.specs.ToWtf8.{wtf8_parts}
+use Rattle.utf16_wtf8.specs.ToWtf8.{wtf8_split}
 use Rattle.utf16_wtf8.specs.Wtf8.{generalized_utf8}
 use Rattle.dethrux.specs.Numbers.{is_big}
 use Rattle.dethrux.proofs.WtfBounds.{fed_wtf8_within}
@@ -15,11 +15,11 @@ returns-clause-done c =
     let bytes = stream_pending c.args.decoder.now ++ c.args.chunk.now in
     elim c.if-is_big_endian.branch [
       | then-is_big_endian w ↦
-          let done : (w.feed.result.stop ≡ Done) ↔ (length (flat_map generalized_utf8 (decided (wtf8_parts true) bytes)) ≤ length w.feed.new.to) = w.feed.ensures.done in
+          let done : (w.feed.result.stop ≡ Done) ↔ (length (flat_map generalized_utf8 (decided (wtf8_split true) bytes)) ≤ length w.feed.new.to) = w.feed.ensures.done in
           search rules
       | else-is_big_endian w ↦
           let feed = w.feed-else-is_big_endian in
-          let done : (feed.result.stop ≡ Done) ↔ (length (flat_map generalized_utf8 (decided (wtf8_parts false) bytes)) ≤ length feed.new.to) = feed.ensures.done in
+          let done : (feed.result.stop ≡ Done) ↔ (length (flat_map generalized_utf8 (decided (wtf8_split false) bytes)) ≤ length feed.new.to) = feed.ensures.done in
           search rules
     ]
 

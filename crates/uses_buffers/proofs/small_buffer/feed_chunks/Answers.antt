@@ -1,7 +1,7 @@
 use Rattle.std.proofs.Common.{◌≡◌, ◌≤◌, ◌++◌, ap, ◌∙◌, arith, length, subst, sym, take, take_all}
 use Rattle.std.specs.List.{flat_map}
 use Rattle.std.specs.Vec.{vec_items}
-use Rattle.utf16_transcode.specs.Decomposition.{decided}
+use Rattle.utf16_transcode.specs.StreamSplit.{decided}
 use Rattle.utf16_transcode.specs.Stream.{stream_pending}
 use Rattle.utf16_transcode.proofs.StreamLemmas.{joined-more}
 use Rattle.uses_buffers.proofs.CallLemmas.{chunk_tail, chunk_text}
@@ -9,7 +9,7 @@ use Rattle.uses_buffers.proofs.small_buffer.feed_chunks.Goals as goal
 
 pub loop-chunk-preserved : goal.loop-chunk-preserved
 loop-chunk-preserved g c =
-    let parts = g.D.LossyDirection.parts in
+    let parts = g.D.LossyDirection.split in
     let into = g.D.LossyDirection.into in
     let front = flat_map vec_items (take c.loop-chunk.chunk-index c.args.chunks.now) in
     let more = joined-more vec_items c.args.chunks.now c.loop-chunk.chunk-index c.chunk-item.result c.loop-chunk-test.true c.chunk-item.is in
@@ -31,7 +31,7 @@ loop-chunk-preserved g c =
 
 pub returns : goal.returns
 returns g c =
-    let parts = g.D.LossyDirection.parts in
+    let parts = g.D.LossyDirection.split in
     let chunks = take_all c.loop-chunk.chunk-index c.args.chunks.now c.loop-chunk-test.false in
     record {
       text = c.loop-chunk.invariant.1 ∙ ap (λ p. flat_map g.D.LossyDirection.into (decided parts (flat_map vec_items p))) chunks;

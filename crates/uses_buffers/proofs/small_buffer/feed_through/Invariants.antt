@@ -8,8 +8,8 @@ use Rattle.uses_buffers.proofs.small_buffer.feed_through.Given as goal
 abbrev pub invariant-loop-rest : goal.invariant-loop-rest
 invariant-loop-rest g l =
     (4 ≤ length l.buffer)
-    × DecodesAs g.D.LossyDirection.parts g.D.LossyDirection.into (stream_pending l.fn.stream ++ l.chunk) (stream_pending l.stream ++ l.rest) (vec_items l.fn.all) (vec_items l.all)
+    × DecodesAs g.D.LossyDirection.split g.D.LossyDirection.into (stream_pending l.fn.stream ++ l.chunk) (stream_pending l.stream ++ l.rest) (vec_items l.fn.all) (vec_items l.all)
 
 -- the number of items that are left
 abbrev pub decreases-loop-rest : goal.decreases-loop-rest
-decreases-loop-rest g l = length (g.D.LossyDirection.parts.items (stream_pending l.stream ++ l.rest))
+decreases-loop-rest g l = length (g.D.LossyDirection.split.items (stream_pending l.stream ++ l.rest))

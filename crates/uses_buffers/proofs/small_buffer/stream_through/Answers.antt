@@ -7,7 +7,7 @@ use Rattle.uses_buffers.proofs.small_buffer.stream_through.Goals as goal
 
 pub returns : goal.returns
 returns g c =
-    let parts = g.D.LossyDirection.parts in
+    let parts = g.D.LossyDirection.split in
     let into = g.D.LossyDirection.into in
     let call = c.finish-progress in
     let fed = c.in_ok-all in

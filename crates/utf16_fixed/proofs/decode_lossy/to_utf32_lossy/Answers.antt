@@ -1,6 +1,6 @@
 use Rattle.std.proofs.Common.{◌<◌, ◌-◌, ◌∙◌, ◌++◌, ap, drop, length, take, sym, arith, rules, subst}
 use Rattle.std.proofs.lemmas.List.{take_more_set}
-use Rattle.utf16_transcode.specs.Decodes.{utf16_parts}
+use Rattle.utf16_transcode.specs.Decodes.{utf16_split}
 use Rattle.utf16_units.specs.Split.{lossy_text}
 use Rattle.utf16_transcode.specs.Stops.{TextDoesNotFit}
 use Rattle.utf16_transcode.specs.declared.progress.Stop.TheVariants.{NoSpace}
@@ -18,8 +18,8 @@ pub returns-in_default : goal.returns-in_default
 returns-in_default g c =
     let big = g.E.Utf16Order.BIG in
     let front = c.write_decided-front in
-    let shown = WritesWhole-decoded (utf16_parts big) utf32_units (utf16_chunks big) _ _ _ _ front.ensures.decodes in
-    let stop = stops_whole (utf16_parts big) utf32_units (utf16_chunks big) _ _ _ c.in_default.not-Incomplete front.ensures.stop in
+    let shown = WritesWhole-decoded (utf16_split big) utf32_units (utf16_chunks big) _ _ _ _ front.ensures.decodes in
+    let stop = stops_whole (utf16_split big) utf32_units (utf16_chunks big) _ _ _ c.in_default.not-Incomplete front.ensures.stop in
     record {
       shown = shown;
       stop = stop;
@@ -42,7 +42,7 @@ pub returns-then-front-to-clause-succeeds : goal.returns-then-front-to-clause-su
 returns-then-front-to-clause-succeeds g c =
     let big = g.E.Utf16Order.BIG in
     to_utf32_lossy_fits big _ _ _ _ NoSpace (λ k. omega (arith, c.type_inv.raw k))
-    (WritesWhole-decoded (utf16_parts big) utf32_units (utf16_chunks big) _ _ _ _ c.write_decided-front.ensures.decodes)
+    (WritesWhole-decoded (utf16_split big) utf32_units (utf16_chunks big) _ _ _ _ c.write_decided-front.ensures.decodes)
     (full g (goal.at.returns-then-front-to-clause-succeeds g c).Then-front-to)
 
 pub returns-clause-shown : goal.returns-clause-shown
@@ -51,5 +51,5 @@ returns-clause-shown g c =
     let front = c.write_decided-front in
     let left = subst (StopsLossyToUtf32 big _ _) c.in-Incomplete.is front.ensures.stop in
     let room : front.result.written < length front.new.to = search rules in
-    WritesWhole-end (utf16_parts big) utf32_units (utf16_chunks big) _ _ _ _ front.ensures.decodes _ _ left.1 (search rules)
+    WritesWhole-end (utf16_split big) utf32_units (utf16_chunks big) _ _ _ _ front.ensures.decodes _ _ left.1 (search rules)
     (take_more_set front.new.to front.result.written 0xFFFD room ∙ ap (λ t. take front.result.written front.new.to ++ t) (sym (tail_units _ left.0)))

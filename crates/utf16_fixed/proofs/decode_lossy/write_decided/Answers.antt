@@ -1,7 +1,7 @@
 use Rattle.std.proofs.Common.{◌+◌, ◌-◌, Some, length, arith, rules, subst}
 use borrow.Rule.Slice.PartMut.{put_mid}
 use Rattle.utf16_units.proofs.IllFormedLemmas.{rest_from}
-use Rattle.utf16_transcode.specs.Decodes.{utf16_parts}
+use Rattle.utf16_transcode.specs.Decodes.{utf16_split}
 use Rattle.utf16_transcode.specs.Stops.{IsIllFormedUtf16}
 use Rattle.utf16_transcode.proofs.StreamSteps.{DecodesTo-rest, stops_rest}
 use Rattle.utf16_transcode.proofs.ToUtf8Parts.{utf16_chunks}
@@ -19,7 +19,7 @@ after : (g : Over) (c : After-to_utf32-front g)
     (c.loop-len.read + c.to_utf32-front.result.read) (c.loop-len.written + c.to_utf32-front.result.written)
 after g c =
     let big = g.E.Utf16Order.BIG in
-    DecodesTo-rest (utf16_parts big) utf32_units (utf16_chunks big) _ _ _ _ _ _ _ c.loop-len.invariant
+    DecodesTo-rest (utf16_split big) utf32_units (utf16_chunks big) _ _ _ _ _ _ _ c.loop-len.invariant
     (DecodesToUtf32-text big _ _ _ _ c.to_utf32-front.ensures.wrote) (search rules)
 
 pub returns-in_default : goal.returns-in_default
@@ -29,7 +29,7 @@ returns-in_default g c =
     record {
       decodes = after g (goal.at.returns-in_default g c).After-to_utf32-front;
       stop =
-          stops_rest (utf16_parts big) utf32_units (utf16_chunks big) _ _ _ _ _ _ _ c.loop-len.invariant
+          stops_rest (utf16_split big) utf32_units (utf16_chunks big) _ _ _ _ _ _ _ c.loop-len.invariant
           (DecodesToUtf32-text big _ _ _ _ front.ensures.wrote) (search rules) front.result.stop
           (stops_lossy_to_utf32 big _ _ _ _ c.in_default.not-IllFormed front.ensures.stop);
     }

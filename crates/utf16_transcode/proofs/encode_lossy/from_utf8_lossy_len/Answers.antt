@@ -47,11 +47,11 @@ returns-clause-size c =
     let left = size-empty _ c.in-None.ensures.steps.0 in
     omega (arith, c.loop-chunk.invariant.0)
 
-pub returns-then-is_short_text-clause-size : goal.returns-then-is_short_text-clause-size
-returns-then-is_short_text-clause-size c = (size-whole c.args.text.now _ _ (c.is_short_text.ensures c.if-is_short_text.true) c.from_utf8_unchecked.ensures c.utf16_len.ensures).0
+pub returns-then-is_text_within_block-clause-size : goal.returns-then-is_text_within_block-clause-size
+returns-then-is_text_within_block-clause-size c = (size-whole c.args.text.now _ _ (c.is_text_within_block.ensures c.if-is_text_within_block.true) c.from_utf8_unchecked.ensures c.utf16_len.ensures).0
 
-pub returns-then-is_short_text-clause-most : goal.returns-then-is_short_text-clause-most
-returns-then-is_short_text-clause-most c = (size-whole c.args.text.now _ _ (c.is_short_text.ensures c.if-is_short_text.true) c.from_utf8_unchecked.ensures c.utf16_len.ensures).1
+pub returns-then-is_text_within_block-clause-most : goal.returns-then-is_text_within_block-clause-most
+returns-then-is_text_within_block-clause-most c = (size-whole c.args.text.now _ _ (c.is_text_within_block.ensures c.if-is_text_within_block.true) c.from_utf8_unchecked.ensures c.utf16_len.ensures).1
 
 pub returns-in-Ok-clause-size : goal.returns-in-Ok-clause-size
 returns-in-Ok-clause-size c = (size-whole c.args.text.now _ _ c.in-Ok.ensures.1 c.in-Ok.ensures.0 c.utf16_len-in-Ok.ensures).0

@@ -1,6 +1,6 @@
 use Rattle.std.proofs.Common.{arith, rules, sym, subst, ◌∙◌}
 use Rattle.utf16_units.proofs.CharLemmas.{one_unit_bytes}
-use Rattle.utf16_transcode.specs.Utf8Stream.{DecodesUtf8To, utf8_parts}
+use Rattle.utf16_transcode.specs.Utf8Stream.{DecodesUtf8To, utf8_split}
 use Rattle.utf16_transcode.proofs.StreamSteps.{DecodesTo-rest}
 use Rattle.utf16_transcode.proofs.DecodesUtf8.{DecodesUtf8To-item, DecodesUtf8To-none}
 use Rattle.utf16_transcode.proofs.FeedsUtf8.{utf8_chunks}
@@ -19,4 +19,4 @@ replaced g c =
 pub returns-clause-decodes : goal.returns-clause-decodes
 returns-clause-decodes g c =
     let at = goal.at.returns-clause-decodes g c in
-    DecodesTo-rest utf8_parts _ utf8_chunks _ _ _ _ _ _ _ (replaced g at.After-put-written) c.write_after_ill_formed-more.ensures (search rules)
+    DecodesTo-rest utf8_split _ utf8_chunks _ _ _ _ _ _ _ (replaced g at.After-put-written) c.write_after_ill_formed-more.ensures (search rules)

@@ -6,7 +6,7 @@ use Rattle.utf16_transcode.proofs.lossy_transcoding.transcode_lossy.Goals as goa
 
 pub returns-in-None-clause-stop : goal.returns-in-None-clause-stop
 returns-in-None-clause-stop g c =
-    let parts = g.D.LossyDirection.parts in
+    let parts = g.D.LossyDirection.split in
     let cut = subst (StopsLossyAs parts _ _ _) c.in-Incomplete.is c.transcode_partial-front.ensures.stop in
     end_does_not_fit parts _ c.lossy_laws.ensures.chunks _ _ cut.1
     (subst (λ tail. length c.write_end.new.to - c.transcode_partial-front.result.written < length (flat_map g.D.LossyDirection.into (parts.at_end tail)))

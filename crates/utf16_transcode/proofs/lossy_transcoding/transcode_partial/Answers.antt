@@ -13,18 +13,18 @@ loop-len-init g c = DecodesTo-none _ _ _ _
 
 -- the text that was written is decoded
 after : (g : Over) (c : After-transcode-front g)
-    → DecodesAsTo g.D.LossyDirection.parts g.D.LossyDirection.into c.args.input.now
+    → DecodesAsTo g.D.LossyDirection.split g.D.LossyDirection.into c.args.input.now
     (put_mid c.loop-len.written (length c.loop-len.to - c.loop-len.written) c.loop-len.to c.transcode-front.new.to)
     (c.loop-len.read + c.transcode-front.result.read) (c.loop-len.written + c.transcode-front.result.written)
 after g c =
-    DecodesTo-rest g.D.LossyDirection.parts _ c.lossy_laws.ensures.chunks _ _ _ _ _ _ _ c.loop-len.invariant
+    DecodesTo-rest g.D.LossyDirection.split _ c.lossy_laws.ensures.chunks _ _ _ _ _ _ _ c.loop-len.invariant
     (c.lossy_laws.ensures.text _ _ _ _ c.transcode-front.ensures.wrote) (search rules)
 
 pub returns-in_default : goal.returns-in_default
 returns-in_default g c = record {
   decodes = after g (goal.at.returns-in_default g c).After-transcode-front;
   stop =
-      stops_rest g.D.LossyDirection.parts _ c.lossy_laws.ensures.chunks _ _ _ _ _ _ _ c.loop-len.invariant
+      stops_rest g.D.LossyDirection.split _ c.lossy_laws.ensures.chunks _ _ _ _ _ _ _ c.loop-len.invariant
       (c.lossy_laws.ensures.text _ _ _ _ c.transcode-front.ensures.wrote) (search rules) c.transcode-front.result.stop
       (c.lossy_laws.ensures.stops _ _ _ _ c.in_default.not-IllFormed c.transcode-front.ensures.stop);
 }
@@ -47,10 +47,10 @@ write_ill_formed-requires-clause-ill_formed g c =
 
 pub returns-in_default-write_ill_formed-clause-decodes : goal.returns-in_default-write_ill_formed-clause-decodes
 returns-in_default-write_ill_formed-clause-decodes g c =
-    DecodesTo-kept g.D.LossyDirection.parts _ c.lossy_laws.ensures.chunks _ _ _ _ _ 0 0 (after g (goal.at.returns-in_default-write_ill_formed-clause-decodes g c).After-transcode-front)
+    DecodesTo-kept g.D.LossyDirection.split _ c.lossy_laws.ensures.chunks _ _ _ _ _ 0 0 (after g (goal.at.returns-in_default-write_ill_formed-clause-decodes g c).After-transcode-front)
     (DecodesTo-none _ _ _ _) (search rules) refl refl
 
 pub loop-len-preserved : goal.loop-len-preserved
 loop-len-preserved g c =
-    DecodesTo-rest g.D.LossyDirection.parts _ c.lossy_laws.ensures.chunks _ _ _ _ _ _ _ (after g (goal.at.loop-len-preserved g c).After-transcode-front)
+    DecodesTo-rest g.D.LossyDirection.split _ c.lossy_laws.ensures.chunks _ _ _ _ _ _ _ (after g (goal.at.loop-len-preserved g c).After-transcode-front)
     c.in-Some.ensures.decodes (search rules)

@@ -4,7 +4,7 @@ use Rattle.utf16_transcode.proofs.lossy_transcoding.transcode_partial.Given as g
 
 -- what was read so far is decoded and written
 abbrev pub invariant-loop-len : goal.invariant-loop-len
-invariant-loop-len g l = DecodesAsTo g.D.LossyDirection.parts g.D.LossyDirection.into l.input l.to l.read l.written
+invariant-loop-len g l = DecodesAsTo g.D.LossyDirection.split g.D.LossyDirection.into l.input l.to l.read l.written
 
 abbrev pub decreases-loop-len : goal.decreases-loop-len
 decreases-loop-len g l = length l.input - l.read

@@ -5,10 +5,10 @@ use Rattle.std.specs.Str.Lossy.{utf8_valid_len}
 use Rattle.utf16_units.specs.Encoding.{size}
 use Rattle.utf16_transcode.proofs.sizes.from_utf8_len.Goals as goal
 
-pub returns-then-is_short_text : goal.returns-then-is_short_text
-returns-then-is_short_text c =
+pub returns-then-is_text_within_block : goal.returns-then-is_text_within_block
+returns-then-is_text_within_block c =
     let text = c.args.text.now in
-    let whole = utf8_valid_len-IsUtf8 text (c.is_short_text.ensures c.if-is_short_text.true) in
+    let whole = utf8_valid_len-IsUtf8 text (c.is_text_within_block.ensures c.if-is_text_within_block.true) in
     c.utf16_len.ensures ∙ ap (λ t. size (chars t)) (c.from_utf8_unchecked.ensures ∙ sym (take_all (utf8_valid_len text) text (omega arith)))
 
 pub returns-in-Ok : goal.returns-in-Ok

@@ -2,7 +2,7 @@ use Rattle.std.proofs.Common.{◌-◌, ◌<◌, ◌≢◌, ◌≡◌, [], drop, 
 use Rattle.std.proofs.lemmas.List.{take_rest}
 use Rattle.utf16_units.specs.Split.{split_tail}
 use Rattle.utf16_transcode.proofs.WholeLemmas.{end_does_not_fit}
-use Rattle.utf16_wtf8.specs.ToWtf8.{DecodesToWtf8, StopsBeforeTail, StopsToWtf8, tail_points, wtf8_parts}
+use Rattle.utf16_wtf8.specs.ToWtf8.{DecodesToWtf8, StopsBeforeTail, StopsToWtf8, tail_points, wtf8_split}
 use Rattle.utf16_wtf8.specs.Wtf8.{generalized_utf8}
 use Rattle.utf16_wtf8.proofs.DecodeLemmas.{WritesWhole-certain, WritesWhole-tail, all_left, odd_left, stops_certain}
 use Rattle.utf16_wtf8.proofs.ToWtf8Lemmas.{wtf8_chunks}
@@ -33,7 +33,7 @@ returns-in_default-write_end-clause-shown g c =
 pub returns-in_default-write_end-clause-stop : goal.returns-in_default-write_end-clause-stop
 returns-in_default-write_end-clause-stop g c =
     let cut = tail g (goal.at.returns-in_default-write_end-clause-stop g c).In-Incomplete in
-    end_does_not_fit (wtf8_parts g.E.Utf16Order.BIG) _ (wtf8_chunks g.E.Utf16Order.BIG) _ _ cut.1
+    end_does_not_fit (wtf8_split g.E.Utf16Order.BIG) _ (wtf8_chunks g.E.Utf16Order.BIG) _ _ cut.1
     (subst (λ rest. length c.write_end.new.to - c.to_wtf8_partial-front.result.written < length (flat_map generalized_utf8 (tail_points g.E.Utf16Order.BIG rest)))
     (take_rest c.args.raw.now c.to_wtf8_partial-front.result.read) (c.write_end.ensures.none c.in_default-write_end.is))
 

@@ -8,16 +8,16 @@ use Rattle.utf16_transcode.proofs.stream.Stream.feed.Goals.{After-joined_start-l
 pub returns-in-NoSpace : goal.returns-in-NoSpace
 returns-in-NoSpace g c =
     let front = c.transcode_joined-front.ensures.decodes in
-    let full = subst (StopsLossyAs g.D.LossyDirection.parts _ _ _) c.in-NoSpace.is c.transcode_joined-front.ensures.stop in
+    let full = subst (StopsLossyAs g.D.LossyDirection.split _ _ _) c.in-NoSpace.is c.transcode_joined-front.ensures.stop in
     let read = ap (λ r. length c.args.piece.now - length r) c.rest_of.ensures.piece in
     rw (← c.pending-pending.ensures.bytes) record {
-      feeds = Feeds-full g.D.LossyDirection.parts _ c.lossy_laws.ensures.chunks _ _ _ _ _ front full _ read _ (c.holding.ensures.pending ∙ c.rest_of.ensures.left);
-      stop = stops_full g.D.LossyDirection.parts _ c.lossy_laws.ensures.chunks _ _ _ _ _ front full _ read _ (c.holding.ensures.pending ∙ c.rest_of.ensures.left);
-      done = (λ done. absurd (cc), λ whole. absurd (not_whole g.D.LossyDirection.parts _ c.lossy_laws.ensures.chunks _ _ _ _ _ front full _ read whole));
+      feeds = Feeds-full g.D.LossyDirection.split _ c.lossy_laws.ensures.chunks _ _ _ _ _ front full _ read _ (c.holding.ensures.pending ∙ c.rest_of.ensures.left);
+      stop = stops_full g.D.LossyDirection.split _ c.lossy_laws.ensures.chunks _ _ _ _ _ front full _ read _ (c.holding.ensures.pending ∙ c.rest_of.ensures.left);
+      done = (λ done. absurd (cc), λ whole. absurd (not_whole g.D.LossyDirection.split _ c.lossy_laws.ensures.chunks _ _ _ _ _ front full _ read whole));
       text = λ done. absurd (cc);
       pending = λ done. absurd (cc);
       undecided = λ done. absurd (cc);
-      filled = λ full_up. filled g.D.LossyDirection.parts _ c.lossy_laws.ensures.chunks _ _ _ _ _ front full _ read c.lossy_laws.ensures.short;
+      filled = λ full_up. filled g.D.LossyDirection.split _ c.lossy_laws.ensures.chunks _ _ _ _ _ front full _ read c.lossy_laws.ensures.short;
       few = c.holding.ensures.few;
     }
 
@@ -25,11 +25,11 @@ module _ (g : Over) (c : After-joined_start-len g) where
   abbrev rest : List ℕ
   rest = drop c.transcode_joined-front.result.read (c.pending-pending.result.now ++ c.args.piece.now)
 
-  undecided : g.D.LossyDirection.parts.tail rest ≡ rest
-  undecided = rest_undecided g.D.LossyDirection.parts _ c.lossy_laws.ensures.chunks _ _ c.transcode_joined-front.result.stop c.in_default.not-NoSpace c.transcode_joined-front.ensures.stop
+  undecided : g.D.LossyDirection.split.tail rest ≡ rest
+  undecided = rest_undecided g.D.LossyDirection.split _ c.lossy_laws.ensures.chunks _ _ c.transcode_joined-front.result.stop c.in_default.not-NoSpace c.transcode_joined-front.ensures.stop
 
   few : length rest ≤ 3
-  few = few_left g.D.LossyDirection.parts _ c.lossy_laws.ensures.chunks c.pending-pending.result.now c.args.piece.now _ _ _ c.transcode_joined-front.ensures.decodes undecided
+  few = few_left g.D.LossyDirection.split _ c.lossy_laws.ensures.chunks c.pending-pending.result.now c.args.piece.now _ _ _ c.transcode_joined-front.ensures.decodes undecided
 
   tail : take c.joined_start-len.result.1 c.joined_start-len.result.0 ≡ rest
   tail =
@@ -46,15 +46,15 @@ returns g c =
     let before = (goal.at.returns g c).After-joined_start-len in
     let front = c.transcode_joined-front.ensures.decodes in
     let pending = c.holding-2.ensures.pending ∙ tail g before in
-    let feeds = Feeds-done g.D.LossyDirection.parts _ c.lossy_laws.ensures.chunks _ _ _ _ _ front (undecided g before) _ pending in
-    let held = holds_tail g.D.LossyDirection.parts _ c.lossy_laws.ensures.chunks c.pending-pending.result.now c.args.piece.now _ _ _ front (undecided g before) _ pending in
+    let feeds = Feeds-done g.D.LossyDirection.split _ c.lossy_laws.ensures.chunks _ _ _ _ _ front (undecided g before) _ pending in
+    let held = holds_tail g.D.LossyDirection.split _ c.lossy_laws.ensures.chunks c.pending-pending.result.now c.args.piece.now _ _ _ front (undecided g before) _ pending in
     rw (← c.pending-pending.ensures.bytes) record {
       feeds = feeds;
       stop = (refl, held);
-      done = (λ done. is_whole g.D.LossyDirection.parts _ c.lossy_laws.ensures.chunks c.pending-pending.result.now c.args.piece.now _ _ _ front (undecided g before), λ fits. refl);
-      text = λ done. fed_text g.D.LossyDirection.parts _ c.lossy_laws.ensures.chunks _ _ _ _ _ _ 0 feeds (refl, held);
+      done = (λ done. is_whole g.D.LossyDirection.split _ c.lossy_laws.ensures.chunks c.pending-pending.result.now c.args.piece.now _ _ _ front (undecided g before), λ fits. refl);
+      text = λ done. fed_text g.D.LossyDirection.split _ c.lossy_laws.ensures.chunks _ _ _ _ _ _ 0 feeds (refl, held);
       pending = λ done. held;
-      undecided = λ done. ap g.D.LossyDirection.parts.tail pending ∙ undecided g before ∙ sym pending;
+      undecided = λ done. ap g.D.LossyDirection.split.tail pending ∙ undecided g before ∙ sym pending;
       filled = λ full_up. absurd (cc);
       few = c.holding-2.ensures.few;
     }

@@ -3,7 +3,7 @@ use Rattle.std.specs.Prelude.{◌≡◌, ℕ, ◌≤◌, List, [], ◌++◌, len
 
 -- the bytes are items, one after another, and a tail that more bytes could change; each item is
 -- written as one code point: a character as itself, an ill-formed sequence as its replacement
-pub record Decomposition : Type 1 where
+pub record StreamSplit : Type 1 where
   pub Item : Type 0
   pub items : List ℕ → List Item
   pub tail : List ℕ → List ℕ
@@ -14,12 +14,12 @@ pub record Decomposition : Type 1 where
   pub whole : List ℕ → List ℕ
 
 -- the code points that are certain, whatever bytes follow
-abbrev pub decided : Decomposition → List ℕ → List ℕ
+abbrev pub decided : StreamSplit → List ℕ → List ℕ
 decided parts bytes = map parts.shown (parts.items bytes)
 
 -- bytes may come in chunks: the items of the first chunks stay, and what follows depends only on
 -- their tail; a tail has at most three bytes and no item
-pub record IsSplitInChunks (parts : Decomposition) : Type 0 where
+pub record IsSplitInChunks (parts : StreamSplit) : Type 0 where
   pub items : (front back : List ℕ)
       → parts.items (front ++ back) ≡ parts.items front ++ parts.items (parts.tail front ++ back)
   pub tail : (front back : List ℕ) → parts.tail (front ++ back) ≡ parts.tail (parts.tail front ++ back)
