@@ -16,3 +16,10 @@ mod Utf8Joined
 mod BlockLaw
 mod CallLemmas
 mod StdLemmas
+mod Utf16Rows
+mod Utf16SplitRows
+mod Utf8SplitRows
+mod BomRows
+mod EncoderRows
+mod EditRows
+mod ReplaceRows

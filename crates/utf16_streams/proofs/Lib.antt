@@ -1,5 +1,4 @@
 pub mod BomLemmas
-pub mod BomRows
 pub use Rattle.utf16_transcode.proofs.DecodesLemmas
 pub use Rattle.utf16_transcode.proofs.IllFormedDecides
 pub use Rattle.utf16_transcode.proofs.StreamLemmas
@@ -10,5 +9,4 @@ pub mod PartLemmas
 pub mod StreamRules
 pub use Rattle.utf16_transcode.proofs.DecodesSteps
 pub mod EncoderLemmas
-pub mod EncoderRows
 pub mod BomLawProofs

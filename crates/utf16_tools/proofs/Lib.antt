@@ -7,7 +7,6 @@ pub mod StreamRules
 pub mod Steps
 pub mod Runs
 pub mod EditedLemmas
-pub mod Rows
 pub mod Served
 pub mod Utf8PartLemmas
 pub mod Utf8PiecesLemmas

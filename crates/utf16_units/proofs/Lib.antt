@@ -5,8 +5,6 @@ pub mod EncodingLemmas
 pub mod FirstChar
 pub mod IllFormedLemmas
 pub mod Computed
-pub mod Rows
-pub mod SplitRows
 pub mod SplitLemmas
 pub mod SplitUnique
 pub mod SplitJoin

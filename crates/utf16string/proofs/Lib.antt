@@ -12,7 +12,6 @@ mod FirstMatch
 mod Matches
 mod Replacing
 mod ReplacedAll
-mod ReplaceRows
 mod Ranged
 mod ChangedUnits
 mod Cased

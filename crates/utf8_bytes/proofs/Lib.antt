@@ -1,4 +1,3 @@
-pub mod SplitRows
 pub mod TableLemmas
 pub mod BeginsLemmas
 pub mod PartLemmas
