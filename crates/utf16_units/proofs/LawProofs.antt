@@ -232,3 +232,18 @@ found_exactly big text part bytes part_bytes i e p some = (
   (λ found. found_in big text part bytes part_bytes i e p some found.0 found.1),
   (λ stands. (IsBoundary-even text i stands.start, at_boundaries big text part bytes part_bytes i e p stands)),
 )
+
+-- laws, for the functions that state them
+pub ruleset laws = (
+  unique_text,
+  joined_text,
+  utf8_back,
+  none_continues,
+  split_exists,
+  recipe_is_split,
+  resumes_is_split,
+  items_stay,
+  cut_anywhere,
+  swapped_orders,
+  found_aligned,
+)

@@ -5,6 +5,7 @@
 //! name in the module `Rattle.utf16_units.proofs.LawProofs`. The statements are in
 //! `specs/Laws.antt`. They depend only on the definitions, and hold for all texts, all bytes and
 //! both byte orders.
+#![tactic(auto, using(crate::proofs::LawProofs::laws))]
 
 ghost use Rattle.std.specs.Prelude.{◌<◌, All};
 ghost use Rattle.utf16_units.specs.Laws.{BeforeFollows, BeforeTotal, BoundaryCuts, CutAnywhere, EncodedText, FoundAligned, FoundExactly, InsertThenRemove, ItemsStay, JoinedText, MoreAfter, NoneContinues, RecipeIsSplit, ResumesIsSplit, ShownWithin, SplitExists, SplitExtends, SplitThenPush, SplitUnique, SwappedOrders, TextIsShown, TwoNeverContinues, UniqueText, Utf8Back};

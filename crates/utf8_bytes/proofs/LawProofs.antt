@@ -62,3 +62,13 @@ tail_in_first = tail_first
 
 pub shown_after : ShownAfter
 shown_after tail back ends = text_after tail back ends
+
+-- the laws, for the functions that state them
+pub ruleset laws = (
+  items_stay,
+  cut_anywhere,
+  recipe_is_split,
+  resumes_is_split,
+  whole_is_lossy,
+  tail_in_first,
+)

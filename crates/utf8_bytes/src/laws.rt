@@ -3,6 +3,7 @@
 //! The body of a function cites a law by a call of its function, a proof file by the lemma of that
 //! name in the module `Rattle.utf8_bytes.proofs.LawProofs`. The statements are in
 //! `specs/Laws.antt`. They depend only on the definitions, and hold for all bytes.
+#![tactic(auto, using(crate::proofs::LawProofs::laws))]
 
 ghost use Rattle.utf8_bytes.specs.Laws.{CutAnywhere, ItemsStay, RecipeIsSplit, ResumesIsSplit, ShownAfter, ShownWithin, SplitExists, SplitExtends, SplitUnique, SubpartIsMaximal, TailInFirst, TailIsUndecided, TextIsShown, WholeIsLossy};
 

@@ -1,5 +1,0 @@
-use Rattle.utf16_units.proofs.LawProofs.{resumes_is_split}
-use Rattle.utf16_units.proofs.laws.resumes_is_split.Goals as goal
-
-pub returns : goal.returns
-returns c = resumes_is_split
