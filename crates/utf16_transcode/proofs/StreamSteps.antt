@@ -20,16 +20,16 @@ use Rattle.utf16_transcode.proofs.TranscodedLemmas.{put_end-long, take-end}
 pub rest_after : (input : List ℕ) (read n : ℕ) → drop n (rest_from input read) ≡ rest_from input (read + n)
 rest_after input read n = ap (drop n) (take_rest input read) ∙ drop-drop n read input ∙ sym (take_rest input (read + n))
 
--- the first four bytes of pending bytes and a chunk
-pub start_bytes : (pending piece : List ℕ) (n : ℕ) → length pending ≤ 4 → n ≤ 4 - length pending → (length piece ≤ n) ⊎ (4 - length pending ≤ n)
-    → pending ++ take n piece ≡ take 4 (pending ++ piece)
-start_bytes pending piece n few within enough =
-    let same : length pending + (4 - length pending) ≡ 4 = omega (arith, few) in
-    ap (λ t. pending ++ t) front ∙ sym (take-past pending piece (4 - length pending)) ∙ ap (λ k. take k (pending ++ piece)) same where
-      front : take n piece ≡ take (4 - length pending) piece
+-- the first bytes of pending bytes and a chunk
+pub start_bytes : (most : ℕ) (pending piece : List ℕ) (n : ℕ) → length pending ≤ most → n ≤ most - length pending → (length piece ≤ n) ⊎ (most - length pending ≤ n)
+    → pending ++ take n piece ≡ take most (pending ++ piece)
+start_bytes most pending piece n few within enough =
+    let same : length pending + (most - length pending) ≡ most = omega (arith, few) in
+    ap (λ t. pending ++ t) front ∙ sym (take-past pending piece (most - length pending)) ∙ ap (λ k. take k (pending ++ piece)) same where
+      front : take n piece ≡ take (most - length pending) piece
       front = ⊎_elim
-          (λ (all : length piece ≤ n). take_all n piece all ∙ sym (take_all (4 - length pending) piece (omega (arith, all, within))))
-          (λ (many : 4 - length pending ≤ n). ap (λ k. take k piece) (omega (arith, many, within)))
+          (λ (all : length piece ≤ n). take_all n piece all ∙ sym (take_all (most - length pending) piece (omega (arith, all, within))))
+          (λ (many : most - length pending ≤ n). ap (λ k. take k piece) (omega (arith, many, within)))
           enough
 
 -- what follows an offset in pending bytes and a chunk

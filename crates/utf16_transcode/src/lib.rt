@@ -14,7 +14,7 @@ mod encode;
 mod encode_lossy;
 mod encode_stream;
 mod items;
-mod joined;
+pub mod joined;
 mod lossy_direction;
 mod lossy_transcoding;
 mod progress;

@@ -118,7 +118,7 @@ impl Stream {
                 stop: Stop::NoSpace,
             };
         }
-        let (tail, len) = joined_start(left, rest);
+        let (tail, len) = joined_start::<4>(left, rest);
         *self = Stream::holding(&tail[..len]);
         Progress {
             read: piece.len(),
@@ -173,7 +173,7 @@ fn transcode_joined<D: LossyDirection>(pending: &[u8], piece: &[u8], to: &mut [u
     let mut read = 0;
     let mut written = 0;
     while read < pending.len() {
-        let (joined, len) = joined_start(&pending[read..], piece);
+        let (joined, len) = joined_start::<4>(&pending[read..], piece);
         let front = transcode_partial::<D>(&joined[..len], &mut to[written..]);
         read += front.read;
         written += front.written;

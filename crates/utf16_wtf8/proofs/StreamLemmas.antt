@@ -3,7 +3,7 @@ use Rattle.std.proofs.Common.{◌≡◌, ◌⊎◌, inl, inr, ℕ, ◌+◌, ◌-
 use borrow.Rule.Slice.PartMut.{put_mid}
 use Rattle.std.proofs.lemmas.Bool.{cases_lt}
 use Rattle.std.proofs.lemmas.List.{drop-append-le, drop_all}
-use Rattle.utf16_units.proofs.IllFormedLemmas.{rest_from, take-past}
+use Rattle.utf16_units.proofs.IllFormedLemmas.{rest_from}
 use Rattle.utf16_transcode.specs.Transcoded.{Writes}
 use Rattle.utf16_transcode.specs.declared.progress.Stop.{Stop}
 use Rattle.utf16_transcode.specs.declared.progress.Stop.TheVariants.{Incomplete, Done, IllFormed, NoSpace}
@@ -14,18 +14,6 @@ use Rattle.utf16_wtf8.specs.Wtf8.{SpellsWtf8, generalized_utf8}
 use Rattle.utf16_wtf8.proofs.FewLemmas.{few_left}
 use Rattle.utf16_wtf8.proofs.LongerLemmas.{IsDecided, Writes-longer, not_cut, not_done, stops_longer}
 use Rattle.utf16_wtf8.proofs.SeamLemmas.{IsSeam, Writes-behind, fits_behind, stops_behind}
-
--- the first twelve bytes of pending bytes and a chunk
-pub start_bytes : (pending chunk : List ℕ) (n : ℕ) → length pending ≤ 12 → n ≤ 12 - length pending → (length chunk ≤ n) ⊎ (12 - length pending ≤ n)
-    → pending ++ take n chunk ≡ take 12 (pending ++ chunk)
-start_bytes pending chunk n few within enough =
-    let same : length pending + (12 - length pending) ≡ 12 = omega (arith, few) in
-    ap (λ t. pending ++ t) front ∙ sym (take-past pending chunk (12 - length pending)) ∙ ap (λ k. take k (pending ++ chunk)) same where
-      front : take n chunk ≡ take (12 - length pending) chunk
-      front = ⊎_elim
-          (λ (all : length chunk ≤ n). take_all n chunk all ∙ sym (take_all (12 - length pending) chunk (omega (arith, all, within))))
-          (λ (many : 12 - length pending ≤ n). ap (λ k. take k chunk) (omega (arith, many, within)))
-          enough
 
 -- if they are fewer, they are all
 pub all_joined : (bytes window : List ℕ) → window ≡ take 12 bytes → length window < 12 → window ≡ bytes

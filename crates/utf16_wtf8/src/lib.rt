@@ -7,7 +7,6 @@ mod code_point;
 mod decode;
 mod direction;
 mod encode;
-mod joined;
 pub mod laws;
 mod sizes;
 mod stream;

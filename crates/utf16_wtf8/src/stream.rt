@@ -8,9 +8,13 @@ ghost use Rattle.utf16_wtf8.specs.FromWtf8.{LeavesLeading, StopsFromWtf8, StopsF
 ghost use Rattle.utf16_wtf8.specs.Stream.{FeedsWtf8, StopsFeedingWtf8, encoded_len, wtf8_pending};
 
 use crate::encode::{from_wtf8, from_wtf8_partial};
-use crate::joined::{JOINED_LEN, joined_start, rest_of};
+use utf16_transcode::joined::{joined_start, rest_of};
 use utf16_transcode::{Progress, Stop};
 use utf16_units::Utf16Order;
+
+// The most bytes that are copied: as many as can be pending before a call, and as many as it can
+// leave pending.
+const JOINED_LEN: usize = 12;
 
 /// The pending bytes of a stream of WTF-8 between two chunks: its last bytes, at most six, that
 /// more bytes could change. They are a leading surrogate, or the beginning of a code point, or
@@ -81,7 +85,7 @@ impl Wtf8Stream {
                 }
             }
             Stop::Done | Stop::Incomplete => {
-                let (last, len) = joined_start(left, rest);
+                let (last, len) = joined_start::<JOINED_LEN>(left, rest);
                 *self = Wtf8Stream::holding(&last[..len]);
                 Progress {
                     read: chunk.len(),
@@ -145,7 +149,7 @@ fn from_joined<E: Utf16Order>(pending: &[u8], chunk: &[u8], to: &mut [u8]) -> Pr
     ensures fits { result.stop ≡ Incomplete → LeavesLeading (pending.now ++ chunk.now) result.read
         → 2 ≤ length to.new - result.written }
 {
-    let (joined, len) = joined_start(pending, chunk);
+    let (joined, len) = joined_start::<JOINED_LEN>(pending, chunk);
     let front = from_wtf8_partial::<E>(&joined[..len], to);
     if len < JOINED_LEN {
         return front;
