@@ -7,7 +7,7 @@ use Rattle.utf16_wtf8.proofs.stream.Wtf8Stream.feed.Goals.{After-joined_start-le
 pub returns-in-IllFormed-clause-feeds : goal.returns-in-IllFormed-clause-feeds
 returns-in-IllFormed-clause-feeds g c =
     let wrote = c.from_joined-front.ensures.wrote in
-    let read = ap (λ r. length c.args.chunk.now - length r) c.rest_of.ensures.chunk in
+    let read = ap (λ r. length c.args.chunk.now - length r) c.rest_of.ensures.piece in
     let left = c.holding.ensures.pending ∙ c.rest_of.ensures.left in
     rw (← c.pending-pending.ensures.bytes)
     (Feeds-wrote g.E.Utf16Order.BIG c.pending-pending.result.now c.args.chunk.now _ _ _ _ _ wrote
@@ -16,7 +16,7 @@ returns-in-IllFormed-clause-feeds g c =
 pub returns-in-IllFormed-clause-stop : goal.returns-in-IllFormed-clause-stop
 returns-in-IllFormed-clause-stop g c =
     let front = c.from_joined-front in
-    let read = ap (λ r. length c.args.chunk.now - length r) c.rest_of.ensures.chunk in
+    let read = ap (λ r. length c.args.chunk.now - length r) c.rest_of.ensures.piece in
     let left = c.holding.ensures.pending ∙ c.rest_of.ensures.left in
     rw (← c.pending-pending.ensures.bytes)
     (stops_full c.pending-pending.result.now c.args.chunk.now front.result.read front.ensures.wrote.within _ _ left read
@@ -28,7 +28,7 @@ module _ (g : Over) (c : After-joined_start-len g) where
   few = many_read g.E.Utf16Order.BIG _ _ _ c.from_joined-front.result.stop c.in-Done.is c.from_joined-front.ensures.stop
 
   tail : take c.joined_start-len.result.1 c.joined_start-len.result.0 ≡ drop c.from_joined-front.result.read (c.pending-pending.result.now ++ c.args.chunk.now)
-  tail = tail_joined c.pending-pending.result.now c.args.chunk.now _ _ _ c.from_joined-front.result.read c.rest_of.ensures.left c.rest_of.ensures.chunk c.joined_start-len.ensures.bytes few
+  tail = tail_joined c.pending-pending.result.now c.args.chunk.now _ _ _ c.from_joined-front.result.read c.rest_of.ensures.left c.rest_of.ensures.piece c.joined_start-len.ensures.bytes few
 
 pub holding-requires-in-Done : goal.holding-requires-in-Done
 holding-requires-in-Done g c =
