@@ -1,18 +1,17 @@
 -- The most bytes that the UTF-8 and the UTF-16 of any bytes have, and that a call with this
 -- capacity does not stop for lack of space.
 use Rattle.std.proofs.Common.{◌≡◌, ◌≢◌, ℕ, zero, suc, ◌+◌, ◌*◌, ◌/◌, ◌%◌, ◌<◌, ◌≤◌, Bool, true, false, cond, List, [], ◌∷◌, ◌++◌, ◌-◌, length, map, take, drop, encode_utf8_all, refl, sym, ap, ◌∙◌, subst, ⊎_elim, arith, length-append, length-take-le, append-nil}
-use Rattle.std.proofs.lemmas.Bool.{cases_Bool, cases_lt}
+use Rattle.std.proofs.lemmas.Bool.{cases_lt}
 use Rattle.std.proofs.lemmas.List.{take-append-drop}
 use Rattle.std.proofs.lemmas.List.Concat.{flat_map-append}
-use Rattle.std.proofs.lemmas.Str.{IsUtf8-from_is_utf8, IsUtf8-nil}
 use Rattle.std.specs.Char.{encode_utf8}
 use Rattle.std.specs.List.{flat_map}
-use Rattle.std.specs.Str.{IsUtf8, chars, is_utf8}
-use Rattle.std.specs.Str.Lossy.{utf8_valid_len, valid_len_up_to}
+use Rattle.std.specs.Str.{chars}
+use Rattle.std.specs.Str.Lossy.{utf8_valid_len}
 use Rattle.utf16_transcode.specs.Decodes.{utf16_split}
 use Rattle.utf16_transcode.specs.StreamSplit.{StreamSplit, IsSplitInChunks, decided}
 use Rattle.utf16_transcode.specs.WholeText.{WritesWhole}
-use Rattle.utf16_transcode.specs.Stops.{StopsDecoding, StopsLossyAs, StopsLossyWhole}
+use Rattle.utf16_transcode.specs.Stops.{StopsDecoding, StopsLossyAs, StopsLossyWhole, TextDoesNotFit}
 use Rattle.utf16_transcode.specs.Transcoded.{DecodesAsTo, TranscodesToUtf8, Writes}
 use Rattle.utf16_transcode.specs.declared.progress.Stop.{Stop}
 use Rattle.utf16_transcode.specs.declared.progress.Stop.TheVariants.{Incomplete, Done, IllFormed, NoSpace}
@@ -32,6 +31,7 @@ use Rattle.utf16_units.proofs.SplitLemmas.{Split-computed}
 use Rattle.utf16_units.proofs.UnitLemmas.{length-unit_bytes}
 use Rattle.utf8_bytes.specs.Split.{decided_text as utf8_decided_text}
 use Rattle.utf8_bytes.proofs.LawProofs.{shown_within, whole_is_lossy}
+use Rattle.utf8_bytes.proofs.ValidLemmas.{front_valid}
 
 mark_len : length (encode_utf8 0xFFFD) ≡ 3
 unfolding encode_utf8
@@ -89,36 +89,30 @@ lossy_within big bytes are =
     let within = whole_within big (split_items big bytes) (split_tail big bytes) in
     omega arith
 
-prefix_IsUtf8 : (bytes : List ℕ) (limit : ℕ) → IsUtf8 (take (valid_len_up_to bytes limit) bytes)
-prefix_IsUtf8 bytes zero = IsUtf8-nil
-prefix_IsUtf8 bytes (suc limit) =
-    let shorter = prefix_IsUtf8 bytes limit in
-    let chosen = λ (t : Bool). IsUtf8 (take (cond t (suc limit) (valid_len_up_to bytes limit)) bytes) in
-    ⊎_elim
-    (λ (yes : is_utf8 (take (suc limit) bytes) ≡ true). subst chosen (sym yes) (IsUtf8-from_is_utf8 (take (suc limit) bytes) yes))
-    (λ (no : is_utf8 (take (suc limit) bytes) ≡ false). subst chosen (sym no) shorter)
-    (cases_Bool (is_utf8 (take (suc limit) bytes)))
-
 -- the UTF-16 of the longest well-formed prefix of UTF-8
 pub valid_within : (bytes : List ℕ) → size (chars (take (utf8_valid_len bytes) bytes)) ≤ 2 * length bytes
-unfolding utf8_valid_len
 valid_within bytes =
     let n = utf8_valid_len bytes in
-    let most = chunk-most bytes (take n bytes) [] (drop n bytes) (prefix_IsUtf8 bytes (length bytes)) (sym (take-append-drop n bytes)) in
+    let most = chunk-most bytes (take n bytes) [] (drop n bytes) (front_valid bytes) (sym (take-append-drop n bytes)) in
     omega arith
 
--- a call with capacity for the whole text comes to its end
+-- a call with capacity for the whole text does not stop for lack of space
+pub whole_is_longer : (text : List ℕ → List ℕ) (into : ℕ → List ℕ) (input to : List ℕ) (read written : ℕ) → WritesWhole text into input to read written
+    → TextDoesNotFit into (text (drop read input)) (length to - written) → length to < length (flat_map into (text input))
+whole_is_longer text into input to read written shows next =
+    let all = ap length shows.shown ∙ length-append (take written to) (flat_map into (text (drop read input))) in
+    let first = length-take-le written to shows.fits in
+    let rest = ap (λ t. length (flat_map into t)) next.begins ∙ length-append (into next.char) (flat_map into next.more) in
+    omega (arith, next.too_long)
+
+-- so it comes to its end
 pub whole_is_done : (text : List ℕ → List ℕ) (into : ℕ → List ℕ) (input to : List ℕ) (read written : ℕ) (stop : Stop)
     → WritesWhole text into input to read written → StopsLossyWhole text into (drop read input) (length to - written) stop
     → length (flat_map into (text input)) ≤ length to → stop ≡ Done
 whole_is_done text into input to read written Done shows stops fits = refl
 whole_is_done text into input to read written (IllFormed len) shows stops fits = absurd stops
 whole_is_done text into input to read written Incomplete shows stops fits = absurd stops
-whole_is_done text into input to read written NoSpace shows stops fits =
-    let all = ap length shows.shown ∙ length-append (take written to) (flat_map into (text (drop read input))) in
-    let first = length-take-le written to shows.fits in
-    let rest = ap (λ t. length (flat_map into t)) stops.begins ∙ length-append (into stops.char) (flat_map into stops.more) in
-    absurd (omega (arith, stops.too_long))
+whole_is_done text into input to read written NoSpace shows stops fits = absurd (omega (arith, fits, whole_is_longer text into input to read written shows stops))
 
 -- the UTF-8 of what is certain of any bytes
 pub decided_within : (big : Bool) (bytes : List ℕ) → AreBytes bytes → length (encode_utf8_all (decided_text big bytes)) ≤ length bytes / 2 * 3
@@ -153,21 +147,17 @@ module _ (parts : StreamSplit) (into : ℕ → List ℕ) (input to : List ℕ) (
   -- it does not stop for lack of space if all that is certain fits
   pub decided_fits : (stop : Stop) → StopsLossyAs parts into (drop read input) (length to - written) stop → length (flat_map into (decided parts input)) ≤ length to
       → stop ≢ NoSpace
-  decided_fits Done here fits same = absurd (cc)
-  decided_fits (IllFormed len) here fits same = absurd here
-  decided_fits Incomplete here fits same = absurd (cc)
-  decided_fits NoSpace here fits same =
-      let all = decided_long in
-      let rest = ap (λ t. length (flat_map into t)) here.begins ∙ length-append (into here.char) (flat_map into here.more) in
-      absurd (omega (arith, here.too_long))
+  decided_fits stop here fits full =
+      let next = subst (StopsLossyAs parts into (drop read input) (length to - written)) full here in
+      let rest = ap (λ t. length (flat_map into t)) next.begins ∙ length-append (into next.char) (flat_map into next.more) in
+      omega (arith, next.too_long, decided_long)
 
   module _ (short : (c : ℕ) → length (into c) ≤ 4) where
     -- if it does, fewer bytes are left than a character may take
     pub decided_filled : (stop : Stop) → StopsLossyAs parts into (drop read input) (length to - written) stop → stop ≡ NoSpace → length to < written + 4
-    decided_filled Done here same = absurd (cc)
-    decided_filled (IllFormed len) here same = absurd here
-    decided_filled Incomplete here same = absurd (cc)
-    decided_filled NoSpace here same = omega (arith, here.too_long, short here.char)
+    decided_filled stop here full =
+        let next = subst (StopsLossyAs parts into (drop read input) (length to - written)) full here in
+        omega (arith, next.too_long, short next.char)
 
     -- with space for a character, and bytes of which something is certain, the call reads something
     pub decided_advances : IsSplitInChunks parts → 4 ≤ length to → decided parts input ≢ [] → (stop : Stop)

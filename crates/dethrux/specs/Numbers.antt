@@ -10,20 +10,26 @@ use Rattle.utf16_fixed.specs.declared.repertoire.Repertoire.{Repertoire}
 use Rattle.utf16_fixed.specs.declared.repertoire.Repertoire.TheVariants.{Ascii, Bmp, Latin1, Unicode}
 use Rattle.utf16_transcode.specs.declared.progress.Stop.{Stop}
 use Rattle.utf16_transcode.specs.declared.progress.Stop.TheVariants.{Incomplete, Done, IllFormed, NoSpace}
+use Rattle.dethrux.specs.declared.results.Progress.{Progress}
 
 -- the byte order is big endian; every other number is little endian
 abbrev pub is_big : ℕ → Bool
 is_big byte_order = byte_order == 1
 
 -- why a call stopped, by its status and the length of the ill-formed sequence
-abbrev pub stop_of : ℕ → ℕ → Stop
-stop_of status error_len =
+abbrev pub stop_of_status : ℕ → ℕ → Stop
+stop_of_status status error_len =
     if status == 0 then Done else (if status == 1 then IllFormed error_len else (if status == 2 then Incomplete else NoSpace))
 
+-- the same, by the result of the call
+abbrev pub stop_of : Progress → Stop
+stop_of progress = stop_of_status progress.status progress.error_len
+
 -- why a call to Latin-1 stopped: it has one more reason
-abbrev pub latin1_stop_of : ℕ → ℕ → Latin1Stop
-latin1_stop_of status error_len =
-    if status == 0 then latin1.Done else (if status == 1 then latin1.IllFormed error_len else (if status == 2 then latin1.Incomplete else (if status == 3 then latin1.NoSpace else latin1.NotLatin1)))
+abbrev pub latin1_stop_of : Progress → Latin1Stop
+latin1_stop_of progress =
+    if progress.status == 0 then latin1.Done else (if progress.status == 1 then latin1.IllFormed progress.error_len
+    else (if progress.status == 2 then latin1.Incomplete else (if progress.status == 3 then latin1.NoSpace else latin1.NotLatin1)))
 
 -- the status of such a call is one of the five
 abbrev pub AreLatin1Numbers : ℕ → ℕ → Type 0

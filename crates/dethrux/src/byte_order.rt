@@ -20,18 +20,11 @@ pub(crate) fn is_big_endian(byte_order: u32) -> bool
 // Makes a call in the byte order that a caller in C passes. With `=> made`, the result is made of
 // the call's in each branch, which takes six instructions less: short texts notice it.
 macro_rules! in_order {
-    ($byte_order:expr, $call:ident($($argument:expr),*)) => {
+    ($byte_order:expr, $call:ident($($argument:expr),*) $(=> $made:ident)?) => {
         if $crate::byte_order::is_big_endian($byte_order) {
-            $call::<$crate::byte_order::BE>($($argument),*)
+            $($made)?($call::<$crate::byte_order::BE>($($argument),*))
         } else {
-            $call::<$crate::byte_order::LE>($($argument),*)
-        }
-    };
-    ($byte_order:expr, $call:ident($($argument:expr),*) => $made:ident) => {
-        if $crate::byte_order::is_big_endian($byte_order) {
-            $made($call::<$crate::byte_order::BE>($($argument),*))
-        } else {
-            $made($call::<$crate::byte_order::LE>($($argument),*))
+            $($made)?($call::<$crate::byte_order::LE>($($argument),*))
         }
     };
     ($byte_order:expr, $stream:ident.$call:ident($($argument:expr),*)) => {

@@ -25,17 +25,12 @@ pub extern "C" fn dethrux_decoder_feed(
     ensures feeds { Feeds (is_big byte_order) (stream_pending decoder.old) chunk.now
         (stream_pending decoder.new) to.new result.read result.written }
     ensures stop { StopsFeeding (is_big byte_order) (stream_pending decoder.old) chunk.now
-        (stream_pending decoder.new) result.read (length to.new - result.written)
-        (stop_of result.status result.error_len) }
-    ensures done { (stop_of result.status result.error_len ≡ Done)
-        ↔ (length (encode_utf8_all
-        (decided_text (is_big byte_order) (stream_pending decoder.old ++ chunk.now)))
-        ≤ length to.new) }
-    ensures filled { stop_of result.status result.error_len ≡ NoSpace
-        → length to.new < result.written + 4 }
+        (stream_pending decoder.new) result.read (length to.new - result.written) (stop_of result) }
+    ensures done { (stop_of result ≡ Done) ↔ (length (encode_utf8_all (decided_text (is_big
+        byte_order) (stream_pending decoder.old ++ chunk.now))) ≤ length to.new) }
+    ensures filled { stop_of result ≡ NoSpace → length to.new < result.written + 4 }
     ensures few { decoder.new.len ≤ 3 }
-    ensures succeeds { (length chunk.now + 3) / 2 * 3 ≤ length to.new
-        → stop_of result.status result.error_len ≡ Done }
+    ensures succeeds { (length chunk.now + 3) / 2 * 3 ≤ length to.new → stop_of result ≡ Done }
     ensures numbers { AreNumbers result.status result.error_len }
 {
     bytes_law(decoder.pending());
@@ -52,20 +47,15 @@ pub extern "C" fn dethrux_decoder_finish(
     to: &mut [u8],
 ) -> Progress
     ensures read { result.read ≡ 0 }
-    ensures done { (stop_of result.status result.error_len ≡ Done)
-        ↔ (length (encode_utf8_all (whole_lossy_chars [] (stream_pending decoder.old)))
-        ≤ length to.new) }
-    ensures text { stop_of result.status result.error_len ≡ Done
-        → take result.written to.new
+    ensures done { (stop_of result ≡ Done) ↔ (length
+        (encode_utf8_all (whole_lossy_chars [] (stream_pending decoder.old))) ≤ length to.new) }
+    ensures text { stop_of result ≡ Done → take result.written to.new
         ≡ encode_utf8_all (whole_lossy_chars [] (stream_pending decoder.old)) }
     ensures within { result.written ≤ length to.new }
     ensures rest { drop result.written to.new ≡ drop result.written to.old }
-    ensures pending { stop_of result.status result.error_len ≡ Done
-        → stream_pending decoder.new ≡ [] }
-    ensures no_space { stop_of result.status result.error_len ≢ Done
-        → (stop_of result.status result.error_len ≡ NoSpace) × (result.written ≡ 0) }
-    ensures unchanged { stop_of result.status result.error_len ≢ Done → (decoder.new ≡ decoder.old)
-        × (to.new ≡ to.old) }
+    ensures pending { stop_of result ≡ Done → stream_pending decoder.new ≡ [] }
+    ensures no_space { stop_of result ≢ Done → (stop_of result ≡ NoSpace) × (result.written ≡ 0) }
+    ensures unchanged { stop_of result ≢ Done → (decoder.new ≡ decoder.old) × (to.new ≡ to.old) }
     ensures numbers { AreNumbers result.status result.error_len }
 {
     progress_of(decoder.finish::<ToUtf8<LE>>(to))

@@ -28,20 +28,17 @@ pub extern "C" fn dethrux_encoder_feed(
     ensures feeds { FeedsUtf8 (is_big byte_order) (stream_pending encoder.old) chunk.now
         (stream_pending encoder.new) to.new result.read result.written }
     ensures stop { StopsFeedingUtf8 (is_big byte_order) (stream_pending encoder.old) chunk.now
-        (stream_pending encoder.new) result.read (length to.new - result.written)
-        (stop_of result.status result.error_len) }
-    ensures done { (stop_of result.status result.error_len ≡ Done)
+        (stream_pending encoder.new) result.read (length to.new - result.written) (stop_of result) }
+    ensures done { (stop_of result ≡ Done)
         ↔ (size (decided_text (stream_pending encoder.old ++ chunk.now)) ≤ length to.new) }
-    ensures filled { stop_of result.status result.error_len ≡ NoSpace
-        → length to.new < result.written + 4 }
+    ensures filled { stop_of result ≡ NoSpace → length to.new < result.written + 4 }
     ensures few { encoder.new.len ≤ 3 }
     ensures tail { IsTail (stream_pending encoder.old)
         → IsTail (stream_pending encoder.new) }
     ensures succeeds { IsTail (stream_pending encoder.old)
-        → 2 * length chunk.now + 2 ≤ length to.new
-        → stop_of result.status result.error_len ≡ Done }
+        → 2 * length chunk.now + 2 ≤ length to.new → stop_of result ≡ Done }
     ensures succeeds_always { 2 * (length (stream_pending encoder.old) + length chunk.now)
-        ≤ length to.new → stop_of result.status result.error_len ≡ Done }
+        ≤ length to.new → stop_of result ≡ Done }
     ensures numbers { AreNumbers result.status result.error_len }
 {
     progress_of(in_order!(byte_order, feed_utf8(encoder, chunk, to)))
@@ -56,19 +53,15 @@ pub extern "C" fn dethrux_encoder_finish(
     to: &mut [u8],
 ) -> Progress
     ensures read { result.read ≡ 0 }
-    ensures done { (stop_of result.status result.error_len ≡ Done)
+    ensures done { (stop_of result ≡ Done)
         ↔ (size (whole_lossy_chars [] (stream_pending encoder.old)) ≤ length to.new) }
-    ensures text { stop_of result.status result.error_len ≡ Done
-        → take result.written to.new
+    ensures text { stop_of result ≡ Done → take result.written to.new
         ≡ encode (is_big byte_order) (whole_lossy_chars [] (stream_pending encoder.old)) }
     ensures within { result.written ≤ length to.new }
     ensures rest { drop result.written to.new ≡ drop result.written to.old }
-    ensures pending { stop_of result.status result.error_len ≡ Done
-        → stream_pending encoder.new ≡ [] }
-    ensures no_space { stop_of result.status result.error_len ≢ Done
-        → (stop_of result.status result.error_len ≡ NoSpace) × (result.written ≡ 0) }
-    ensures unchanged { stop_of result.status result.error_len ≢ Done → (encoder.new ≡ encoder.old)
-        × (to.new ≡ to.old) }
+    ensures pending { stop_of result ≡ Done → stream_pending encoder.new ≡ [] }
+    ensures no_space { stop_of result ≢ Done → (stop_of result ≡ NoSpace) × (result.written ≡ 0) }
+    ensures unchanged { stop_of result ≢ Done → (encoder.new ≡ encoder.old) × (to.new ≡ to.old) }
     ensures numbers { AreNumbers result.status result.error_len }
 {
     progress_of(in_order!(byte_order, finish_utf8(encoder, to)))

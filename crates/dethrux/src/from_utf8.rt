@@ -28,9 +28,8 @@ pub extern "C" fn dethrux_from_utf8(byte_order: u32, utf8: &[u8], to: &mut [u8])
     ensures wrote { Writes (TranscodesToUtf16 (is_big byte_order)) utf8.now to.new result.read
         result.written }
     ensures stop { StopsEncoding (is_big byte_order) utf8.now result.read
-        (length to.new - result.written) (stop_of result.status result.error_len) }
-    ensures succeeds { 2 * length utf8.now ≤ length to.new
-        → stop_of result.status result.error_len ≢ NoSpace }
+        (length to.new - result.written) (stop_of result) }
+    ensures succeeds { 2 * length utf8.now ≤ length to.new → stop_of result ≢ NoSpace }
     ensures numbers { AreNumbers result.status result.error_len }
 {
     in_order!(byte_order, from_utf8(utf8, to) => progress_of)
@@ -45,12 +44,10 @@ pub extern "C" fn dethrux_from_utf8_lossy(byte_order: u32, utf8: &[u8], to: &mut
     ensures shown { WritesWhole text_of_utf8 (char_bytes (is_big byte_order)) utf8.now to.new
         result.read result.written }
     ensures stop { StopsLossyWhole text_of_utf8 (char_bytes (is_big byte_order))
-        (drop result.read utf8.now) (length to.new - result.written)
-        (stop_of result.status result.error_len) }
+        (drop result.read utf8.now) (length to.new - result.written) (stop_of result) }
     ensures between { take result.written to.new ≡ flat_map (char_bytes (is_big byte_order))
         (text_of_utf8 (take result.read utf8.now)) }
-    ensures succeeds { 2 * length utf8.now ≤ length to.new
-        → stop_of result.status result.error_len ≡ Done }
+    ensures succeeds { 2 * length utf8.now ≤ length to.new → stop_of result ≡ Done }
     ensures numbers { AreNumbers result.status result.error_len }
 {
     progress_of(in_order!(byte_order, from_utf8_lossy(utf8, to)))

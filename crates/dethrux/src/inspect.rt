@@ -4,7 +4,7 @@ ghost use Rattle.std.specs.Prelude.{◌≡◌, ◌≤◌, length, take};
 ghost use Rattle.utf16_units.specs.Encoding.{text_of};
 ghost use Rattle.utf16_fixed.specs.Repertoire.{IsLeast};
 ghost use Rattle.utf16_fixed.specs.Inspection.{EndsAt};
-ghost use Rattle.dethrux.specs.Numbers.{AreNumbers, is_big, repertoire_of, stop_of};
+ghost use Rattle.dethrux.specs.Numbers.{AreNumbers, is_big, repertoire_of, stop_of_status};
 
 use crate::byte_order::in_order;
 use crate::results::status_of;
@@ -31,7 +31,7 @@ pub struct Inspection {
 #[unsafe(no_mangle)]
 pub extern "C" fn dethrux_inspect(byte_order: u32, utf16: &[u8]) -> Inspection
     ensures stop { EndsAt (is_big byte_order) utf16.now result.valid_up_to
-        (stop_of result.status result.error_len) }
+        (stop_of_status result.status result.error_len) }
     ensures chars { result.chars
         ≡ length (text_of (is_big byte_order) (take result.valid_up_to utf16.now)) }
     ensures repertoire { IsLeast (text_of (is_big byte_order) (take result.valid_up_to utf16.now))
@@ -49,7 +49,7 @@ fn inspection_of(found: utf16_fixed::Inspection) -> Inspection
     ensures chars { result.chars ≡ found.chars }
     ensures repertoire { repertoire_of result.repertoire ≡ found.repertoire }
     ensures known { result.repertoire ≤ 3 }
-    ensures stop { stop_of result.status result.error_len ≡ found.stop }
+    ensures stop { stop_of_status result.status result.error_len ≡ found.stop }
     ensures numbers { AreNumbers result.status result.error_len }
 {
     let (status, error_len) = status_of(found.stop);

@@ -26,9 +26,9 @@ pub extern "C" fn dethrux_to_latin1(byte_order: u32, utf16: &[u8], to: &mut [u8]
         (take result.read utf16.now) }
     ensures rest { drop result.written to.new ≡ drop result.written to.old }
     ensures stop { StopsLatin1 (is_big byte_order) utf16.now result.read
-        (length to.new - result.written) (latin1_stop_of result.status result.error_len) }
+        (length to.new - result.written) (latin1_stop_of result) }
     ensures succeeds { length utf16.now / 2 ≤ length to.old
-        → latin1_stop_of result.status result.error_len ≢ latin1.NoSpace }
+        → latin1_stop_of result ≢ latin1.NoSpace }
     ensures numbers { AreLatin1Numbers result.status result.error_len }
 {
     latin1_progress(in_order!(byte_order, to_latin1(utf16, to)))
@@ -39,7 +39,7 @@ pub extern "C" fn dethrux_to_latin1(byte_order: u32, utf16: &[u8], to: &mut [u8]
 fn latin1_progress(progress: utf16_fixed::Progress<Latin1Stop>) -> Progress
     ensures read { result.read ≡ progress.read }
     ensures written { result.written ≡ progress.written }
-    ensures stop { latin1_stop_of result.status result.error_len ≡ progress.stop }
+    ensures stop { latin1_stop_of result ≡ progress.stop }
     ensures numbers { AreLatin1Numbers result.status result.error_len }
 {
     let (status, error_len) = match progress.stop {
@@ -67,7 +67,7 @@ pub extern "C" fn dethrux_from_latin1(byte_order: u32, latin1: &[u8], to: &mut [
     ensures encoding { Encodes (is_big byte_order) (take result.read latin1.now)
         (take result.written to.new) }
     ensures rest { drop result.written to.new ≡ drop result.written to.old }
-    ensures stop { stop_of result.status result.error_len
+    ensures stop { stop_of result
         ≡ if nat_le (length latin1.now) (length to.old / 2) then Done else NoSpace }
     ensures numbers { AreNumbers result.status result.error_len }
 {

@@ -1,7 +1,7 @@
 //! The results that C gets, and the numbers in them.
 
 ghost use Rattle.std.specs.Prelude.{◌≡◌};
-ghost use Rattle.dethrux.specs.Numbers.{AreNumbers, stop_of, validity_stop, validity_up_to};
+ghost use Rattle.dethrux.specs.Numbers.{AreNumbers, stop_of, stop_of_status, validity_stop, validity_up_to};
 
 use utf16_transcode::Stop;
 use utf16_units::Utf16Error;
@@ -59,7 +59,7 @@ pub struct Bom {
 pub(crate) fn progress_of(progress: utf16_transcode::Progress) -> Progress
     ensures read { result.read ≡ progress.read }
     ensures written { result.written ≡ progress.written }
-    ensures stop { stop_of result.status result.error_len ≡ progress.stop }
+    ensures stop { stop_of result ≡ progress.stop }
     ensures numbers { AreNumbers result.status result.error_len }
 {
     let (status, error_len) = status_of(progress.stop);
@@ -74,7 +74,7 @@ pub(crate) fn progress_of(progress: utf16_transcode::Progress) -> Progress
 // The numbers of a reason.
 #[inline(always)]
 pub(crate) fn status_of(stop: Stop) -> (u32, u32)
-    ensures stop { stop_of result.0 result.1 ≡ stop }
+    ensures stop { stop_of_status result.0 result.1 ≡ stop }
     ensures numbers { AreNumbers result.0 result.1 }
 {
     match stop {
@@ -89,7 +89,7 @@ pub(crate) fn status_of(stop: Stop) -> (u32, u32)
 #[inline(always)]
 pub(crate) fn validity_of(len: usize, tested: Result<(), Utf16Error>) -> Validity
     ensures valid_up_to { result.valid_up_to ≡ validity_up_to len tested }
-    ensures stop { stop_of result.status result.error_len ≡ validity_stop tested }
+    ensures stop { stop_of_status result.status result.error_len ≡ validity_stop tested }
     ensures numbers { AreNumbers result.status result.error_len }
 {
     let Err(error) = tested else {
@@ -99,16 +99,13 @@ pub(crate) fn validity_of(len: usize, tested: Result<(), Utf16Error>) -> Validit
             error_len: 0,
         };
     };
-    match error.error_len() {
-        Some(len) => Validity {
-            valid_up_to: error.valid_up_to(),
-            status: ILL_FORMED,
-            error_len: len as u32,
-        },
-        None => Validity {
-            valid_up_to: error.valid_up_to(),
-            status: INCOMPLETE,
-            error_len: 0,
-        },
+    let (status, error_len) = match error.error_len() {
+        Some(len) => (ILL_FORMED, len as u32),
+        None => (INCOMPLETE, 0),
+    };
+    Validity {
+        valid_up_to: error.valid_up_to(),
+        status,
+        error_len,
     }
 }

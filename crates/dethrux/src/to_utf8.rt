@@ -47,9 +47,8 @@ pub extern "C" fn dethrux_to_utf8(byte_order: u32, utf16: &[u8], to: &mut [u8]) 
     ensures wrote { Writes (TranscodesToUtf8 (is_big byte_order)) utf16.now to.new result.read
         result.written }
     ensures stop { StopsDecoding (is_big byte_order) utf16.now result.read
-        (length to.new - result.written) (stop_of result.status result.error_len) }
-    ensures succeeds { length utf16.now / 2 * 3 ≤ length to.new
-        → stop_of result.status result.error_len ≢ NoSpace }
+        (length to.new - result.written) (stop_of result) }
+    ensures succeeds { length utf16.now / 2 * 3 ≤ length to.new → stop_of result ≢ NoSpace }
     ensures numbers { AreNumbers result.status result.error_len }
 {
     in_order!(byte_order, to_utf8(utf16, to) => progress_of)
@@ -63,13 +62,11 @@ pub extern "C" fn dethrux_to_utf8(byte_order: u32, utf16: &[u8], to: &mut [u8]) 
 pub extern "C" fn dethrux_to_utf8_lossy(byte_order: u32, utf16: &[u8], to: &mut [u8]) -> Progress
     ensures shown { WritesWhole (lossy_text (is_big byte_order)) encode_utf8 utf16.now to.new
         result.read result.written }
-    ensures stop { StopsLossyWhole (lossy_text (is_big byte_order)) encode_utf8
-        (drop result.read utf16.now) (length to.new - result.written)
-        (stop_of result.status result.error_len) }
-    ensures between { stop_of result.status result.error_len ≡ NoSpace
+    ensures stop { StopsLossyWhole (lossy_text (is_big byte_order))
+        encode_utf8 (drop result.read utf16.now) (length to.new - result.written) (stop_of result) }
+    ensures between { stop_of result ≡ NoSpace
         → DecodesTo (is_big byte_order) utf16.now to.new result.read result.written }
-    ensures succeeds { (length utf16.now + 1) / 2 * 3 ≤ length to.new
-        → stop_of result.status result.error_len ≡ Done }
+    ensures succeeds { (length utf16.now + 1) / 2 * 3 ≤ length to.new → stop_of result ≡ Done }
     ensures numbers { AreNumbers result.status result.error_len }
 {
     progress_of(in_order!(byte_order, to_utf8_lossy(utf16, to)))
@@ -81,11 +78,9 @@ pub extern "C" fn dethrux_to_utf8_lossy(byte_order: u32, utf16: &[u8], to: &mut 
 pub extern "C" fn dethrux_to_utf8_partial(byte_order: u32, utf16: &[u8], to: &mut [u8]) -> Progress
     ensures decodes { DecodesTo (is_big byte_order) utf16.now to.new result.read result.written }
     ensures stop { StopsLossy (is_big byte_order) (drop result.read utf16.now)
-        (length to.new - result.written) (stop_of result.status result.error_len) }
-    ensures succeeds { length utf16.now / 2 * 3 ≤ length to.new
-        → stop_of result.status result.error_len ≢ NoSpace }
-    ensures filled { stop_of result.status result.error_len ≡ NoSpace
-        → length to.new < result.written + 4 }
+        (length to.new - result.written) (stop_of result) }
+    ensures succeeds { length utf16.now / 2 * 3 ≤ length to.new → stop_of result ≢ NoSpace }
+    ensures filled { stop_of result ≡ NoSpace → length to.new < result.written + 4 }
     ensures advances { 4 ≤ length to.new → decided_text (is_big byte_order) utf16.now ≢ []
         → 0 < result.read }
     ensures numbers { AreNumbers result.status result.error_len }

@@ -27,9 +27,8 @@ pub extern "C" fn dethrux_to_utf32(byte_order: u32, utf16: &[u8], to: &mut [u32]
     ensures wrote { Writes (TranscodesToUtf32 (is_big byte_order)) utf16.now to.new result.read
         result.written }
     ensures stop { StopsToUtf32 (is_big byte_order) utf16.now result.read
-        (length to.new - result.written) (stop_of result.status result.error_len) }
-    ensures succeeds { length utf16.now / 2 ≤ length to.new
-        → stop_of result.status result.error_len ≢ NoSpace }
+        (length to.new - result.written) (stop_of result) }
+    ensures succeeds { length utf16.now / 2 ≤ length to.new → stop_of result ≢ NoSpace }
     ensures numbers { AreNumbers result.status result.error_len }
 {
     progress_of(in_order!(byte_order, to_utf32(utf16, to)))
@@ -42,13 +41,11 @@ pub extern "C" fn dethrux_to_utf32(byte_order: u32, utf16: &[u8], to: &mut [u32]
 pub extern "C" fn dethrux_to_utf32_lossy(byte_order: u32, utf16: &[u8], to: &mut [u32]) -> Progress
     ensures shown { WritesWhole (lossy_text (is_big byte_order)) utf32_units utf16.now to.new
         result.read result.written }
-    ensures stop { StopsLossyWhole (lossy_text (is_big byte_order)) utf32_units
-        (drop result.read utf16.now) (length to.new - result.written)
-        (stop_of result.status result.error_len) }
-    ensures between { stop_of result.status result.error_len ≡ NoSpace
+    ensures stop { StopsLossyWhole (lossy_text (is_big byte_order))
+        utf32_units (drop result.read utf16.now) (length to.new - result.written) (stop_of result) }
+    ensures between { stop_of result ≡ NoSpace
         → DecodesToUtf32 (is_big byte_order) utf16.now to.new result.read result.written }
-    ensures succeeds { (length utf16.now + 1) / 2 ≤ length to.new
-        → stop_of result.status result.error_len ≡ Done }
+    ensures succeeds { (length utf16.now + 1) / 2 ≤ length to.new → stop_of result ≡ Done }
     ensures numbers { AreNumbers result.status result.error_len }
 {
     progress_of(in_order!(byte_order, to_utf32_lossy(utf16, to)))
@@ -96,9 +93,8 @@ pub extern "C" fn dethrux_from_utf32(byte_order: u32, utf32: &[u32], to: &mut [u
     ensures wrote { Writes (TranscodesFromUtf32 (is_big byte_order)) utf32.now to.new result.read
         result.written }
     ensures stop { StopsFromUtf32 (is_big byte_order) utf32.now result.read
-        (length to.new - result.written) (stop_of result.status result.error_len) }
-    ensures succeeds { 4 * length utf32.now ≤ length to.new
-        → stop_of result.status result.error_len ≢ NoSpace }
+        (length to.new - result.written) (stop_of result) }
+    ensures succeeds { 4 * length utf32.now ≤ length to.new → stop_of result ≢ NoSpace }
     ensures numbers { AreNumbers result.status result.error_len }
 {
     progress_of(in_order!(byte_order, from_utf32(utf32, to)))
@@ -116,10 +112,8 @@ pub extern "C" fn dethrux_from_utf32_lossy(
     ensures wrote { Writes (ShowsInUtf16 (is_big byte_order)) utf32.now to.new result.read
         result.written }
     ensures stop { StopsLossyWhole lossy_utf32 (char_bytes (is_big byte_order))
-        (drop result.read utf32.now) (length to.new - result.written)
-        (stop_of result.status result.error_len) }
-    ensures succeeds { 4 * length utf32.now ≤ length to.new
-        → stop_of result.status result.error_len ≡ Done }
+        (drop result.read utf32.now) (length to.new - result.written) (stop_of result) }
+    ensures succeeds { 4 * length utf32.now ≤ length to.new → stop_of result ≡ Done }
     ensures numbers { AreNumbers result.status result.error_len }
 {
     progress_of(in_order!(byte_order, from_utf32_lossy(utf32, to)))

@@ -3,7 +3,7 @@
 ghost use Rattle.std.specs.Prelude.{◌≡◌, ◌↔◌, ◌<◌, ◌-◌, ◌/◌, ◌%◌, All, IsTrue, count_by, length};
 ghost use Rattle.std.specs.Char.Utf16.{is_low_surrogate};
 ghost use Rattle.utf16_units.specs.Encoding.{IsUtf16, text_of, units_of};
-ghost use Rattle.dethrux.specs.Numbers.{AreNumbers, IsValidity, is_big, stop_of};
+ghost use Rattle.dethrux.specs.Numbers.{AreNumbers, IsValidity, is_big, stop_of_status};
 
 use crate::byte_order::in_order;
 use crate::results::{Validity, validity_of};
@@ -16,7 +16,7 @@ use utf16_units::{Utf16Order, validate_raw_utf16};
 #[unsafe(no_mangle)]
 pub extern "C" fn dethrux_validate(byte_order: u32, utf16: &[u8]) -> Validity
     ensures validity { IsValidity (is_big byte_order) utf16.now result.valid_up_to
-        (stop_of result.status result.error_len) }
+        (stop_of_status result.status result.error_len) }
     ensures numbers { AreNumbers result.status result.error_len }
 {
     in_order!(byte_order, validity(utf16))
@@ -26,7 +26,7 @@ pub extern "C" fn dethrux_validate(byte_order: u32, utf16: &[u8]) -> Validity
 #[inline(always)]
 fn validity<E: Utf16Order>(utf16: &[u8]) -> Validity
     ensures validity { IsValidity E.BIG utf16.now result.valid_up_to
-        (stop_of result.status result.error_len) }
+        (stop_of_status result.status result.error_len) }
     ensures numbers { AreNumbers result.status result.error_len }
 {
     if is_short_plain::<E>(utf16) {
@@ -39,7 +39,7 @@ fn validity<E: Utf16Order>(utf16: &[u8]) -> Validity
 #[inline(never)]
 fn validity_of_many<E: Utf16Order>(utf16: &[u8]) -> Validity
     ensures validity { IsValidity E.BIG utf16.now result.valid_up_to
-        (stop_of result.status result.error_len) }
+        (stop_of_status result.status result.error_len) }
     ensures numbers { AreNumbers result.status result.error_len }
 {
     validity_of(utf16.len(), validate_raw_utf16::<E>(utf16))

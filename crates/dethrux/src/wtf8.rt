@@ -31,11 +31,10 @@ pub extern "C" fn dethrux_to_wtf8(byte_order: u32, utf16: &[u8], to: &mut [u8]) 
     ensures shown { WritesWhole (points_of (is_big byte_order)) generalized_utf8 utf16.now to.new
         result.read result.written }
     ensures stop { StopsToWtf8 (is_big byte_order) (drop result.read utf16.now)
-        (length to.new - result.written) (stop_of result.status result.error_len) }
-    ensures between { stop_of result.status result.error_len ≡ NoSpace
+        (length to.new - result.written) (stop_of result) }
+    ensures between { stop_of result ≡ NoSpace
         → DecodesToWtf8 (is_big byte_order) utf16.now to.new result.read result.written }
-    ensures succeeds { length utf16.now / 2 * 3 ≤ length to.new
-        → stop_of result.status result.error_len ≢ NoSpace }
+    ensures succeeds { length utf16.now / 2 * 3 ≤ length to.new → stop_of result ≢ NoSpace }
     ensures numbers { AreNumbers result.status result.error_len }
 {
     progress_of(in_order!(byte_order, to_wtf8(utf16, to)))
@@ -59,11 +58,9 @@ pub extern "C" fn dethrux_to_wtf8_partial(byte_order: u32, utf16: &[u8], to: &mu
     ensures decodes { DecodesToWtf8 (is_big byte_order) utf16.now to.new result.read
         result.written }
     ensures stop { StopsBeforeTail (is_big byte_order) (drop result.read utf16.now)
-        (length to.new - result.written) (stop_of result.status result.error_len) }
-    ensures succeeds { length utf16.now / 2 * 3 ≤ length to.new
-        → stop_of result.status result.error_len ≢ NoSpace }
-    ensures filled { stop_of result.status result.error_len ≡ NoSpace
-        → length to.new < result.written + 4 }
+        (length to.new - result.written) (stop_of result) }
+    ensures succeeds { length utf16.now / 2 * 3 ≤ length to.new → stop_of result ≢ NoSpace }
+    ensures filled { stop_of result ≡ NoSpace → length to.new < result.written + 4 }
     ensures advances { 4 ≤ length to.new → decided (wtf8_split (is_big byte_order)) utf16.now ≢ []
         → 0 < result.read }
     ensures numbers { AreNumbers result.status result.error_len }
@@ -85,16 +82,12 @@ pub extern "C" fn dethrux_wtf8_decoder_feed(
         result.written }
     ensures stop { StopsFeedingAs (wtf8_split (is_big byte_order)) generalized_utf8
         (stream_pending decoder.old) chunk.now (stream_pending decoder.new) result.read
-        (length to.new - result.written) (stop_of result.status result.error_len) }
-    ensures done { (stop_of result.status result.error_len ≡ Done)
-        ↔ (length (flat_map generalized_utf8
-        (decided (wtf8_split (is_big byte_order)) (stream_pending decoder.old ++ chunk.now)))
-        ≤ length to.new) }
-    ensures filled { stop_of result.status result.error_len ≡ NoSpace
-        → length to.new < result.written + 4 }
+        (length to.new - result.written) (stop_of result) }
+    ensures done { (stop_of result ≡ Done) ↔ (length (flat_map generalized_utf8 (decided (wtf8_split
+        (is_big byte_order)) (stream_pending decoder.old ++ chunk.now))) ≤ length to.new) }
+    ensures filled { stop_of result ≡ NoSpace → length to.new < result.written + 4 }
     ensures few { decoder.new.len ≤ 3 }
-    ensures succeeds { (length chunk.now + 3) / 2 * 3 ≤ length to.new
-        → stop_of result.status result.error_len ≡ Done }
+    ensures succeeds { (length chunk.now + 3) / 2 * 3 ≤ length to.new → stop_of result ≡ Done }
     ensures numbers { AreNumbers result.status result.error_len }
 {
     bytes_law(decoder.pending());
@@ -112,23 +105,18 @@ pub extern "C" fn dethrux_wtf8_decoder_finish(
     to: &mut [u8],
 ) -> Progress
     ensures read { result.read ≡ 0 }
-    ensures no_space { (stop_of result.status result.error_len ≡ NoSpace) ↔ (length to.new
-        < length (flat_map generalized_utf8
-        (tail_points (is_big byte_order) (stream_pending decoder.old)))) }
-    ensures incomplete { (stop_of result.status result.error_len ≡ Incomplete)
-        ↔ ((stop_of result.status result.error_len ≢ NoSpace)
-        × (length (stream_pending decoder.old) % 2 ≡ 1)) }
-    ensures done { (stop_of result.status result.error_len ≡ Done)
-        ↔ ((stop_of result.status result.error_len ≢ NoSpace)
-        × (length (stream_pending decoder.old) % 2 ≡ 0)) }
-    ensures text { stop_of result.status result.error_len ≢ NoSpace
-        → take result.written to.new ≡ flat_map generalized_utf8
-        (tail_points (is_big byte_order) (stream_pending decoder.old)) }
+    ensures no_space { (stop_of result ≡ NoSpace) ↔ (length to.new < length (flat_map
+        generalized_utf8 (tail_points (is_big byte_order) (stream_pending decoder.old)))) }
+    ensures incomplete { (stop_of result ≡ Incomplete)
+        ↔ ((stop_of result ≢ NoSpace) × (length (stream_pending decoder.old) % 2 ≡ 1)) }
+    ensures done { (stop_of result ≡ Done)
+        ↔ ((stop_of result ≢ NoSpace) × (length (stream_pending decoder.old) % 2 ≡ 0)) }
+    ensures text { stop_of result ≢ NoSpace → take result.written to.new
+        ≡ flat_map generalized_utf8 (tail_points (is_big byte_order) (stream_pending decoder.old)) }
     ensures within { result.written ≤ length to.new }
     ensures rest { drop result.written to.new ≡ drop result.written to.old }
-    ensures pending { stop_of result.status result.error_len ≢ NoSpace
-        → stream_pending decoder.new ≡ [] }
-    ensures unchanged { stop_of result.status result.error_len ≡ NoSpace
+    ensures pending { stop_of result ≢ NoSpace → stream_pending decoder.new ≡ [] }
+    ensures unchanged { stop_of result ≡ NoSpace
         → (result.written ≡ 0) × (decoder.new ≡ decoder.old) × (to.new ≡ to.old) }
     ensures numbers { AreNumbers result.status result.error_len }
 {
@@ -146,9 +134,8 @@ pub extern "C" fn dethrux_from_wtf8(byte_order: u32, wtf8: &[u8], to: &mut [u8])
     ensures wrote { Writes (TranscodesFromWtf8 (is_big byte_order)) wtf8.now to.new result.read
         result.written }
     ensures stop { StopsFromWtf8 (is_big byte_order) wtf8.now result.read
-        (length to.new - result.written) (stop_of result.status result.error_len) }
-    ensures succeeds { 2 * length wtf8.now ≤ length to.new
-        → stop_of result.status result.error_len ≢ NoSpace }
+        (length to.new - result.written) (stop_of result) }
+    ensures succeeds { 2 * length wtf8.now ≤ length to.new → stop_of result ≢ NoSpace }
     ensures numbers { AreNumbers result.status result.error_len }
 {
     progress_of(in_order!(byte_order, from_wtf8(wtf8, to)))
@@ -174,15 +161,12 @@ pub extern "C" fn dethrux_from_wtf8_partial(byte_order: u32, wtf8: &[u8], to: &m
     ensures wrote { Writes (TranscodesFromWtf8 (is_big byte_order)) wtf8.now to.new result.read
         result.written }
     ensures stop { StopsFromWtf8Partial (is_big byte_order) wtf8.now result.read
-        (length to.new - result.written) (stop_of result.status result.error_len) }
-    ensures few { stop_of result.status result.error_len ≡ Incomplete
-        → length wtf8.now ≤ result.read + 6 }
-    ensures fits { stop_of result.status result.error_len ≡ Incomplete
+        (length to.new - result.written) (stop_of result) }
+    ensures few { stop_of result ≡ Incomplete → length wtf8.now ≤ result.read + 6 }
+    ensures fits { stop_of result ≡ Incomplete
         → LeavesLeading wtf8.now result.read → 2 ≤ length to.new - result.written }
-    ensures succeeds { 2 * length wtf8.now ≤ length to.new
-        → stop_of result.status result.error_len ≢ NoSpace }
-    ensures filled { stop_of result.status result.error_len ≡ NoSpace
-        → length to.new < result.written + 4 }
+    ensures succeeds { 2 * length wtf8.now ≤ length to.new → stop_of result ≢ NoSpace }
+    ensures filled { stop_of result ≡ NoSpace → length to.new < result.written + 4 }
     ensures numbers { AreNumbers result.status result.error_len }
 {
     progress_of(in_order!(byte_order, from_wtf8_partial(wtf8, to)))

@@ -26,17 +26,14 @@ pub extern "C" fn dethrux_wtf8_encoder_feed(
     ensures feeds { FeedsWtf8 (is_big byte_order) (wtf8_pending encoder.old) chunk.now
         (wtf8_pending encoder.new) to.new result.read result.written }
     ensures stop { StopsFeedingWtf8 (is_big byte_order) (wtf8_pending encoder.old) chunk.now
-        (wtf8_pending encoder.new) result.read (length to.new - result.written)
-        (stop_of result.status result.error_len) }
-    ensures fits { stop_of result.status result.error_len ≡ Done
-        → LeavesLeading (wtf8_pending encoder.old ++ chunk.now)
+        (wtf8_pending encoder.new) result.read (length to.new - result.written) (stop_of result) }
+    ensures fits { stop_of result ≡ Done → LeavesLeading (wtf8_pending encoder.old ++ chunk.now)
         (encoded_len (wtf8_pending encoder.old) (wtf8_pending encoder.new) result.read)
         → 2 ≤ length to.new - result.written }
     ensures few { encoder.new.len ≤ 6 }
     ensures succeeds { 2 * (length (wtf8_pending encoder.old) + length chunk.now) ≤ length to.new
-        → stop_of result.status result.error_len ≢ NoSpace }
-    ensures filled { stop_of result.status result.error_len ≡ NoSpace
-        → length to.new < result.written + 4 }
+        → stop_of result ≢ NoSpace }
+    ensures filled { stop_of result ≡ NoSpace → length to.new < result.written + 4 }
     ensures numbers { AreNumbers result.status result.error_len }
 {
     progress_of(in_order!(byte_order, encoder.feed(chunk, to)))
@@ -54,10 +51,9 @@ pub extern "C" fn dethrux_wtf8_encoder_finish(
     ensures wrote { Writes (TranscodesFromWtf8 (is_big byte_order)) (wtf8_pending encoder.old) to.new
         result.read result.written }
     ensures stop { StopsFromWtf8 (is_big byte_order) (wtf8_pending encoder.old) result.read
-        (length to.new - result.written) (stop_of result.status result.error_len) }
-    ensures ended { stop_of result.status result.error_len ≢ NoSpace
-        → wtf8_pending encoder.new ≡ [] }
-    ensures left { stop_of result.status result.error_len ≡ NoSpace
+        (length to.new - result.written) (stop_of result) }
+    ensures ended { stop_of result ≢ NoSpace → wtf8_pending encoder.new ≡ [] }
+    ensures left { stop_of result ≡ NoSpace
         → wtf8_pending encoder.new ≡ drop result.read (wtf8_pending encoder.old) }
     ensures few { encoder.new.len ≤ 6 }
     ensures numbers { AreNumbers result.status result.error_len }

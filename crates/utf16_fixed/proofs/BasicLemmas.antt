@@ -64,10 +64,6 @@ module _ (big : Bool) (units read : List ℕ) (long : length units ≡ 8) (fit :
       let is = are ∙ ap (units_of big) (bytes-written false 8 units long fit) in
       bytes-written false 8 read eight (subst (Each1 (Fits w16)) (sym is) (in_order-fit big units fit)) ∙ ap (flat_map (unit_bytes false)) is ∙ in_order-bytes big units fit
 
-pub unit_bytes-two : (big : Bool) (unit : ℕ) → length (unit_bytes big unit) ≡ 2
-unit_bytes-two true unit = refl
-unit_bytes-two false unit = refl
-
 -- a unit by itself
 pub one-basic : (unit : ℕ) → unit ≤ 0xFFFF → unit / 0x800 ≢ 0x1B → AreBasic (unit ∷ [])
 one-basic unit le none =

@@ -1,4 +1,5 @@
 -- Characters of one or two units of UTF-16, written as two units of which the first or both count.
+use Rattle.std.proofs.lemmas.Bool.Decides.{nat_tests}
 use Rattle.std.proofs.Common.{All, ◌≡◌, ℕ, ◌+◌, ◌-◌, ◌*◌, ◌/◌, ◌%◌, ◌^◌, ◌<◌, ◌≤◌, ◌==◌, Bool, true, false, cond, List, [], ◌∷◌, ◌++◌, flat_map, length, ltb, lt-ltb, le-ltb, map, replicate, append-nil, append_assoc, refl, sym, ap, ap₂, ◌∙◌, ⊎_elim, subst, arith, w16, w32}
 use Rattle.std.proofs.lemmas.Bool.{cases_lt}
 use Rattle.std.proofs.lemmas.List.{length-map}
@@ -25,14 +26,6 @@ chosen p f g (x ∷ v) = ap₂ (λ y ys. y ∷ ys) (refl {a = cond (p x) (f x) (
 pub chosen-above : (v : List ℕ) (n limit : ℕ) (f g : ℕ → ℕ) → length v ≡ n
     → sel_l (map (top 31) (zip2 (λ (a b : ℕ). cond (ltb a b) (2 ^ 32 - 1) 0) (replicate n limit) v)) (map f v) (map g v) ≡ map (λ x. cond (above limit x) (f x) (g x)) v
 chosen-above v n limit f g long = ap (λ ms. sel_l ms (map f v) (map g v)) (tops_compared w32 ltb (replicate n limit) v ∙ zip2_splat_left ltb limit n v long) ∙ chosen (above limit) f g v
-
-pub map-twice : (f g : ℕ → ℕ) (v : List ℕ) → map f (map g v) ≡ map (λ x. f (g x)) v
-map-twice f g [] = refl
-map-twice f g (x ∷ v) = ap (λ xs. f (g x) ∷ xs) (map-twice f g v)
-
-pub map-same : (v : List ℕ) → v ≡ map (λ x. x) v
-map-same [] = refl
-map-same (x ∷ v) = ap (λ xs. x ∷ xs) (map-same v)
 
 -- halves that are not zero
 pub set-halves : (units : List ℕ) → length units ≡ 16
@@ -104,7 +97,4 @@ kept-chars big (c ∷ cs) scalars = ⊎_elim
     trail two top = omega (arith, two, top)
 
     pair-char : 0xFFFF < c → (more : List ℕ) → unit_bytes big (0xD800 + (c - 0x1_0000) / 0x400) ++ (unit_bytes big (0xDC00 + (c - 0x1_0000) % 0x400) ++ more) ≡ char_bytes big c ++ more
-    pair-char two more =
-        sym (ap (λ us. flat_map (unit_bytes big) us ++ more) (two_units c (omega (arith, two)))
-        ∙ append_assoc (unit_bytes big (0xD800 + (c - 0x1_0000) / 0x400)) (unit_bytes big (0xDC00 + (c - 0x1_0000) % 0x400) ++ []) more
-        ∙ ap (λ us. unit_bytes big (0xD800 + (c - 0x1_0000) / 0x400) ++ (us ++ more)) (append-nil (unit_bytes big (0xDC00 + (c - 0x1_0000) % 0x400))))
+    pair-char two more = grind (arith, nat_tests, two_units, append_assoc, append-nil)

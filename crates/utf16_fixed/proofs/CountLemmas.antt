@@ -1,23 +1,21 @@
 -- Code units counted by a test, and the size of their text in UTF-16.
-use Rattle.std.proofs.Common.{◌≡◌, ℕ, ◌+◌, ◌*◌, ◌<◌, ◌≤◌, Bool, true, false, cond, List, [], ◌∷◌, length, take, drop, refl, subst, sym, ap, ◌∙◌, arith, count_by, ⊎_elim, lt-ltb, le-ltb, take-add}
-use Rattle.std.proofs.lemmas.Bool.{cases_lt}
+use Rattle.std.proofs.lemmas.Bool.Decides.{nat_tests}
+use Rattle.std.proofs.Common.{◌≡◌, ℕ, ◌+◌, ◌*◌, ◌<◌, ◌≤◌, Bool, true, false, cond, List, [], ◌∷◌, length, take, drop, refl, subst, sym, arith, count_by, ⊎_elim, lt-ltb, le-ltb, take-add}
 use Rattle.std.proofs.lemmas.List.Sums.{sum_by-append, sum_by-cons}
 use Rattle.std.specs.Char.{IsScalar}
 use mir.Val.{bool_byte}
+use Rattle.utf16_units.proofs.FirstChar.{high_scalar}
 use Rattle.utf16_units.specs.Encoding.{char_size, size}
-use Rattle.utf16_units.proofs.CharLemmas.{char_size_four, char_size_two, no_surrogate}
+use Rattle.utf16_units.proofs.CharLemmas.{char_size_four, char_size_two}
 use Rattle.utf16_units.proofs.EncodingLemmas.{size-cons, size-nil}
 use Rattle.utf16_fixed.specs.Utf32.{above, lossy_unit, lossy_utf32}
 use Rattle.utf16_fixed.proofs.ShowsLemmas.{lossy_unit-other, lossy_unit-scalar, scalar_or_not}
-use Rattle.utf16_fixed.proofs.ValidLemmas.{high_scalar}
 
 module _ (p : ℕ → Bool) where
   -- the next n units are counted
   pub counted-next : (units : List ℕ) (at n count more : ℕ) → count ≡ count_by p (take at units) → more ≡ count_by p (take n (drop at units))
       → count + more ≡ count_by p (take (at + n) units)
-  counted-next units at n count more is next =
-      let both = ap (count_by p) (take-add at n units) ∙ sum_by-append (λ u. cond (p u) 1 0) (take at units) (take n (drop at units)) in
-      omega (arith, is, next, both)
+  counted-next units at n count more is next = grind (arith, nat_tests, count_by, take-add, sum_by-append)
 
   bit-cond : (b : Bool) → bool_byte b ≡ cond b 1 0
   bit-cond true = refl
@@ -37,10 +35,7 @@ pub above-fewer : (low high : ℕ) (units : List ℕ) → low ≤ high → count
 above-fewer low high [] le = omega arith
 above-fewer low high (u ∷ units) le = omega (arith, above-fewer low high units le, counted-cons low u units, counted-cons high u units, one) where
   one : cond (above high u) 1 0 ≤ cond (above low u) 1 0
-  one = ⊎_elim
-      (λ (more : high < u). omega (arith, bit-above high u more, bit-above low u (omega (arith, more, le))))
-      (λ (few : u ≤ high). omega (arith, bit-below high u few))
-      (cases_lt high u)
+  one = grind (arith, nat_tests, bit-above, bit-below)
 
 lossy_unit-small : (unit : ℕ) → unit < 0x1_0000 → lossy_unit unit < 0x1_0000
 lossy_unit-small unit small = ⊎_elim
@@ -50,18 +45,7 @@ lossy_unit-small unit small = ⊎_elim
 
 -- a unit that is not a scalar value takes as much space as U+FFFD
 lossy_unit-size : (u : ℕ) → char_size (lossy_unit u) + 2 * cond (above 0x10_FFFF u) 1 0 ≡ 2 + 2 * cond (above 0xFFFF u) 1 0
-lossy_unit-size u = ⊎_elim
-    (λ (one : u < 0x1_0000).
-    omega (arith, char_size_two (lossy_unit u) (lossy_unit-small u one), bit-below 0x10_FFFF u (omega (arith, one)), bit-below 0xFFFF u (omega (arith, one))))
-    (λ (more : 0x1_0000 ≤ u). ⊎_elim
-    (λ (two : u < 0x11_0000).
-    let same = lossy_unit-scalar u (high_scalar u (omega (arith, more)) two) in
-    omega (arith, ap char_size same, char_size_four u more, bit-below 0x10_FFFF u (omega (arith, two)), bit-above 0xFFFF u (omega (arith, more))))
-    (λ (none : 0x11_0000 ≤ u).
-    let same = lossy_unit-other u (λ scalar. omega (arith, none, no_surrogate u scalar)) in
-    omega (arith, ap char_size same, char_size_two 0xFFFD (omega arith), bit-above 0x10_FFFF u (omega (arith, none)), bit-above 0xFFFF u (omega (arith, more))))
-    (cases_lt u 0x11_0000))
-    (cases_lt u 0x1_0000)
+lossy_unit-size u = grind (arith, nat_tests, char_size_two, lossy_unit-small, bit-below, lossy_unit-scalar, high_scalar, char_size_four, bit-above)
 
 pub lossy_utf32-size : (units : List ℕ) → size (lossy_utf32 units) + 2 * count_by (above 0x10_FFFF) units ≡ 2 * length units + 2 * count_by (above 0xFFFF) units
 lossy_utf32-size [] = omega (arith, size-nil)

@@ -1,6 +1,6 @@
 -- The lanes before the first above a limit, by a bit for each.
-use Rattle.std.proofs.Common.{◌≡◌, ℕ, All, ◌<◌, ◌≤◌, ◌-◌, ◌%◌, ◌^◌, true, not, ltb, List, map, length, replicate, take, slice_index, sym, ap, ◌∙◌, subst, arith, lt-ltb, true≢false, w32, ⊎_elim, cond}
-use Rattle.std.proofs.lemmas.Bool.{cases_lt}
+use Rattle.std.proofs.Common.{◌≡◌, ℕ, All, ◌<◌, ◌≤◌, ◌-◌, ◌%◌, ◌^◌, not, ltb, List, map, length, replicate, take, slice_index, sym, ap, ◌∙◌, subst, arith, w32, cond}
+use Rattle.std.proofs.lemmas.Bool.{ltb-false, not-true}
 use Rattle.std.proofs.lemmas.List.{get_or-take, length-map, length-take}
 use Rattle.std.proofs.lemmas.List.Elements.{All-from_get_or}
 use Rattle.std.proofs.lemmas.List.Sums.{prefix_len-le-length, prefix_len_passes}
@@ -16,12 +16,6 @@ pub above-mask_l : (units : List ℕ) (n limit : ℕ) → length units ≡ n →
 above-mask_l units n limit long few =
     ap (λ ms. mask_l ms % 2 ^ 64) (tops_compared w32 ltb (replicate n limit) units ∙ zip2_splat_left ltb limit n units long)
     ∙ mask_l-mod (map (above limit) units) 64 (omega (arith, long, few, length-map units (above limit)))
-
-not_above : (limit unit : ℕ) → not (above limit unit) ≡ true → unit ≤ limit
-not_above limit unit none = ⊎_elim
-    (λ (more : limit < unit). absurd (true≢false (sym none ∙ ap not (lt-ltb limit unit more))))
-    (λ (le : unit ≤ limit). le)
-    (cases_lt limit unit)
 
 module _ (units : List ℕ) (n limit bits : ℕ) (long : length units ≡ n) (few : n ≤ 64) (are : bits ≡ mask_l (map (above limit) units)) where
   -- how many lanes precede the first above the limit
@@ -42,4 +36,4 @@ module _ (units : List ℕ) (n limit bits : ℕ) (long : length units ≡ n) (fe
   front-below = All-from_get_or (λ unit. unit ≤ limit) (take front_len units) 0 (λ i lt.
       let before : i < front_len = omega (arith, lt, length-take front_len units) in
       subst (λ unit. unit ≤ limit) (sym (get_or-take front_len units i 0 before))
-      (not_above limit (slice_index units i) (prefix_len_passes (λ unit. not (above limit unit)) units i 0 before)))
+      (ltb-false limit (slice_index units i) (not-true _ (prefix_len_passes (λ unit. not (above limit unit)) units i 0 before))))

@@ -1,6 +1,6 @@
 -- What a pass over units finds: the greatest units are below a limit exactly if all are.
-use Rattle.std.proofs.Common.{◌≡◌, ◌↔◌, ℕ, zero, suc, ◌+◌, ◌*◌, ◌%◌, ◌<◌, ◌≤◌, Bool, cond, ltb, List, [], ◌∷◌, ◌++◌, length, map, replicate, take, drop, refl, sym, ap, ◌∙◌, subst, ⊎_elim, arith, append_assoc, count_by, length-take-le, w16}
-use Rattle.std.proofs.lemmas.Bool.{cases_lt, le-ltb, lt-ltb}
+use Rattle.std.proofs.Common.{◌≡◌, ◌↔◌, ℕ, zero, suc, ◌+◌, ◌*◌, ◌%◌, ◌<◌, ◌≤◌, Bool, cond, ltb, List, [], ◌∷◌, ◌++◌, length, map, replicate, take, drop, refl, sym, ap, ◌∙◌, subst, arith, append_assoc, count_by, length-take-le, w16}
+use Rattle.std.proofs.lemmas.Bool.Decides.{nat_tests}
 use Rattle.std.proofs.lemmas.List.{length-map}
 use Rattle.std.proofs.lemmas.List.Elements.{All-append, All-cons, All-head, All-nil, All-replicate, All-tail}
 use Rattle.std.proofs.lemmas.Simd.{length-sel_l, length-zip2, ones-mask_l, tops_compared}
@@ -17,16 +17,9 @@ use Rattle.utf16_fixed.proofs.RepertoireLemmas.{AllBelow}
 
 -- the greater of two numbers is below a limit exactly if both are
 greater_below : (limit x y : ℕ) → (cond (ltb x y) y x < limit) ↔ ((x < limit) × (y < limit))
-greater_below limit x y = ⊎_elim
-    (λ (less : x < y).
-    subst (λ b. (cond b y x < limit) ↔ ((x < limit) × (y < limit))) (sym (lt-ltb x y less))
-    (λ below. (omega arith, below), λ both. both.1))
-    (λ (more : y ≤ x).
-    subst (λ b. (cond b y x < limit) ↔ ((x < limit) × (y < limit))) (sym (le-ltb x y more))
-    (λ below. (below, omega arith), λ both. both.0))
-    (cases_lt x y)
+greater_below limit x y = (λ below. (grind (arith, nat_tests), grind (arith, nat_tests)), λ both. grind (arith, nat_tests))
 
-lanes_below : (limit : ℕ) (xs ys : List ℕ) → length xs ≡ length ys → AllBelow limit (sel_l (zip2 ltb xs ys) ys xs) ↔ (AllBelow limit xs × AllBelow limit ys)
+pub lanes_below : (limit : ℕ) (xs ys : List ℕ) → length xs ≡ length ys → AllBelow limit (sel_l (zip2 ltb xs ys) ys xs) ↔ (AllBelow limit xs × AllBelow limit ys)
 lanes_below limit [] [] same = (λ all. (all, all), λ both. both.0)
 lanes_below limit [] (y ∷ ys) same = absurd (omega (arith, same))
 lanes_below limit (x ∷ xs) [] same = absurd (omega (arith, same))
@@ -148,7 +141,6 @@ module _ (big : Bool) (raw : List ℕ) (at trailing : ℕ) (greatest : List ℕ)
   -- a block
   pub ScannedTo-block : at + 64 ≤ length raw → units ≡ units_of big (take 64 (drop at raw)) → ScannedTo big raw (at + 64) more now
   ScannedTo-block within is =
-      let was = done.even in
       record {
         within = within;
         even = omega arith;

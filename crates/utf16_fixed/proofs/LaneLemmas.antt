@@ -1,10 +1,10 @@
 -- Low units of UTF-32 in lanes, and how they are compared.
-use Rattle.std.proofs.Common.{◌≡◌, ℕ, All, ◌+◌, ◌-◌, ◌%◌, ◌^◌, ◌<◌, ◌≤◌, true, false, cond, leb, ltb, List, [], ◌∷◌, length, map, replicate, ⊎_elim, refl, sym, ap, ap₂, ◌∙◌, subst, arith, Fits, w16, w32, lt-ltb, le-ltb}
+use Rattle.std.proofs.Common.{◌≡◌, ℕ, All, ◌+◌, ◌-◌, ◌%◌, ◌^◌, ◌<◌, ◌≤◌, true, false, cond, ltb, List, [], ◌∷◌, length, map, replicate, ⊎_elim, refl, sym, ap, ap₂, ◌∙◌, subst, arith, Fits, w16, w32, lt-ltb, le-ltb}
 use lib.Lanes.{Each1, mask_l, sel_l, top, zip2}
-use Rattle.std.proofs.lemmas.Bool.{cases_lt, leb-false, ltb-false}
-use Rattle.std.proofs.lemmas.List.{length-map}
+use Rattle.std.proofs.lemmas.Bool.{cases_lt, ltb-false}
+use Rattle.std.proofs.lemmas.Bool.Decides.{nat_tests}
 use Rattle.std.proofs.lemmas.List.Elements.{All-cons, All-head, All-nil, All-tail, All-weaker}
-use Rattle.std.proofs.lemmas.Simd.{bitmask_splat, mask_l-mod, tops_compared, zip2_splat, zip2_splat_left}
+use Rattle.std.proofs.lemmas.Simd.{bitmask_splat, tops_compared, zip2_splat}
 use Rattle.utf16_units.specs.Lanes.{HasNoSurrogate, IsNoSurrogate}
 use Rattle.utf16_fixed.specs.Progress.{IsBasicLow, from_surrogates, low_unit}
 use Rattle.utf16_fixed.specs.Utf32.{AreBasic}
@@ -15,19 +15,11 @@ use Rattle.utf16_fixed.proofs.ValidLemmas.{none_set}
 -- ---- low units
 
 low-fits : (u : ℕ) → Fits w16 (low_unit u)
-low-fits u = record {
-  fits = ⊎_elim
-      (λ (lt : u < 0xFFFF). subst (λ b. cond b u 0xFFFF < 2 ^ 16) (sym (lt-ltb u 0xFFFF lt)) (omega (arith, lt)))
-      (λ (le : 0xFFFF ≤ u). subst (λ b. cond b u 0xFFFF < 2 ^ 16) (sym (le-ltb u 0xFFFF le)) (omega arith))
-      (cases_lt u 0xFFFF);
-}
+low-fits u = record { fits = grind (arith, nat_tests) }
 
 -- a unit of sixteen bits is its low unit
 low-same : (u : ℕ) → u ≤ 0xFFFF → low_unit u ≡ u
-low-same u le = ⊎_elim
-    (λ (lt : u < 0xFFFF). subst (λ b. cond b u 0xFFFF ≡ u) (sym (lt-ltb u 0xFFFF lt)) refl)
-    (λ (from : 0xFFFF ≤ u). subst (λ b. cond b u 0xFFFF ≡ u) (sym (le-ltb u 0xFFFF from)) (omega (arith, le, from)))
-    (cases_lt u 0xFFFF)
+low-same u le = grind (arith, nat_tests)
 
 pub low-all : (units : List ℕ) → All (λ unit. unit ≤ 0xFFFF) units → map low_unit units ≡ units
 low-all [] le = refl
@@ -53,10 +45,7 @@ module _ (n : ℕ) (units : List ℕ) (long : length units ≡ n) where
 
 -- a low unit below 0xFFFF is of the same unit
 low-below : (u : ℕ) → low_unit u < 0xFFFF → u < 0xFFFF
-low-below u below = ⊎_elim
-    (λ (lt : u < 0xFFFF). lt)
-    (λ (le : 0xFFFF ≤ u). absurd (omega (arith, below, ap (λ b. cond b u 0xFFFF) (le-ltb u 0xFFFF le))))
-    (cases_lt u 0xFFFF)
+low-below u below = grind (arith, nat_tests)
 
 lows-below : (units : List ℕ) → All IsBasicLow (map low_unit units) → All (λ unit. unit ≤ 0xFFFF) units
 lows-below [] lows = All-nil (λ unit. unit ≤ 0xFFFF)
@@ -96,21 +85,6 @@ least-both limit (x ∷ a) (y ∷ b) same all =
     (cases_lt x y) in
     (All-cons P x a two.0 rest.0, All-cons P y b two.1 rest.1)
 
-pub greatest-both : (limit : ℕ) (a b : List ℕ) → length a ≡ length b → All (λ unit. unit < limit) (sel_l (zip2 ltb a b) b a)
-    → All (λ unit. unit < limit) a × All (λ unit. unit < limit) b
-greatest-both limit [] [] same all = (All-nil (λ unit. unit < limit), All-nil (λ unit. unit < limit))
-greatest-both limit [] (y ∷ b) same all = absurd (omega (arith, same))
-greatest-both limit (x ∷ a) [] same all = absurd (omega (arith, same))
-greatest-both limit (x ∷ a) (y ∷ b) same all =
-    let P : ℕ → Type 0 = λ unit. unit < limit in
-    let here = All-head P (cond (ltb x y) y x) (sel_l (zip2 ltb a b) b a) all in
-    let rest = greatest-both limit a b (omega (arith, same)) (All-tail P (cond (ltb x y) y x) (sel_l (zip2 ltb a b) b a) all) in
-    let two : (x < limit) × (y < limit) = ⊎_elim
-    (λ (lt : x < y). let one : y < limit = subst (λ c. cond c y x < limit) (lt-ltb x y lt) here in (omega (arith, one, lt), one))
-    (λ (le : y ≤ x). let one : x < limit = subst (λ c. cond c y x < limit) (le-ltb x y le) here in (one, omega (arith, one, le)))
-    (cases_lt x y) in
-    (All-cons P x a two.0 rest.0, All-cons P y b two.1 rest.1)
-
 pub compared : (a b c d : List ℕ) → sel_l (map (top 15) (zip2 (λ (x y : ℕ). cond (ltb x y) (2 ^ 16 - 1) 0) a b)) c d ≡ sel_l (zip2 ltb a b) c d
 compared a b c d = ap (λ flags. sel_l flags c d) (tops_compared w16 ltb a b)
 
@@ -121,13 +95,6 @@ pub from_by_bits : (n limit : ℕ) (units : List ℕ) → length units ≡ n →
 from_by_bits n limit units long few none =
     All-weaker (λ unit. ltb unit limit ≡ false) (λ unit. limit ≤ unit) (λ unit. ltb-false unit limit) units
     (none_set (λ unit. ltb unit limit) units (sym (bitmask_splat w16 ltb units n limit long few) ∙ none))
-
-pub below_by_bits : (n limit : ℕ) (units : List ℕ) → length units ≡ n → n ≤ 64
-    → mask_l (map (top 15) (zip2 (λ (a b : ℕ). cond (leb a b) (2 ^ 16 - 1) 0) (replicate n limit) units)) % 2 ^ 64 ≡ 0 → All (λ unit. unit < limit) units
-below_by_bits n limit units long few none =
-    let set = ap (λ flags. mask_l flags % 2 ^ 64) (tops_compared w16 leb (replicate n limit) units ∙ zip2_splat_left leb limit n units long)
-    ∙ mask_l-mod (map (leb limit) units) 64 (omega (arith, length-map units (leb limit), long)) in
-    All-weaker (λ unit. leb limit unit ≡ false) (λ unit. unit < limit) (λ unit. leb-false limit unit) units (none_set (leb limit) units (sym set ∙ none))
 
 -- ---- surrogates
 

@@ -1,10 +1,9 @@
 -- How many code points the lossy text of any bytes has.
-use Rattle.std.proofs.Common.{◌≡◌, ◌≢◌, ℕ, ◌+◌, ◌-◌, ◌*◌, ◌/◌, ◌≤◌, Bool, true, false, List, [], ◌∷◌, ◌++◌, Option, None, Some, length, map, take, drop, refl, sym, subst, ap, ap₂, ◌∙◌, arith, append-nil, length-append, length-take-le, take-append-drop}
+use Rattle.std.proofs.Common.{◌≡◌, ◌≢◌, ℕ, ◌+◌, ◌-◌, ◌*◌, ◌/◌, ◌≤◌, Bool, List, [], ◌∷◌, ◌++◌, Option, None, Some, length, map, take, drop, refl, sym, subst, ap, ap₂, ◌∙◌, arith, append-nil, length-append, length-take-le, take-append-drop}
 use Rattle.std.proofs.lemmas.List.{drop-drop, length-map}
 use Rattle.utf16_units.specs.Split.{Item, good, lone_lead, lone_trail, item_bytes, items_bytes, lossy_char, lossy_chars, lossy_text, split_items, split_tail, whole_lossy_chars}
 use Rattle.utf16_units.specs.Encoding.{IsUtf16, text_of}
 use Rattle.utf16_units.specs.IllFormed.{IsIllFormed, IsUtf16ValidUpTo}
-use Rattle.utf16_units.specs.Unit.{unit_bytes}
 use Rattle.utf16_units.specs.Utf16Error.{IsErrorOf, error_len, valid_up_to}
 use Rattle.utf16_units.specs.declared.error.Utf16Error.{Utf16Error}
 use Rattle.utf16_units.proofs.CharLemmas.{char_size_cases, length-char_bytes}
@@ -13,6 +12,7 @@ use Rattle.utf16_units.proofs.RecipeLemmas.{lossy_chars-good, two}
 use Rattle.utf16_units.proofs.SplitIllFormed.{lone_item, split_items-fault, split_items-incomplete, split_tail-fault, split_tail-incomplete}
 use Rattle.utf16_transcode.proofs.ToUtf8Parts.{whole_lossy_chars-append}
 use Rattle.utf16_units.proofs.SplitLemmas.{Split-computed}
+use Rattle.utf16_units.proofs.UnitLemmas.{length-unit_bytes}
 use Rattle.utf16_transcode.specs.WholeText.{WritesWhole}
 use Rattle.utf16_transcode.specs.Stops.{StopsLossyWhole}
 use Rattle.utf16_transcode.specs.declared.progress.Stop.{Stop}
@@ -20,15 +20,11 @@ use Rattle.utf16_transcode.specs.declared.progress.Stop.TheVariants.{Incomplete,
 use Rattle.utf16_fixed.specs.Utf32.{utf32_units}
 use Rattle.utf16_fixed.proofs.LossyLemmas.{units_of_text}
 
-two_bytes : (big : Bool) (unit : ℕ) → length (unit_bytes big unit) ≡ 2
-two_bytes true unit = refl
-two_bytes false unit = refl
-
 -- each item takes two bytes or more
 item-least : (big : Bool) (item : Item) → 2 ≤ length (item_bytes big item)
 item-least big (good c) = omega (arith, length-char_bytes big c, char_size_cases c)
-item-least big (lone_trail unit) = omega (arith, two_bytes big unit)
-item-least big (lone_lead unit) = omega (arith, two_bytes big unit)
+item-least big (lone_trail unit) = omega (arith, length-unit_bytes big unit)
+item-least big (lone_lead unit) = omega (arith, length-unit_bytes big unit)
 
 items-least : (big : Bool) (items : List Item) → 2 * length items ≤ length (items_bytes big items)
 items-least big [] = omega arith

@@ -6,12 +6,12 @@ use Rattle.std.proofs.lemmas.Simd.{splat_is_map, zip2_of_maps, zip2_splat}
 use lib.Lanes.{Each1, digits_l, number_l, zip2}
 use Rattle.std.specs.Char.{IsScalar}
 use Rattle.std.specs.Char.Utf16.{surrogate_pair_char}
+use Rattle.utf16_units.proofs.FirstChar.{high_scalar}
 use Rattle.utf16_units.specs.Encoding.{Encodes, char_bytes, units_of}
 use Rattle.utf16_units.specs.Unit.{IsLeading, IsTrailing, unit_bytes}
 use Rattle.utf16_units.proofs.EncodingLemmas.{encode-cons, encode-nil}
 use Rattle.utf16_units.proofs.SplitLemmas.{pair_bytes}
 use Rattle.utf16_fixed.specs.Pairs.{halved, joined, pair_bits, pair_char, pair_of, pair_offset, pair_test}
-use Rattle.utf16_fixed.proofs.ValidLemmas.{high_scalar}
 
 -- ---- lanes
 
@@ -24,7 +24,6 @@ joined-read zero (u ∷ units) long fit = absurd (omega (arith, long))
 joined-read (suc n) [] long fit = absurd (omega (arith, long))
 joined-read (suc n) (l ∷ []) long fit = absurd (omega (arith, long))
 joined-read (suc n) (l ∷ t ∷ units) long fit =
-    let rest = number_l 256 (flat_map (unit_bytes false) units) in
     let low = fit.0.fits in
     let high = fit.1.0.fits in
     ap₂ (λ x xs. x ∷ xs) (omega (arith, low, high))

@@ -1,10 +1,11 @@
 -- Units without a surrogate, written block by block.
-use Rattle.std.proofs.Common.{◌≡◌, ℕ, ◌+◌, ◌*◌, ◌/◌, ◌%◌, ◌<◌, ◌≤◌, ◌≢◌, ⊎_elim, Bool, ◌&&◌, nat_lt, le-ltb, List, ◌++◌, length, take, drop, slice_index, Fits, w8, refl, sym, ap, ap₂, ◌∙◌, subst, arith, length-drop, length-take-le, take-take}
+use Rattle.std.proofs.Common.{◌≡◌, ℕ, ◌+◌, ◌*◌, ◌/◌, ◌%◌, ◌≤◌, ◌≢◌, Bool, List, ◌++◌, length, take, drop, slice_index, Fits, w8, refl, sym, ap, ap₂, ◌∙◌, subst, arith, length-drop, length-take-le, take-take}
 use Rattle.std.proofs.Math.Seq.{take-append-add}
-use Rattle.std.proofs.lemmas.Bool.{cases_lt, le-leb, lt-leb}
+use Rattle.std.proofs.lemmas.Bool.{false_from_ne_true}
 use Rattle.std.proofs.lemmas.List.Elements.{All-append, All-nil, All-take}
 use Rattle.utf16_units.specs.Encoding.{Encodes, units_of}
 use Rattle.utf16_units.specs.Lanes.{HasNoSurrogate, IsNoSurrogate}
+use Rattle.utf16_units.proofs.PairLemmas.{is_of}
 use Rattle.utf16_units.proofs.UnitsUpTo.{units_of-front, units_of-next}
 use Rattle.utf16_fixed.specs.Progress.{IsWidened}
 use Rattle.utf16_fixed.specs.Utf32.{TranscodesToUtf32}
@@ -18,15 +19,8 @@ take-after n m xs ys within =
 
 -- a unit that is not from 0xD800 to 0xDFFF
 pub IsNoSurrogate-of : (unit : ℕ) → unit / 0x800 ≢ 0x1B → IsNoSurrogate unit
-IsNoSurrogate-of unit none = ⊎_elim
-    (λ (low : unit < 0xD800). (ap (λ b. b && nat_lt unit 0xDC00) (lt-leb 0xD800 unit low), ap (λ b. b && nat_lt unit 0xE000) (lt-leb 0xDC00 unit (omega (arith, low)))))
-    (λ (from : 0xD800 ≤ unit).
-    let past : 0xE000 ≤ unit = past from in
-    (ap₂ (λ a b. a && b) (le-leb 0xD800 unit from) (le-ltb unit 0xDC00 (omega (arith, past))), ap₂ (λ a b. a && b) (le-leb 0xDC00 unit (omega (arith, past))) (le-ltb unit 0xE000 past)))
-    (cases_lt unit 0xD800)
-  where
-    past : 0xD800 ≤ unit → 0xE000 ≤ unit
-    past from = ⊎_elim (λ (low : unit < 0xE000). absurd (none (omega (arith, from, low)))) (λ (le : 0xE000 ≤ unit). le) (cases_lt unit 0xE000)
+IsNoSurrogate-of unit none =
+    (false_from_ne_true _ (λ yes. none (omega (arith, is_of 54 unit yes))), false_from_ne_true _ (λ yes. none (omega (arith, is_of 55 unit yes))))
 
 pub IsWidened-none : (big : Bool) (raw old : List ℕ) → IsWidened big raw old 0
 unfolding units_of

@@ -1,5 +1,5 @@
 -- The least repertoire of a text, by its code units.
-use Rattle.std.proofs.Common.{◌≡◌, ◌↔◌, ◌⊎◌, ℕ, ◌+◌, ◌-◌, ◌*◌, ◌/◌, ◌%◌, ◌<◌, ◌≤◌, Bool, List, [], ◌∷◌, ◌++◌, length, All, sym, subst, inl, inr, ⊎_elim, arith, count_by, flat_map}
+use Rattle.std.proofs.Common.{◌≡◌, ◌↔◌, ◌⊎◌, ℕ, ◌+◌, ◌-◌, ◌*◌, ◌/◌, ◌%◌, ◌<◌, ◌≤◌, Bool, List, [], ◌∷◌, ◌++◌, length, All, refl, sym, subst, inl, inr, ⊎_elim, arith, count_by, flat_map}
 use Rattle.std.proofs.lemmas.Bool.{cases_lt}
 use Rattle.std.proofs.lemmas.List.Elements.{All-cons, All-head, All-nil, All-tail, All-weaker}
 use Rattle.std.proofs.Math.Utf8.{scalar_cases}
@@ -7,12 +7,13 @@ use Rattle.std.proofs.str.Utf16.{one_unit, two_units}
 use Rattle.std.specs.Char.{IsScalar}
 use Rattle.std.specs.Char.Escape.{encode_utf16}
 use Rattle.std.specs.Char.Utf16.{is_low_surrogate}
-use Rattle.utf16_units.specs.Encoding.{IsUtf16, char_size, size, text_of, units_of}
-use Rattle.utf16_units.proofs.CharLemmas.{char_size_cases, char_size_four, char_size_two}
+use Rattle.utf16_units.specs.Encoding.{IsUtf16, size, text_of, units_of}
+use Rattle.utf16_units.proofs.CharLemmas.{char_size_four, char_size_two}
 use Rattle.utf16_units.proofs.CountLemmas.{counted_bytes}
 use Rattle.utf16_units.proofs.EncodingLemmas.{length-text, scalars-text_of, size-cons, size-nil}
 use Rattle.utf16_units.proofs.UnitsUpTo.{units_of-text}
 use Rattle.utf16_fixed.specs.Repertoire.{HasAll, IsLeast, limit}
+use Rattle.utf16_fixed.proofs.TextLemmas.{size-least}
 use Rattle.utf16_fixed.specs.declared.repertoire.Repertoire.{Repertoire}
 use Rattle.utf16_fixed.specs.declared.repertoire.Repertoire.TheVariants.{Ascii, Latin1, Bmp, Unicode}
 
@@ -46,13 +47,6 @@ below_bytes big bytes limit t low = subst (λ units. AllBelow limit units ↔ Al
 
 -- ---- a character of the Basic Multilingual Plane is one unit
 
-two_each : (text : List ℕ) → 2 * length text ≤ size text
-two_each [] = omega (arith, size-nil)
-two_each (c ∷ text) = ⊎_elim
-    (λ (two : char_size c ≡ 2). omega (arith, two, size-cons c text, two_each text))
-    (λ (four : char_size c ≡ 4). omega (arith, four, size-cons c text, two_each text))
-    (char_size_cases c)
-
 one_unit_each : (text : List ℕ) → (size text ≡ 2 * length text) ↔ AllBelow 0x1_0000 text
 one_unit_each [] = (λ e. All-nil (λ c. c < 0x1_0000), λ all. size-nil)
 one_unit_each (c ∷ text) =
@@ -60,7 +54,7 @@ one_unit_each (c ∷ text) =
     let rest = one_unit_each text in (
       λ e. ⊎_elim
           (λ (one : c < 0x1_0000). All-cons (λ d. d < 0x1_0000) c text one (rest.0 (omega (arith, e, whole, char_size_two c one))))
-          (λ (two : 0x1_0000 ≤ c). absurd (omega (arith, e, whole, char_size_four c two, two_each text)))
+          (λ (two : 0x1_0000 ≤ c). absurd (omega (arith, e, whole, char_size_four c two, size-least text)))
           (cases_lt c 0x1_0000),
       λ all.
           omega (arith, whole, char_size_two c (All-head (λ d. d < 0x1_0000) c text all), rest.1 (All-tail (λ d. d < 0x1_0000) c text all)),
@@ -76,58 +70,37 @@ no_trailing big bytes t =
 
 -- ---- the least repertoire
 
-below_unicode : (c : ℕ) → IsScalar c → c < 0x11_0000
-below_unicode c scalar = ⊎_elim
-    (λ (low : c < 0xD800). omega arith)
-    (λ (high : (0xE000 ≤ c) × (c < 0x11_0000)). high.1)
-    (scalar_cases c scalar)
-
 pub all_unicode : (big : Bool) (bytes : List ℕ) → IsUtf16 big bytes → HasAll Unicode (text_of big bytes)
-all_unicode big bytes t = All-weaker IsScalar (λ c. c < 0x11_0000) below_unicode (text_of big bytes) (scalars-text_of big bytes t)
+all_unicode big bytes t = All-weaker IsScalar (λ c. c < 0x11_0000) (λ c scalar. omega (arith, scalar_cases c scalar)) (text_of big bytes) (scalars-text_of big bytes t)
 
--- those up to one repertoire do not have all characters, and any other is as large as `found`
+-- a repertoire has one of four limits
+limits : (other : Repertoire) → (limit other ≡ 0x80) ⊎ ((limit other ≡ 0x100) ⊎ ((limit other ≡ 0x1_0000) ⊎ (limit other ≡ 0x11_0000)))
+limits Ascii = inl refl
+limits Latin1 = inr (inl refl)
+limits Bmp = inr (inr (inl refl))
+limits Unicode = inr (inr (inr refl))
+
+-- those up to one repertoire do not have all characters, and the others are as large as `found`
 least : (text : List ℕ) (smaller found : Repertoire) → HasAll found text → ¬ HasAll smaller text
-    → ((other : Repertoire) → (limit found ≤ limit other) ⊎ (limit other ≤ limit smaller)) → IsLeast text found
-least text smaller found has not cases = record {
+    → ((other : Repertoire) → limit other < limit found → limit other ≤ limit smaller) → IsLeast text found
+least text smaller found has not below = record {
   has_all = has;
   least = λ other all. ⊎_elim
+      (λ (less : limit other < limit found).
+      let few = below other less in
+      absurd (not (All-weaker (λ c. c < limit other) (λ c. c < limit smaller) (λ c (here : c < limit other). omega (arith, here, few)) text all)))
       (λ (large : limit found ≤ limit other). large)
-      (λ (small : limit other ≤ limit smaller). absurd (not (All-weaker (λ c. c < limit other) (λ c. c < limit smaller) (λ c (below : c < limit other). omega (arith, below, small)) text all)))
-      (cases other);
+      (cases_lt (limit other) (limit found));
 }
 
 pub least_unicode : (text : List ℕ) → HasAll Unicode text → ¬ HasAll Bmp text → IsLeast text Unicode
-least_unicode text has not = least text Bmp Unicode has not cases
-  where
-    cases : (other : Repertoire) → (limit Unicode ≤ limit other) ⊎ (limit other ≤ limit Bmp)
-    cases Ascii = inr (omega arith)
-    cases Latin1 = inr (omega arith)
-    cases Bmp = inr (omega arith)
-    cases Unicode = inl (omega arith)
+least_unicode text has not = least text Bmp Unicode has not (λ other less. omega (arith, less, limits other))
 
 pub least_bmp : (text : List ℕ) → HasAll Bmp text → ¬ HasAll Latin1 text → IsLeast text Bmp
-least_bmp text has not = least text Latin1 Bmp has not cases
-  where
-    cases : (other : Repertoire) → (limit Bmp ≤ limit other) ⊎ (limit other ≤ limit Latin1)
-    cases Ascii = inr (omega arith)
-    cases Latin1 = inr (omega arith)
-    cases Bmp = inl (omega arith)
-    cases Unicode = inl (omega arith)
+least_bmp text has not = least text Latin1 Bmp has not (λ other less. omega (arith, less, limits other))
 
 pub least_latin1 : (text : List ℕ) → HasAll Latin1 text → ¬ HasAll Ascii text → IsLeast text Latin1
-least_latin1 text has not = least text Ascii Latin1 has not cases
-  where
-    cases : (other : Repertoire) → (limit Latin1 ≤ limit other) ⊎ (limit other ≤ limit Ascii)
-    cases Ascii = inr (omega arith)
-    cases Latin1 = inl (omega arith)
-    cases Bmp = inl (omega arith)
-    cases Unicode = inl (omega arith)
+least_latin1 text has not = least text Ascii Latin1 has not (λ other less. omega (arith, less, limits other))
 
 pub least_ascii : (text : List ℕ) → HasAll Ascii text → IsLeast text Ascii
-least_ascii text has = record { has_all = has; least = λ other all. cases other }
-  where
-    cases : (other : Repertoire) → limit Ascii ≤ limit other
-    cases Ascii = omega arith
-    cases Latin1 = omega arith
-    cases Bmp = omega arith
-    cases Unicode = omega arith
+least_ascii text has = record { has_all = has; least = λ other all. omega (arith, limits other) }

@@ -25,7 +25,6 @@ some_incomplete big (first ∷ rest) here = omega arith
 -- a character of Latin-1 has two
 two_bytes : (big : Bool) (rest : List ℕ) → BeginsWithA IsLatin1 big rest → 2 ≤ length rest
 two_bytes big rest begins =
-    let low = begins.kind in
     omega (arith, ap length begins.begins, length-append (char_bytes big begins.char) begins.more, length-char_bytes big begins.char, char_size_two begins.char (omega arith))
 
 -- the next unit, if the buffer is not full, is above 0xFF

@@ -1,14 +1,17 @@
 -- Well-formed UTF-32, and the first code unit that is not a scalar value.
-use Rattle.std.proofs.Common.{◌≡◌, ◌≢◌, ℕ, All, ◌<◌, ◌≤◌, ◌+◌, ◌-◌, ◌*◌, ◌/◌, ◌%◌, ◌^◌, Bool, true, false, cond, eqb, ap, ◌∙◌, List, [], ◌∷◌, Option, None, Some, length, length-drop, map, replicate, take, drop, slice_index, refl, sym, subst, arith, ⊎_elim, lt-ltb, le-ltb, take-add, true≢false}
+use Rattle.std.proofs.lemmas.Bool.Decides.{nat_tests}
+use Rattle.std.proofs.Common.{◌≡◌, ◌≢◌, ℕ, All, ◌<◌, ◌≤◌, ◌+◌, ◌-◌, ◌*◌, ◌/◌, ◌%◌, ◌^◌, Bool, true, false, cond, eqb, ap, ◌∙◌, List, [], ◌∷◌, Option, None, Some, length, length-drop, map, replicate, take, drop, slice_index, refl, sym, subst, arith, ⊎_elim, take-add, true≢false}
 use mir.Syntax.{Width}
 use mir.Val.{bits, hbits}
 use borrow.Author.Tests.{eq-eqb}
 use lib.Lanes.{mask_l, top, zip2}
-use Rattle.std.proofs.lemmas.Bool.{cases_Bool, cases_lt, le-leb}
+use Rattle.std.proofs.lemmas.Bool.{cases_Bool, ltb-false}
 use Rattle.std.proofs.lemmas.List.Elements.{All-append, All-cons, All-head, All-nil, All-tail, All-weaker}
 use Rattle.std.proofs.lemmas.Simd.{bitmask_splat, map-map, zip2_splat}
 use Rattle.std.proofs.lemmas.List.{get_or-drop, length-map, take_more}
+use Rattle.std.proofs.Math.Utf8.{low_scalar}
 use Rattle.std.specs.Char.{IsScalar}
+use Rattle.utf16_units.proofs.FirstChar.{high_scalar}
 use Rattle.utf16_units.proofs.IllFormedLemmas.{rest_from}
 use Rattle.utf16_transcode.proofs.StreamSteps.{rest_after}
 use Rattle.utf16_transcode.specs.Stops.{BeginsWith}
@@ -60,14 +63,8 @@ none_set p (u ∷ units) zero =
     (λ (clear : p u ≡ false). All-cons (λ unit. p unit ≡ false) u units clear (none_set p units (omega (arith, sum))))
     (cases_Bool (p u))
 
-at_most : (limit unit : ℕ) → above limit unit ≡ false → unit ≤ limit
-at_most limit unit none = ⊎_elim
-    (λ (more : limit < unit). absurd (true≢false (sym (lt-ltb limit unit more) ∙ none)))
-    (λ (le : unit ≤ limit). le)
-    (cases_lt limit unit)
-
 pub none_above : (limit : ℕ) (units : List ℕ) (bits : ℕ) → bits ≡ mask_l (map (above limit) units) → bits ≡ 0 → All (λ unit. unit ≤ limit) units
-none_above limit units bits are zero = All-weaker (λ unit. above limit unit ≡ false) (λ unit. unit ≤ limit) (at_most limit) units (none_set (above limit) units (sym are ∙ zero))
+none_above limit units bits are zero = All-weaker (λ unit. above limit unit ≡ false) (λ unit. unit ≤ limit) (λ unit. ltb-false limit unit) units (none_set (above limit) units (sym are ∙ zero))
 
 -- lanes shifted and compared
 pub no_surrogate-lanes : (w : Width) (n : ℕ) (units : List ℕ) → length units ≡ n → n ≤ 64
@@ -82,18 +79,8 @@ no_surrogate-lanes w n units long few zero =
     All-weaker (λ unit. eqb (unit / 0x800) 0x1B ≡ false) (λ unit. unit / 0x800 ≢ 0x1B)
     (λ unit none same. true≢false (sym (eq-eqb _ _ same) ∙ none)) units (none_set (λ unit. eqb (unit / 0x800) 0x1B) units set)
 
-pub high_scalar : (unit : ℕ) → 0xE000 ≤ unit → unit < 0x11_0000 → IsScalar unit
-high_scalar unit past below =
-    let from : 0xD800 ≤ unit = omega (arith, past) in
-    rw (le-ltb unit 0xD800 from, le-leb 0xE000 unit past, lt-ltb unit 0x11_0000 below) refl
-
 scalar_value : (unit : ℕ) → unit ≤ 0x10_FFFF → unit / 0x800 ≢ 0x1B → IsScalar unit
-scalar_value unit most none = ⊎_elim
-    (λ (low : unit < 0xD800). rw (lt-ltb unit 0xD800 low) refl)
-    (λ (from : 0xD800 ≤ unit).
-    let past : 0xE000 ≤ unit = ⊎_elim (λ (inside : unit < 0xE000). absurd (none (omega (arith, from, inside)))) (λ (le : 0xE000 ≤ unit). le) (cases_lt unit 0xE000) in
-    high_scalar unit past (omega (arith, most)))
-    (cases_lt unit 0xD800)
+scalar_value unit most none = grind (arith, nat_tests, low_scalar, high_scalar)
 
 pub scalar_values : (units : List ℕ) → All (λ unit. unit ≤ 0x10_FFFF) units → All (λ unit. unit / 0x800 ≢ 0x1B) units → IsUtf32 units
 scalar_values [] most none = All-nil IsScalar

@@ -12,7 +12,7 @@ ghost use Rattle.utf16_fixed.specs.Pairs.{char_lane, halved, kept_lane};
 ghost use Rattle.utf16_fixed.specs.Utf32.{TranscodesFromUtf32, above};
 
 use crate::lanes::are_scalars;
-use crate::pairs::{halved, offsets_of, pairs_of};
+use crate::pairs::{halved, pairs_of};
 use std::simd::prelude::*;
 use utf16_from_utf8::write_kept;
 use utf16_units::blocks::bytes16;
@@ -77,7 +77,7 @@ fn lanes_of(chars: u32x8) -> u32x8
     ensures len { length result ≡ 8 }
     ensures lanes { result ≡ map char_lane chars }
 {
-    let pairs = pairs_of(offsets_of(chars));
+    let pairs = pairs_of(chars);
     chars.simd_gt(u32x8::splat(0xFFFF)).select(pairs, chars)
 }
 

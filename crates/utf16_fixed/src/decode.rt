@@ -13,7 +13,7 @@ ghost use Rattle.utf16_fixed.specs.Stops32.{StopsToUtf32};
 ghost use Rattle.utf16_fixed.specs.Utf32.{TranscodesToUtf32, utf32_units};
 
 use crate::pairs::write_pairs;
-use crate::plain;
+use crate::plain::write_plain;
 use utf16_transcode::{Progress, Stop};
 use utf16_units::ends::first_char;
 use utf16_units::{Moved, Utf16Order, first_char_len};
@@ -67,7 +67,8 @@ pub fn to_utf32<E: Utf16Order>(raw: &[u8], to: &mut [u32]) -> Progress
 }
 
 // Writes blocks of surrogate pairs if a surrogate is next, or else the code units before the next
-// surrogate. A pair among other code units is written by itself, and takes less time so.
+// surrogate, as far as they fit. A pair among other code units is written by itself, and takes less
+// time so.
 #[inline(always)]
 fn write_run<E: Utf16Order>(raw: &[u8], to: &mut [u32], from: Moved) -> Moved
     requires { Writes (TranscodesToUtf32 E.BIG) raw.now to.old from.read from.written }
@@ -77,7 +78,11 @@ fn write_run<E: Utf16Order>(raw: &[u8], to: &mut [u32], from: Moved) -> Moved
     if raw.len() - from.read >= 2 && is_surrogate::<E>(&raw[from.read..]) {
         return write_pair_blocks::<E>(raw, to, from);
     }
-    write_plain::<E>(raw, to, from)
+    let len = write_plain::<E>(&raw[from.read..], &mut to[from.written..]);
+    Moved {
+        read: from.read + 2 * len,
+        written: from.written + len,
+    }
 }
 
 // Whether the first code unit is a surrogate, from 0xD800 to 0xDFFF. Only speed depends on the
@@ -112,20 +117,6 @@ fn write_pair_blocks<E: Utf16Order>(raw: &[u8], to: &mut [u32], from: Moved) -> 
         written += 8;
     }
     Moved { read, written }
-}
-
-// Writes the code units before the next surrogate, as far as they fit.
-#[inline(always)]
-fn write_plain<E: Utf16Order>(raw: &[u8], to: &mut [u32], from: Moved) -> Moved
-    requires { Writes (TranscodesToUtf32 E.BIG) raw.now to.old from.read from.written }
-    ensures wrote { Writes (TranscodesToUtf32 E.BIG) raw.now to.new result.read result.written }
-    ensures after { from.read ≤ result.read }
-{
-    let len = plain::write_plain::<E>(&raw[from.read..], &mut to[from.written..]);
-    Moved {
-        read: from.read + 2 * len,
-        written: from.written + len,
-    }
 }
 
 // Writes the first character at `at`, or returns why it does not.

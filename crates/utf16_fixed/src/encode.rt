@@ -11,7 +11,7 @@ ghost use Rattle.utf16_transcode.specs.declared.progress.Stop.TheVariants.{NoSpa
 ghost use Rattle.utf16_fixed.specs.Stops32.{IsIllFormedUtf32At, StopsFromUtf32};
 ghost use Rattle.utf16_fixed.specs.Utf32.{TranscodesFromUtf32, utf32_units};
 
-use crate::basic;
+use crate::basic::write_basic;
 use crate::chars::write_char_blocks;
 use utf16_transcode::{Progress, Stop};
 use utf16_units::{Moved, Utf16CharExt, Utf16Order};
@@ -65,33 +65,23 @@ pub fn from_utf32<E: Utf16Order>(utf32: &[u32], to: &mut [u8]) -> Progress
     }
 }
 
-// Writes the next characters of one UTF-16 code unit each, and then blocks of any, if one of two
-// code units follows.
+// Writes the next characters of one UTF-16 code unit each, as far as they fit, and then blocks of
+// any, if one of two code units follows.
 #[inline(always)]
 fn write_run<E: Utf16Order>(utf32: &[u32], to: &mut [u8], from: Moved) -> Moved
     requires { Writes (TranscodesFromUtf32 E.BIG) utf32.now to.old from.read from.written }
     ensures wrote { Writes (TranscodesFromUtf32 E.BIG) utf32.now to.new result.read result.written }
     ensures after { from.read ≤ result.read }
 {
-    let basic = write_basic::<E>(utf32, to, from);
+    let len = write_basic::<E>(&utf32[from.read..], &mut to[from.written..]);
+    let basic = Moved {
+        read: from.read + len,
+        written: from.written + 2 * len,
+    };
     if basic.read < utf32.len() && utf32[basic.read] > 0xFFFF {
         return write_char_blocks::<E>(utf32, to, basic);
     }
     basic
-}
-
-// Writes characters of one UTF-16 code unit each, up to another one, as far as they fit.
-#[inline(always)]
-fn write_basic<E: Utf16Order>(utf32: &[u32], to: &mut [u8], from: Moved) -> Moved
-    requires { Writes (TranscodesFromUtf32 E.BIG) utf32.now to.old from.read from.written }
-    ensures wrote { Writes (TranscodesFromUtf32 E.BIG) utf32.now to.new result.read result.written }
-    ensures after { from.read ≤ result.read }
-{
-    let len = basic::write_basic::<E>(&utf32[from.read..], &mut to[from.written..]);
-    Moved {
-        read: from.read + len,
-        written: from.written + 2 * len,
-    }
 }
 
 // Writes the first character at `at`, and returns where it ends, or why it is not written.

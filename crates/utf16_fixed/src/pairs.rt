@@ -62,19 +62,13 @@ fn tests_of(bits: u32x8) -> u32x8
     (bits & u32x8::splat(0xFFFF)) | (bits >> u32x8::splat(16))
 }
 
-// The offsets of characters from U+10000, the first that takes two UTF-16 code units.
+// The pairs of characters, by their offsets from U+10000, the first that takes two UTF-16 code
+// units.
 #[inline(always)]
-pub(crate) fn offsets_of(chars: u32x8) -> u32x8
-    ensures { result ≡ map pair_offset chars }
+pub(crate) fn pairs_of(chars: u32x8) -> u32x8
+    ensures { result ≡ map pair_of (map pair_offset chars) }
 {
-    chars - u32x8::splat(0x1_0000)
-}
-
-// The pairs of these offsets.
-#[inline(always)]
-pub(crate) fn pairs_of(offsets: u32x8) -> u32x8
-    ensures { result ≡ map pair_of offsets }
-{
+    let offsets = chars - u32x8::splat(0x1_0000);
     ((offsets & u32x8::splat(0x3FF)) << u32x8::splat(16))
         + (offsets >> u32x8::splat(10))
         + u32x8::splat(0xDC00_D800)

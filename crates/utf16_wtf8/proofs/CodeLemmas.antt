@@ -1,12 +1,16 @@
 -- Generalized UTF-8 is a prefix code: bytes begin with one code point at most.
-use Rattle.std.proofs.Common.{◌≡◌, ℕ, ◌+◌, ◌-◌, ◌*◌, ◌/◌, ◌%◌, ◌<◌, ◌≤◌, cond, List, [], ◌∷◌, ◌++◌, All, flat_map, length, slice_index, refl, sym, ap, ◌∙◌, ⊎_elim, arith, append_assoc, append-nil, length-append, le-ltb, lt-ltb}
+use Rattle.std.proofs.lemmas.Bool.Decides.{nat_tests}
+use Rattle.std.proofs.Common.{◌≡◌, ℕ, ◌+◌, ◌-◌, ◌*◌, ◌<◌, ◌≤◌, cond, List, [], ◌∷◌, ◌++◌, All, flat_map, length, slice_index, refl, sym, ap, ◌∙◌, arith, append_assoc, append-nil, length-append, le-ltb, lt-ltb}
 use Rattle.std.specs.Prelude.{nat_lt}
-use Rattle.std.proofs.lemmas.Bool.{cases_lt}
 use Rattle.std.proofs.lemmas.List.{append_cancel_left}
 use Rattle.std.proofs.lemmas.List.Elements.{All-head, All-tail}
 use Rattle.std.proofs.lemmas.Str.{len_utf8_bounds, length-encode}
 use Rattle.utf16_units.proofs.Utf8Lemmas.{four_bytes, one_byte, three_bytes, two_bytes}
 use Rattle.utf16_wtf8.specs.Wtf8.{IsCodePoint, generalized_utf8}
+
+-- by how many bytes a code point has
+pub by_size : {P : Type 0} → (c : ℕ) → (c < 0x80 → P) → (0x80 ≤ c → c < 0x800 → P) → (0x800 ≤ c → c < 0x1_0000 → P) → (0x1_0000 ≤ c → P) → P
+by_size c one two three four = grind (arith, nat_tests)
 
 -- the code point at the start of bytes
 abbrev first_point : List ℕ → ℕ
@@ -25,41 +29,27 @@ point_of_two x y more from below = rw (le-ltb x 0x80 from, lt-ltb x 0xE0 below) 
 
 point_of_three : (x y z : ℕ) (more : List ℕ) → 0xE0 ≤ x → x < 0xF0
     → first_point (x ∷ y ∷ z ∷ more) ≡ (x - 224) * 4096 + (y - 128) * 64 + (z - 128)
-point_of_three x y z more from below =
-    let high : 0x80 ≤ x = omega arith in
-    rw (le-ltb x 0x80 high, le-ltb x 0xE0 from, lt-ltb x 0xF0 below) refl
+point_of_three x y z more from below = grind (arith, nat_tests, le-ltb, lt-ltb)
 
 point_of_four : (x y z w : ℕ) (more : List ℕ) → 0xF0 ≤ x
     → first_point (x ∷ y ∷ z ∷ w ∷ more) ≡ (x - 240) * 262144 + (y - 128) * 4096 + (z - 128) * 64 + (w - 128)
-point_of_four x y z w more from =
-    let high : 0x80 ≤ x = omega arith in
-    let higher : 0xE0 ≤ x = omega arith in
-    rw (le-ltb x 0x80 high, le-ltb x 0xE0 higher, le-ltb x 0xF0 from) refl
+point_of_four x y z w more from = grind (arith, nat_tests, le-ltb)
 
 module _ (c : ℕ) (more : List ℕ) (below : IsCodePoint c) where
   of_one : c < 0x80 → first_point (generalized_utf8 c ++ more) ≡ c
   of_one short = ap (λ b. first_point (b ++ more)) (one_byte c short) ∙ point_of_one c more short
 
   of_two : 0x80 ≤ c → c < 0x800 → first_point (generalized_utf8 c ++ more) ≡ c
-  of_two from short =
-      ap (λ b. first_point (b ++ more)) (two_bytes c from short)
-      ∙ point_of_two (192 + c / 64) (128 + c % 64) more (omega arith) (omega arith)
-      ∙ omega arith
+  of_two from short = grind (arith, nat_tests, two_bytes, point_of_two)
 
   of_three : 0x800 ≤ c → c < 0x1_0000 → first_point (generalized_utf8 c ++ more) ≡ c
-  of_three from short =
-      ap (λ b. first_point (b ++ more)) (three_bytes c from short)
-      ∙ point_of_three (224 + c / 4096) (128 + c / 64 % 64) (128 + c % 64) more (omega arith) (omega arith)
-      ∙ omega arith
+  of_three from short = grind (arith, nat_tests, three_bytes, point_of_three)
 
   of_four : 0x1_0000 ≤ c → first_point (generalized_utf8 c ++ more) ≡ c
-  of_four from =
-      ap (λ b. first_point (b ++ more)) (four_bytes c from)
-      ∙ point_of_four (240 + c / 262144) (128 + c / 4096 % 64) (128 + c / 64 % 64) (128 + c % 64) more (omega arith)
-      ∙ omega arith
+  of_four from = grind (arith, nat_tests, four_bytes, point_of_four)
 
   first_point-is : first_point (generalized_utf8 c ++ more) ≡ c
-  first_point-is = ⊎_elim of_one (λ (one : 0x80 ≤ c). ⊎_elim (of_two one) (λ (two : 0x800 ≤ c). ⊎_elim (of_three two) of_four (cases_lt c 0x1_0000)) (cases_lt c 0x800)) (cases_lt c 0x80)
+  first_point-is = by_size c of_one of_two of_three of_four
 
 -- a code point has at least one byte
 pub some_bytes : (c : ℕ) → 0 < length (generalized_utf8 c)

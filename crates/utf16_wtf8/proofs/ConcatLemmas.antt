@@ -40,7 +40,6 @@ module _ (front back : List ℕ) (first : IsWtf8 front) (all : IsWtf8 (front ++ 
     seam : (rest : List ℕ) → All IsCodePoint rest → HasNoPair (first.points ++ rest) → spelled rest ≡ back → ⊥
     seam [] each none e = omega (arith, ap length (e ∙ trail.begins), length-append (generalized_utf8 trail.trail) trail.more, some_bytes trail.trail)
     seam (point ∷ rest) each none e =
-        let below = trail.trailing.1 in
         let same = point-unique point trail.trail (spelled rest) trail.more (All-head IsCodePoint point rest each) (omega arith) (e ∙ trail.begins) in
         no_pair-seam first.points point rest none (ends first.points first.spells) (subst IsTrailing (sym same.0) trail.trailing)
 

@@ -1,8 +1,7 @@
 -- Code points after others, and what a surrogate's bytes begin with.
-use Rattle.std.proofs.Common.{◌≡◌, ◌⊎◌, inl, inr, ℕ, ◌+◌, ◌-◌, ◌/◌, ◌%◌, ◌<◌, ◌≤◌, true, false, List, [], ◌∷◌, ◌++◌, All, length, slice_index, take, drop, refl, sym, ap, ap₂, ◌∙◌, subst, ⊎_elim, arith, append_assoc, length-drop, length-take, take-add, take-append-drop, true≢false, eq-eqb, le-leb}
-use Rattle.std.proofs.lemmas.Bool.{cases_lt}
+use Rattle.std.proofs.Common.{◌≡◌, ◌⊎◌, ℕ, ◌+◌, ◌-◌, ◌/◌, ◌%◌, ◌<◌, ◌≤◌, true, false, List, [], ◌∷◌, ◌++◌, All, length, slice_index, take, drop, refl, sym, ap, ap₂, ◌∙◌, subst, arith, append_assoc, append-nil, length-drop, length-take, take-add, take-append-drop, take_at, true≢false, eq-eqb, le-leb}
 use Rattle.std.proofs.lemmas.List.Concat.{flat_map-append}
-use Rattle.std.proofs.lemmas.List.Elements.{All-append, All-head, All-tail}
+use Rattle.std.proofs.lemmas.List.Elements.{All-append, All-cons, All-head, All-nil, All-tail}
 use Rattle.std.proofs.lemmas.Bool.Decides.{nat_tests}
 use Rattle.std.specs.Char.{IsScalar}
 use Rattle.std.specs.Char.Utf16.{is_high_surrogate}
@@ -10,10 +9,9 @@ use Rattle.utf16_units.specs.Unit.{IsTrailing}
 use Rattle.utf16_units.proofs.FirstChar.{high_scalar}
 use Rattle.utf16_units.proofs.PairLemmas.{is_of}
 use Rattle.utf16_units.proofs.Utf8Lemmas.{four_bytes, one_byte, three_bytes, two_bytes}
-use lib.Utf8.{low_scalar}
 use Rattle.utf16_wtf8.specs.FromWtf8.{IsWtf8ValidUpTo, NoPointContinues, surrogate_begins}
 use Rattle.utf16_wtf8.specs.Wtf8.{HasNoPair, IsCodePoint, IsWtf8, SpellsWtf8, ends_leading, generalized_utf8}
-use Rattle.utf16_wtf8.proofs.CodeLemmas.{points-follow, spelled}
+use Rattle.utf16_wtf8.proofs.CodeLemmas.{by_size, points-follow, spelled}
 use Rattle.utf16_wtf8.proofs.PointLemmas.{high, not_high}
 use Rattle.utf16_wtf8.proofs.ScalarLemmas.{scalar-not_leading}
 
@@ -55,6 +53,21 @@ SpellsWtf8-append points more front back first second apart = record {
   no_pair = no_pair-append points more first.no_pair second.no_pair apart;
   spelled = flat_map-append generalized_utf8 points more ∙ ap₂ (λ f b. f ++ b) first.spelled second.spelled;
 }
+
+-- WTF-8 and then a code point that may follow it
+pub SpellsWtf8-next : (bytes points : List ℕ) (read c : ℕ) (more : List ℕ) → SpellsWtf8 points (take read bytes) → IsCodePoint c
+    → drop read bytes ≡ generalized_utf8 c ++ more → (ends_leading points ≡ true → ¬ (IsTrailing c))
+    → SpellsWtf8 (points ++ c ∷ []) (take (read + length (generalized_utf8 c)) bytes)
+SpellsWtf8-next bytes points read c more spells below begins apart =
+    let k = length (generalized_utf8 c) in
+    let one : SpellsWtf8 (c ∷ []) (generalized_utf8 c) = record {
+      each_point = All-cons IsCodePoint c [] below (All-nil IsCodePoint);
+      no_pair = tt;
+      spelled = append-nil (generalized_utf8 c);
+    } in
+    subst (SpellsWtf8 (points ++ c ∷ []))
+    (ap (λ b. take read bytes ++ b) (sym (ap (take k) begins ∙ take_at (generalized_utf8 c) more k refl)) ∙ sym (take-add read k bytes))
+    (SpellsWtf8-append points (c ∷ []) (take read bytes) (generalized_utf8 c) spells one apart)
 
 -- ---- where WTF-8 ends
 
@@ -100,13 +113,7 @@ module _ (bytes points : List ℕ) (read : ℕ) (within : read ≤ length bytes)
 
 -- a code point is a character or a surrogate
 pub scalar_or_surrogate : (c : ℕ) → IsCodePoint c → IsScalar c ⊎ ((0xD800 ≤ c) × (c ≤ 0xDFFF))
-scalar_or_surrogate c below = ⊎_elim
-    (λ (short : c < 0xD800). inl (low_scalar c short))
-    (λ (from : 0xD800 ≤ c). ⊎_elim
-    (λ (surrogate : c < 0xE000). inr (from, omega arith))
-    (λ (above : 0xE000 ≤ c). inl (high_scalar c above below))
-    (cases_lt c 0xE000))
-    (cases_lt c 0xD800)
+scalar_or_surrogate c below = grind (arith, nat_tests, high_scalar)
 
 -- its two tests
 pub begins-lead : (bytes : List ℕ) → surrogate_begins bytes ≡ true → slice_index bytes 0 ≡ 0xED
@@ -140,23 +147,14 @@ module _ (c : ℕ) (more : List ℕ) (below : IsCodePoint c) (begins : surrogate
   first_is x others e = ap (λ b. slice_index b 0) (sym e) ∙ lead
 
   pub surrogate_only : (0xD800 ≤ c) × (c ≤ 0xDFFF)
-  surrogate_only = ⊎_elim
-      (λ (one : c < 0x80).
-      let is = first_is c more (ap (λ b. b ++ more) (one_byte c one)) in
-      absurd (omega arith))
-      (λ (from : 0x80 ≤ c). ⊎_elim
-      (λ (two : c < 0x800).
-      let is = first_is (192 + c / 64) ((128 + c % 64) ∷ more) (ap (λ b. b ++ more) (two_bytes c from two)) in
-      absurd (omega arith))
-      (λ (high : 0x800 ≤ c). ⊎_elim
-      (λ (three : c < 0x1_0000).
+  surrogate_only = by_size c
+      (λ one. absurd (omega (arith, first_is c more (ap (λ b. b ++ more) (one_byte c one)))))
+      (λ from two. absurd (omega (arith, first_is (192 + c / 64) ((128 + c % 64) ∷ more) (ap (λ b. b ++ more) (two_bytes c from two)))))
+      (λ high three.
       let bytes = bytes_of_three c more high three in
       let is = first_is (224 + c / 4096) ((128 + c / 64 % 64) ∷ (128 + c % 64) ∷ more) bytes in
       let second : 0xA0 ≤ 128 + c / 64 % 64 = subst (λ y. 0xA0 ≤ y) (ap (λ b. slice_index b 1) bytes) next in
       (omega arith, omega arith))
-      (λ (four : 0x1_0000 ≤ c).
+      (λ four.
       let is = first_is (240 + c / 262144) ((128 + c / 4096 % 64) ∷ (128 + c / 64 % 64) ∷ (128 + c % 64) ∷ more) (ap (λ b. b ++ more) (four_bytes c four)) in
       absurd (omega arith))
-      (cases_lt c 0x1_0000))
-      (cases_lt c 0x800))
-      (cases_lt c 0x80)

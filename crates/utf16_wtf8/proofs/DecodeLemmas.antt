@@ -1,7 +1,6 @@
 -- All code units in WTF-8: what is certain, and then a tail.
-use Rattle.std.proofs.Common.{◌≡◌, ◌≢◌, ℕ, ◌+◌, ◌-◌, ◌*◌, ◌/◌, ◌<◌, ◌≤◌, Bool, List, [], ◌∷◌, ◌++◌, ⊎_elim, length, take, drop, refl, sym, ap, ◌∙◌, arith, append-nil, length-drop}
-use Rattle.std.proofs.lemmas.Bool.{cases_lt}
-use Rattle.std.proofs.lemmas.List.{drop_all, take_rest}
+use Rattle.std.proofs.Common.{◌≡◌, ◌≢◌, ℕ, ◌+◌, ◌-◌, ◌*◌, ◌/◌, ◌≤◌, Bool, List, [], ◌++◌, length, take, drop, refl, sym, ap, ◌∙◌, arith, append-nil, length-drop}
+use Rattle.std.proofs.lemmas.List.{drop_all, nil_from_length, take_rest}
 use Rattle.std.specs.List.{flat_map}
 use Rattle.utf16_units.specs.Split.{split_tail}
 use Rattle.utf16_units.proofs.IllFormedLemmas.{rest_from}
@@ -14,10 +13,6 @@ use Rattle.utf16_wtf8.specs.ToWtf8.{DecodesToWtf8, StopsBeforeTail, StopsToWtf8,
 use Rattle.utf16_wtf8.specs.Wtf8.{code_points, generalized_utf8}
 use Rattle.utf16_wtf8.proofs.PointLemmas.{points-nil, units-none}
 use Rattle.utf16_wtf8.proofs.ToWtf8Lemmas.{wtf8_chunks}
-
-nothing : (bytes : List ℕ) → length bytes ≡ 0 → bytes ≡ []
-nothing [] e = refl
-nothing (b ∷ bytes) e = absurd (omega arith)
 
 module _ (big : Bool) (raw to : List ℕ) (read written : ℕ) (decodes : DecodesToWtf8 big raw to read written) where
   -- what is certain was written
@@ -34,10 +29,7 @@ module _ (big : Bool) (raw to : List ℕ) (read written : ℕ) (decodes : Decode
   size = ap length (take_rest raw read) ∙ length-drop read raw
 
   left : length (drop last raw) ≤ 1
-  left =
-      let few = size in
-      let within = decodes.within in
-      omega (arith, length-drop last raw)
+  left = grind (arith, size, length-drop)
 
   -- and the unit of a tail after it
   pub WritesWhole-tail : (next : List ℕ) (end : ℕ) → split_tail big (drop read raw) ≡ drop read raw → end ≤ length next
@@ -59,20 +51,10 @@ module _ (big : Bool) (raw to : List ℕ) (read written : ℕ) (decodes : Decode
     few = omega (arith, ap length same, length-split_tail big (drop read raw), ap length (take_rest raw read))
 
     pub all_left : length rest ≡ 2 → drop last raw ≡ []
-    all_left two =
-        let long = size in
-        let within = decodes.within in
-        drop_all last raw (omega arith)
+    all_left two = grind (arith, size, drop_all)
 
     pub odd_left : ¬ (length rest ≡ 2) → length (drop last raw) ≡ 1
-    odd_left other = ⊎_elim
-        (λ (zero : length rest < 1). absurd (some (nothing (drop read raw) (omega (arith, ap length (take_rest raw read))))))
-        (λ (one : 1 ≤ length rest).
-        let most = few in
-        let long = size in
-        let within = decodes.within in
-        omega (arith, length-drop last raw))
-        (cases_lt (length rest) 1)
+    odd_left other = grind (arith, nil_from_length, take_rest, few, size, length-drop)
 
 -- why the call stopped, if not before a tail
 pub stops_certain : (big : Bool) (rest : List ℕ) (left : ℕ) (stop : Stop) → ¬ (stop ≡ Incomplete) → StopsBeforeTail big rest left stop → StopsToWtf8 big rest left stop

@@ -25,7 +25,7 @@ use Rattle.utf16_wtf8.specs.Wtf8.{IsCodePoint, IsWtf8, generalized_utf8}
 use Rattle.utf16_wtf8.proofs.CodeLemmas.{Follow, points-follow, spelled, spelled-unique}
 use Rattle.utf16_wtf8.proofs.FromWtf8Lemmas.{Reads-none, Reads-surrogate, Reads-text, ill_formed_text, short_of, stops_after}
 
-length-units : (big : Bool) (points : List ℕ) → length (flat_map (char_bytes big) points) ≡ size points
+pub length-units : (big : Bool) (points : List ℕ) → length (flat_map (char_bytes big) points) ≡ size points
 length-units big points = ap length (sym (flat_encode big points)) ∙ length-encode big points
 
 -- ---- the loop
@@ -37,7 +37,7 @@ Counts wtf8 read len leading = (to : List ℕ) × ReadsWtf8 false wtf8 to read l
 pub Counts-none : (wtf8 : List ℕ) → Counts wtf8 0 0 false
 Counts-none wtf8 = ([], Reads-none false wtf8 [])
 
-size-le : (points : List ℕ) → size points ≤ 2 * length (spelled points)
+pub size-le : (points : List ℕ) → size points ≤ 2 * length (spelled points)
 size-le [] = omega (arith, size-nil)
 size-le (c ∷ points) = omega (arith, size-cons c points, char_size-le c, size-le points, length-append (generalized_utf8 c) (spelled points))
 
@@ -135,11 +135,9 @@ module _ (wtf8 text : List ℕ) (read len : ℕ) (leading : Bool) (counts : Coun
       inr (ill_formed_text false wtf8 now.0 read (length text) all 0 leads now.1 (ap surrogate_begins (sym (take_rest wtf8 (read + length text))) ∙ isnt) (utf8_error_len (drop (length text) rest))
       (subst (λ n. IsValidUpTo rest n) (sym text_len) (IsValidUpTo-computed rest short), refl)).0)
       (λ (whole : length rest ≤ utf8_valid_len rest).
-      let few = utf8_valid_len_le rest in
       let same = text_len in
       let rest_len = ap length (take_rest wtf8 read) in
       let left = length-drop read wtf8 in
-      let within = counts.1.within in
       inl (omega arith))
       (cases_lt (utf8_valid_len rest) (length rest))
 
@@ -196,10 +194,7 @@ utf16_len_most wtf8 len has =
 -- ---- what a call writes
 
 within_longest : (wtf8 : List ℕ) (read n : ℕ) → (read ≡ length wtf8) ⊎ IsWtf8ValidUpTo wtf8 read → n ≤ length wtf8 → IsWtf8 (take n wtf8) → n ≤ read
-within_longest wtf8 read n longest within is = ⊎_elim
-    (λ (all : read ≡ length wtf8). omega arith)
-    (λ (valid : IsWtf8ValidUpTo wtf8 read). ⊎_elim (λ (past : read < n). absurd (valid.longest n past is)) (λ (most : n ≤ read). most) (cases_lt read n))
-    longest
+within_longest wtf8 read n longest within is = grind arith
 
 module _ (wtf8 : List ℕ) (len : ℕ) (has : HasUtf16Len wtf8 len) (big : Bool) (to : List ℕ) (read written : ℕ) (wrote : Writes (TranscodesFromWtf8 big) wtf8 to read written) where
   abbrev points : List ℕ
@@ -247,27 +242,10 @@ module _ (wtf8 : List ℕ) (len : ℕ) (has : HasUtf16Len wtf8 len) (big : Bool)
         (has.spells.spelled ∙ ap (λ k. take k wtf8) (omega arith) ∙ take-add end (has.read - end) wtf8 ∙ ap (λ b. b ++ take (has.read - end) (drop end wtf8)) (sym spelled_more))
 
     too_short : length to < len
-    too_short =
-        let all = has.is ∙ ap size follow.is in
-        let now = written_is in
-        omega (
-          arith,
-          size-append more follow.rest,
-          size-append points (next.point ∷ []),
-          size-cons next.point [],
-          length-char_bytes big next.point,
-          next.too_long,
-          wrote.fits,
-        )
-
-  not_fitting : (stop : Stop) → stop ≡ NoSpace → StopsFromWtf8 big wtf8 read (length to - written) stop → length to < len
-  not_fitting Done full here = absurd (cc)
-  not_fitting (IllFormed n) full here = absurd (cc)
-  not_fitting Incomplete full here = absurd (cc)
-  not_fitting NoSpace full here = too_short here
+    too_short = grind (arith, follow, written_is, size-append, size-cons, length-char_bytes)
 
 pub written_if_it_fits : (wtf8 : List ℕ) (len : ℕ) → HasUtf16Len wtf8 len → IsWrittenIfItFits wtf8 len
 written_if_it_fits wtf8 len has big to read written stop wrote here = (
   λ other. whole wtf8 len has big to read written wrote (ended big wtf8 read (length to - written) stop other here),
-  λ full. not_fitting wtf8 len has big to read written wrote stop full here,
+  λ full. too_short wtf8 len has big to read written wrote (subst (StopsFromWtf8 big wtf8 read (length to - written)) full here),
 )

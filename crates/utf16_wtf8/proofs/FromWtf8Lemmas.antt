@@ -1,11 +1,12 @@
 -- From WTF-8 to UTF-16: what was read and written so far, and why a call stops.
-use Rattle.std.proofs.Common.{◌≡◌, ℕ, ◌+◌, ◌-◌, ◌<◌, ◌≤◌, Bool, true, false, cond, List, [], ◌∷◌, ◌++◌, All, Option, None, Some, flat_map, length, slice_index, take, drop, refl, sym, ap, ap₂, ◌∙◌, subst, ⊎_elim, arith, append-nil, length-drop, length-take-le, take-add, take-append-drop, take_at, true≢false}
+use Rattle.std.proofs.lemmas.Bool.Decides.{nat_tests}
+use Rattle.std.proofs.Common.{◌≡◌, ℕ, ◌+◌, ◌-◌, ◌<◌, ◌≤◌, Bool, true, false, cond, List, [], ◌∷◌, ◌++◌, All, Option, None, Some, flat_map, length, slice_index, take, drop, refl, sym, ap, ap₂, ◌∙◌, subst, ⊎_elim, arith, append-nil, length-drop, length-take-le, take-add, take-append-drop, true≢false}
 use borrow.Rule.Slice.PartMut.{put_mid}
 use Rattle.std.specs.Prelude.{nat_lt}
 use Rattle.std.proofs.lemmas.Bool.{cases_lt}
 use Rattle.std.proofs.lemmas.List.{drop-drop, take_rest}
 use Rattle.std.proofs.lemmas.List.Concat.{flat_map-append}
-use Rattle.std.proofs.lemmas.List.Elements.{All-cons, All-head, All-nil, All-weaker}
+use Rattle.std.proofs.lemmas.List.Elements.{All-head, All-nil, All-weaker}
 use Rattle.std.proofs.lemmas.Str.{chars-encodes}
 use Rattle.std.specs.Char.{IsScalar}
 use Rattle.std.specs.Int.{is_in_range}
@@ -26,9 +27,9 @@ use Rattle.utf16_transcode.proofs.TranscodedLemmas.{put_end-long, take-end}
 use Rattle.utf16_transcode.specs.FromUtf8.{IsIllFormedUtf8, StopsEncoding, TranscodesToUtf16}
 use Rattle.utf16_transcode.proofs.DecodesUtf8.{flat_encode}
 use Rattle.utf16_wtf8.specs.FromWtf8.{BeginsWithSurrogate, IsIllFormedAfter, IsIllFormedWtf8, NextPointDoesNotFit, NoPointContinues, ReadsWtf8, StopsAfter, StopsFromWtf8, surrogate_begins, wtf8_error_len}
-use Rattle.utf16_wtf8.specs.Wtf8.{IsCodePoint, IsWtf8, SpellsWtf8, ends_leading, generalized_utf8}
+use Rattle.utf16_wtf8.specs.Wtf8.{IsCodePoint, SpellsWtf8, ends_leading, generalized_utf8}
 use Rattle.utf16_wtf8.proofs.CodeLemmas.{spelled-nil}
-use Rattle.utf16_wtf8.proofs.ContinuedLemmas.{FirstIsTrailing, SpellsWtf8-append, begins-lead, ends_leading-point, ends_leading-text, scalar_or_surrogate, surrogate-begins, valid_to}
+use Rattle.utf16_wtf8.proofs.ContinuedLemmas.{FirstIsTrailing, SpellsWtf8-append, SpellsWtf8-next, begins-lead, ends_leading-point, ends_leading-text, scalar_or_surrogate, surrogate-begins, valid_to}
 use Rattle.utf16_wtf8.proofs.PointLemmas.{high, not_high}
 use Rattle.utf16_wtf8.proofs.ScalarLemmas.{code_point-scalar, no_pair-scalars, scalar-not_trailing}
 
@@ -87,11 +88,7 @@ module _ (big : Bool) (wtf8 old part : List ℕ) (read at n w : ℕ) (leading : 
       ∙ ap (encode big) (chars_in (take n (drop read wtf8)) utf8) ∙ flat_encode big cs
 
   within_rest : read + n ≤ length wtf8
-  within_rest =
-      let size = ap length (take_rest wtf8 read) ∙ length-drop read wtf8 in
-      let few = text.within in
-      let most = before.within in
-      omega arith
+  within_rest = grind (arith, take_rest, length-drop)
 
   last_is : (points text : List ℕ) → All IsScalar text → (text ≡ [] → ends_leading points ≡ leading) → (leads : Bool) → ((text ≡ []) → leads ≡ leading) → (¬ (text ≡ []) → leads ≡ false)
       → ends_leading (points ++ text) ≡ leads
@@ -129,24 +126,19 @@ module _ (big : Bool) (wtf8 old part : List ℕ) (read at n w : ℕ) (leading : 
 
 -- ---- a surrogate
 
-SpellsWtf8-surrogate : (unit : ℕ) → unit ≤ 0xDFFF → SpellsWtf8 (unit ∷ []) (generalized_utf8 unit)
-SpellsWtf8-surrogate unit below = record {
-  each_point = All-cons IsCodePoint unit [] (omega arith) (All-nil IsCodePoint);
-  no_pair = tt;
-  spelled = append-nil (generalized_utf8 unit);
-}
-
 module _ (big : Bool) (wtf8 old : List ℕ) (read at unit : ℕ) (leading : Bool) (before : ReadsWtf8 big wtf8 old read at leading)
     (next : BeginsWithSurrogate leading (rest_from wtf8 read) unit) where
   rest_is : rest_from wtf8 read ≡ drop read wtf8
   rest_is = take_rest wtf8 read
 
-  spells_next : SpellsWtf8 (before.points ++ unit ∷ []) (take (read + 3) wtf8)
-  spells_next =
-      subst (SpellsWtf8 (before.points ++ unit ∷ []))
-      (ap (λ b. take read wtf8 ++ b) (sym next.spelled ∙ ap (take 3) rest_is) ∙ sym (take-add read 3 wtf8))
-      (SpellsWtf8-append before.points (unit ∷ []) (take read wtf8) (generalized_utf8 unit) before.spells (SpellsWtf8-surrogate unit next.to)
-      (λ ends. next.unpaired (sym before.last ∙ ends)))
+  three : length (generalized_utf8 unit) ≡ 3
+  three = ap length (sym next.spelled) ∙ length-take-le 3 (rest_from wtf8 read) next.within
+
+  begins_next : drop read wtf8 ≡ generalized_utf8 unit ++ drop 3 (drop read wtf8)
+  begins_next = sym (take-append-drop 3 (drop read wtf8)) ∙ ap (λ b. b ++ drop 3 (drop read wtf8)) (sym (ap (take 3) rest_is) ∙ next.spelled)
+
+  spells_next : SpellsWtf8 (before.points ++ unit ∷ []) (take (read + length (generalized_utf8 unit)) wtf8)
+  spells_next = grind (arith, SpellsWtf8-next, begins_next)
 
   pub Reads-surrogate : (new two : List ℕ) (end : ℕ) → end ≤ length new → two ≡ unit_bytes big unit → take end new ≡ take at old ++ two
       → (lead : Bool) → (lead ≡ true → IsLeading unit) → (IsLeading unit → lead ≡ true)
@@ -155,7 +147,7 @@ module _ (big : Bool) (wtf8 old : List ℕ) (read at unit : ℕ) (leading : Bool
     within = let size = ap length rest_is ∙ length-drop read wtf8 in let few = next.within in let most = before.within in omega arith;
     fits = room;
     points = before.points ++ unit ∷ [];
-    spells = spells_next;
+    spells = subst (λ k. SpellsWtf8 (before.points ++ unit ∷ []) (take (read + k) wtf8)) three spells_next;
     units =
         bytes ∙ ap₂ (λ a b. a ++ b) before.units (is ∙ sym (one_unit_bytes big unit (let to = next.to in omega arith)) ∙ sym (append-nil (char_bytes big unit)))
         ∙ sym (flat_map-append (char_bytes big) before.points (unit ∷ []));
@@ -171,15 +163,10 @@ module _ (big : Bool) (wtf8 old : List ℕ) (read at unit : ℕ) (leading : Bool
     point = unit;
     more = drop 3 (drop read wtf8);
     code_point = let to = next.to in omega arith;
-    begins = sym (take-append-drop 3 (drop read wtf8)) ∙ ap (λ b. b ++ drop 3 (drop read wtf8)) (sym (ap (take 3) rest_is) ∙ next.spelled);
-    continues = record {
-      points = before.points ++ unit ∷ [];
-      spells = subst (λ k. SpellsWtf8 (before.points ++ unit ∷ []) (take (read + k) wtf8)) (sym three) spells_next;
-    };
+    begins = begins_next;
+    continues = record { points = before.points ++ unit ∷ []; spells = spells_next };
     too_long = let two = ap length (one_unit_bytes big unit (let to = next.to in omega arith)) ∙ length-unit_bytes big unit in omega (arith, few, two);
-  } where
-    three : length (generalized_utf8 unit) ≡ 3
-    three = ap length (sym next.spelled) ∙ length-take-le 3 (rest_from wtf8 read) next.within
+  }
 
 -- ---- why a call stops
 
@@ -198,11 +185,7 @@ module _ (big : Bool) (wtf8 to : List ℕ) (read written : ℕ) (leading : Bool)
 
 -- if no character and no surrogate begins here, no code point does
 no_point : (leading : Bool) (rest : List ℕ) → StartsWithNoChar rest → surrogate_begins rest ≡ false → NoPointContinues leading rest
-no_point leading rest none no_surrogate point more below e = ⊎_elim
-    (λ (scalar : IsScalar point). absurd (none point more scalar e))
-    (λ (surrogate : (0xD800 ≤ point) × (point ≤ 0xDFFF)).
-    absurd (true≢false (sym (ap surrogate_begins e ∙ surrogate-begins point more surrogate.0 surrogate.1) ∙ no_surrogate)))
-    (scalar_or_surrogate point below)
+no_point leading rest none no_surrogate point more below e = grind (arith, nat_tests, surrogate-begins, scalar_or_surrogate)
 
 -- `error_len` is the one of UTF-8
 pub error_len-utf8 : (rest : List ℕ) → surrogate_begins rest ≡ false → wtf8_error_len rest ≡ utf8_error_len rest
@@ -217,28 +200,11 @@ module _ (big : Bool) (wtf8 to : List ℕ) (start n written left : ℕ) (leading
 
   pub ill_formed_text : (error_len : Option ℕ) → IsIllFormedUtf8 (rest_from wtf8 start) n error_len → IsIllFormedWtf8 wtf8 (start + n) error_len
   ill_formed_text error_len here =
-      let short = here.0.short in
       let size = ap length (take_rest wtf8 start) ∙ length-drop start wtf8 in
       let none = subst StartsWithNoChar there (none_at (rest_from wtf8 start) n here.0) in (
         valid_to wtf8 before.points (start + n) before.within before.spells (omega arith) (no_point (ends_leading before.points) (drop (start + n) wtf8) none isnt),
         here.1 ∙ ap utf8_error_len there ∙ sym (error_len-utf8 (drop (start + n) wtf8) isnt),
       )
-
-  continued : (c : ℕ) (more : List ℕ) → IsScalar c → drop (start + n) wtf8 ≡ generalized_utf8 c ++ more → IsWtf8 (take (start + n + length (generalized_utf8 c)) wtf8)
-  continued c more scalar begins =
-      let k = length (generalized_utf8 c) in
-      let one : SpellsWtf8 (c ∷ []) (generalized_utf8 c) = record {
-        each_point = All-cons IsCodePoint c [] (code_point-scalar c scalar) (All-nil IsCodePoint);
-        no_pair = tt;
-        spelled = append-nil (generalized_utf8 c);
-      } in
-      record {
-        points = before.points ++ c ∷ [];
-        spells =
-            subst (SpellsWtf8 (before.points ++ c ∷ []))
-            (ap (λ b. take (start + n) wtf8 ++ b) (sym (ap (take k) begins ∙ take_at (generalized_utf8 c) more k refl)) ∙ sym (take-add (start + n) k wtf8))
-            (SpellsWtf8-append before.points (c ∷ []) (take (start + n) wtf8) (generalized_utf8 c) before.spells one (λ ends. scalar-not_trailing c scalar));
-      }
 
   pub stops_text : (stop : Stop) → start ≤ length wtf8 → StopsEncoding big (rest_from wtf8 start) n left stop → StopsFromWtf8 big wtf8 (start + n) left stop
   stops_text Done within here =
@@ -251,7 +217,12 @@ module _ (big : Bool) (wtf8 to : List ℕ) (start n written left : ℕ) (leading
     more = here.more;
     code_point = code_point-scalar here.char here.scalar;
     begins = sym there ∙ here.begins;
-    continues = continued here.char here.more here.scalar (sym there ∙ here.begins);
+    continues = record {
+      points = before.points ++ here.char ∷ [];
+      spells =
+          SpellsWtf8-next wtf8 before.points (start + n) here.char here.more before.spells (code_point-scalar here.char here.scalar) (sym there ∙ here.begins)
+          (λ ends. scalar-not_trailing here.char here.scalar);
+    };
     too_long = here.too_long;
   }
 

@@ -88,3 +88,17 @@ none_if_truncated = maximal.none_if_truncated
 
 pub pair_has_three : PairHasThree
 pair_has_three = maximal.pair_has_three
+
+-- laws, for the functions that state them
+pub ruleset laws = (
+  there_and_back,
+  back_and_there,
+  units_are_wtf8,
+  wtf8_has_units,
+  units_are_unique,
+  utf8_if_well_formed,
+  cut_anywhere,
+  rest_is_wtf8,
+  none_if_truncated,
+  pair_has_three,
+)

@@ -1,6 +1,6 @@
 -- How many bytes code units have in WTF-8: as many as their lossy text in UTF-8, because a
 -- surrogate has three, like U+FFFD.
-use Rattle.std.proofs.Common.{◌≡◌, ℕ, zero, suc, ◌*◌, ◌/◌, ◌%◌, ◌≤◌, Bool, true, false, List, [], ◌∷◌, All, ⊎_elim, length, map, take, encode_utf8_all, refl, sym, ap, ◌∙◌, arith, append-nil, length-append, length-take-le}
+use Rattle.std.proofs.Common.{◌≡◌, ℕ, suc, ◌*◌, ◌/◌, ◌%◌, ◌≤◌, Bool, true, false, List, [], ◌∷◌, All, ⊎_elim, length, map, take, encode_utf8_all, refl, sym, ap, ◌∙◌, arith, append-nil, length-append, length-take-le}
 use Rattle.std.proofs.lemmas.Bool.{cases_Bool}
 use Rattle.std.proofs.lemmas.List.Elements.{All-head, All-tail}
 use Rattle.std.proofs.lemmas.List.Concat.{flat_map-append}
@@ -11,11 +11,12 @@ use Rattle.utf16_units.specs.IllFormed.{is_incomplete}
 use Rattle.utf16_units.specs.Split.{IsItem, IsTail, Item, decided_text, good, lone_lead, lone_trail, lossy_char, lossy_chars, lossy_text, split_items, split_tail, whole_lossy_chars}
 use Rattle.utf16_units.specs.Unit.{unit_of}
 use Rattle.utf16_units.proofs.FirstChar.{AreBytes}
+use Rattle.utf16_units.proofs.SplitIllFormed.{AreBytes-take}
 use Rattle.utf16_units.proofs.SplitLemmas.{Split-computed, cut_tail, whole_tail}
 use Rattle.utf16_units.proofs.SplitUnique.{IsTail-split_tail}
 use Rattle.utf16_units.proofs.Utf8Lemmas.{three_bytes}
 use Rattle.utf16_wtf8.specs.ToWtf8.{item_point, points_of}
-use Rattle.utf16_wtf8.specs.Wtf8.{code_points, generalized_utf8}
+use Rattle.utf16_wtf8.specs.Wtf8.{generalized_utf8}
 use Rattle.utf16_wtf8.proofs.PointLemmas.{points_of-split, split_points}
 
 -- a surrogate has the length of U+FFFD
@@ -63,8 +64,6 @@ whole_len big items [] are ends even = ap (λ points. length (flat_map generaliz
 whole_len big items (last ∷ []) are ends even = absurd (omega arith)
 whole_len big items (first ∷ second ∷ after) are ends even =
     let lead = ends.0 in
-    let from = lead.0 in
-    let to = lead.1 in
     let unit = unit_of big first second in
     let last = surrogate_len unit (omega arith) (omega arith) in
     let front = items_len items are in
@@ -88,19 +87,7 @@ units_whole big (first ∷ second ∷ bytes) =
     ap (λ units. unit_of big first second ∷ units) (units_whole big bytes)
     ∙ sym (ap (λ n. units_of big (take n (first ∷ second ∷ bytes))) two)
 
-pub are_front : (n : ℕ) (raw : List ℕ) → AreBytes raw → AreBytes (take n raw)
-are_front zero raw are k = omega arith
-are_front (suc n) [] are k = omega arith
-are_front (suc n) (b ∷ raw) are zero = are 0
-are_front (suc n) (b ∷ raw) are (suc k) = are_front n raw (λ i. are (suc i)) k
-
 -- all code units of any bytes
 pub points_len : (big : Bool) (raw : List ℕ) → AreBytes raw
     → length (flat_map generalized_utf8 (points_of big raw)) ≡ length (encode_utf8_all (lossy_text big (take (length raw / 2 * 2) raw)))
-points_len big raw are =
-    let whole = take (length raw / 2 * 2) raw in
-    let even : length whole % 2 ≡ 0 = omega (arith, length-take-le (length raw / 2 * 2) raw (omega arith)) in
-    ap (λ units. length (flat_map generalized_utf8 (code_points units))) (units_whole big raw)
-    ∙ ap (λ points. length (flat_map generalized_utf8 points)) (points_of-split big whole)
-    ∙ whole_len big (split_items big whole) (split_tail big whole) (Split-computed big whole (are_front (length raw / 2 * 2) raw are)).made
-    (IsTail-split_tail big whole) (even_tail big whole even)
+points_len big raw are = grind (arith, length-take-le, units_whole, points_of-split, whole_len, Split-computed, AreBytes-take, IsTail-split_tail, even_tail)

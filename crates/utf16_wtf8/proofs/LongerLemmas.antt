@@ -1,10 +1,9 @@
 -- Why a call stops in the first bytes of WTF-8, if that does not depend on the bytes after them.
-use Rattle.std.proofs.Common.{◌≡◌, ◌⊎◌, ℕ, ◌+◌, ◌<◌, ◌≤◌, Bool, true, false, List, [], ◌∷◌, ◌++◌, Option, None, Some, length, take, drop, refl, sym, ap, ◌∙◌, subst, ⊎_elim, arith, append_assoc, append-nil, length-append, length-drop, take-add, take-append-drop, take_at, true≢false, le-ltb, ne_eqb}
-use Rattle.std.proofs.lemmas.Bool.{cases_Bool, cases_lt}
+use Rattle.std.proofs.Common.{◌≡◌, ◌⊎◌, ℕ, ◌+◌, ◌<◌, ◌≤◌, Bool, true, List, [], ◌∷◌, ◌++◌, Option, None, Some, length, take, drop, refl, sym, ap, ◌∙◌, subst, ⊎_elim, arith, append_assoc, length-append, length-drop, take-append-drop, take_at, le-ltb, ne_eqb}
+use Rattle.std.proofs.lemmas.Bool.{cases_lt}
 use Rattle.std.proofs.lemmas.Bool.Decides.{nat_tests}
 use Rattle.std.proofs.lemmas.List.{drop-append-le, take-append-le}
-use Rattle.std.proofs.lemmas.List.Elements.{All-cons, All-nil}
-use Rattle.std.specs.Prelude.{◌==◌, ◌&&◌, if◌then◌else◌, nat_lt, slice_index}
+use Rattle.std.specs.Prelude.{◌==◌, ◌&&◌, if◌then◌else◌, slice_index}
 use Rattle.std.specs.Int.{is_in_range}
 use Rattle.std.specs.Str.Lossy.{second_byte_max, second_byte_min, utf8_error_len}
 use Rattle.utf16_units.specs.Unit.{IsTrailing}
@@ -15,15 +14,8 @@ use Rattle.utf16_wtf8.specs.FromWtf8.{IsIllFormedWtf8, IsWtf8ValidUpTo, NextPoin
 use Rattle.utf16_wtf8.specs.Laws.{IsTruncated, StartsWithNoPoint}
 use Rattle.utf16_wtf8.specs.Wtf8.{IsCodePoint, IsWtf8, SpellsWtf8, ends_leading, generalized_utf8}
 use Rattle.utf16_wtf8.proofs.CodeLemmas.{point-unique, some_bytes}
-use Rattle.utf16_wtf8.proofs.ContinuedLemmas.{SpellsWtf8-append, valid_to}
+use Rattle.utf16_wtf8.proofs.ContinuedLemmas.{SpellsWtf8-next, valid_to}
 use Rattle.utf16_wtf8.proofs.MaximalLemmas.{none_if_truncated}
-
-SpellsWtf8-point : (c : ℕ) → IsCodePoint c → SpellsWtf8 (c ∷ []) (generalized_utf8 c)
-SpellsWtf8-point c below = record {
-  each_point = All-cons IsCodePoint c [] below (All-nil IsCodePoint);
-  no_pair = tt;
-  spelled = append-nil (generalized_utf8 c);
-}
 
 -- after the longest prefix, no code point continues it
 module _ (bytes : List ℕ) (read : ℕ) (valid : IsWtf8ValidUpTo bytes read) where
@@ -33,26 +25,11 @@ module _ (bytes : List ℕ) (read : ℕ) (valid : IsWtf8ValidUpTo bytes read) wh
   module _ (point : ℕ) (more : List ℕ) (below : IsCodePoint point) (e : drop read bytes ≡ generalized_utf8 point ++ more) where
     not_longer : ¬ (ends_leading points ≡ true → ¬ (IsTrailing point))
     not_longer apart =
-        let k = length (generalized_utf8 point) in
-        valid.longest (read + k) (omega (arith, some_bytes point)) record {
-          points = points ++ point ∷ [];
-          spells =
-              subst (SpellsWtf8 (points ++ point ∷ []))
-              (ap (λ b. take read bytes ++ b) (sym (ap (take k) e ∙ take_at (generalized_utf8 point) more k refl)) ∙ sym (take-add read k bytes))
-              (SpellsWtf8-append points (point ∷ []) (take read bytes) (generalized_utf8 point) valid.front.spells (SpellsWtf8-point point below) apart);
-        }
+        valid.longest (read + length (generalized_utf8 point)) (omega (arith, some_bytes point))
+        (record { points = points ++ point ∷ []; spells = SpellsWtf8-next bytes points read point more valid.front.spells below e apart })
 
     is_pair : (ends_leading points ≡ true) × IsTrailing point
-    is_pair = ⊎_elim
-        (λ (leads : ends_leading points ≡ true). ⊎_elim
-        (λ (low : point < 0xDC00). absurd (not_longer (λ l t. omega arith)))
-        (λ (from : 0xDC00 ≤ point). ⊎_elim
-        (λ (to : point < 0xE000). (leads, (from, omega arith)))
-        (λ (high : 0xE000 ≤ point). absurd (not_longer (λ l t. omega arith)))
-        (cases_lt point 0xE000))
-        (cases_lt point 0xDC00))
-        (λ (other : ends_leading points ≡ false). absurd (not_longer (λ leads t. true≢false (sym leads ∙ other))))
-        (cases_Bool (ends_leading points))
+    is_pair = grind (arith, not_longer)
 
   none_continues : NoPointContinues (ends_leading points) (drop read bytes)
   none_continues point more below e = is_pair point more below e
@@ -65,18 +42,22 @@ len_of_four x y z =
 
 error_len_of_four : (bytes : List ℕ) → 4 ≤ length bytes → wtf8_error_len bytes ≡ len_of_four (slice_index bytes 0) (slice_index bytes 1) (slice_index bytes 2)
 unfolding utf8_error_len
-error_len_of_four bytes long =
-    let some_bytes : (length bytes == 0) ≡ false = ne_eqb _ _ (omega arith) in
-    let two : nat_lt (length bytes) 2 ≡ false = le-ltb (length bytes) 2 (omega arith) in
-    let three : nat_lt (length bytes) 3 ≡ false = le-ltb (length bytes) 3 (omega arith) in
-    let four : nat_lt (length bytes) 4 ≡ false = le-ltb (length bytes) 4 long in
-    rw (some_bytes, two, three, four) refl
+error_len_of_four bytes long = grind (arith, ne_eqb, le-ltb)
+
+-- so four bytes decide a code point
+pub truncated_few : (rest : List ℕ) → wtf8_error_len rest ≡ None → length rest ≤ 3
+truncated_few rest none = ⊎_elim
+    (λ (few : length rest < 4). omega arith)
+    (λ (long : 4 ≤ length rest). absurd (decided (slice_index rest 0) (slice_index rest 1) (slice_index rest 2) (sym (error_len_of_four rest long) ∙ none)))
+    (cases_lt (length rest) 4)
+  where
+    decided : (x y z : ℕ) → len_of_four x y z ≡ None → ⊥
+    decided x y z is = grind arith
 
 -- an ill-formed sequence stays one, and has the same length
 error_stays : (rest back : List ℕ) (len : ℕ) → wtf8_error_len rest ≡ Some len → wtf8_error_len (rest ++ back) ≡ Some len
 unfolding utf8_error_len
 error_stays [] back len is =
-    let none : None ≡ Some len = is in
     absurd (cc)
 error_stays (x ∷ []) back len is = grind (arith, nat_tests)
 error_stays (x ∷ y ∷ []) back len is = grind (arith, nat_tests)
@@ -109,14 +90,11 @@ module _ (front back : List ℕ) (read len : ℕ) (fault : IsIllFormedWtf8 front
     }
 
     starts_with_none : StartsWithNoPoint rest
-    starts_with_none other others is e2 =
-        let same = point-unique other point (others ++ back) more is below (sym (append_assoc (generalized_utf8 other) others back) ∙ ap (λ b. b ++ back) (sym e2) ∙ e) in
-        omega (arith, ap (λ c. length (generalized_utf8 c)) same.0, ap length e2, length-append (generalized_utf8 other) others, cut)
+    starts_with_none other others is e2 = grind (arith, point-unique, append_assoc, length-append)
 
     not_truncated : ⊥
     not_truncated =
         let none = (none_if_truncated rest starts_with_none).1 truncated in
-        let some = fault.1 in
         absurd (cc)
 
   none_here : NoPointContinues (ends_leading fault.0.front.points) (drop read (front ++ back))
@@ -132,7 +110,6 @@ module _ (front back : List ℕ) (read len : ℕ) (fault : IsIllFormedWtf8 front
 
   pub ill_formed_longer : IsIllFormedWtf8 (front ++ back) read (Some len)
   ill_formed_longer =
-      let short = fault.0.short in
       let all = length-append front back in (
         valid_to (front ++ back) fault.0.front.points read (omega arith) (subst (SpellsWtf8 fault.0.front.points) (sym (take-append-le read front back within)) fault.0.front.spells) (omega arith) none_here,
         sym (ap wtf8_error_len longer ∙ error_stays rest back len (sym fault.1)),
@@ -170,16 +147,10 @@ abbrev pub IsDecided : Stop → Type 0
 IsDecided stop = ((len : ℕ) × (stop ≡ IllFormed len)) ⊎ (stop ≡ NoSpace)
 
 pub not_done : (stop : Stop) → IsDecided stop → ¬ (stop ≡ Done)
-not_done stop decided done = ⊎_elim
-    (λ (ill : (len : ℕ) × (stop ≡ IllFormed len)). let is = ill.1 in absurd (cc))
-    (λ (full : stop ≡ NoSpace). absurd (cc))
-    decided
+not_done stop decided done = grind arith
 
 pub not_cut : (stop : Stop) → IsDecided stop → ¬ (stop ≡ Incomplete)
-not_cut stop decided cut = ⊎_elim
-    (λ (ill : (len : ℕ) × (stop ≡ IllFormed len)). let is = ill.1 in absurd (cc))
-    (λ (full : stop ≡ NoSpace). absurd (cc))
-    decided
+not_cut stop decided cut = grind arith
 
 -- more bytes do not change that
 pub stops_longer : (big : Bool) (front back : List ℕ) (read left : ℕ) (stop : Stop) → IsDecided stop

@@ -1,8 +1,8 @@
 -- The length of an ill-formed sequence of WTF-8 is the length of a maximal subpart in the words of
 -- the Standard.
+use Rattle.std.proofs.lemmas.Bool.Decides.{nat_tests}
 use Rattle.std.proofs.Common.{◌≡◌, ◌↔◌, inl, inr, ℕ, ◌+◌, ◌-◌, ◌*◌, ◌/◌, ◌%◌, ◌<◌, ◌≤◌, true, false, List, [], ◌∷◌, ◌++◌, None, Some, length, slice_index, take, drop, refl, sym, ap, ap₂, ◌∙◌, subst, ⊎_elim, arith, length-append, length-take, length-take-le, take-append-drop, take_all, true≢false, le-leb}
-use Rattle.std.specs.Prelude.{◌&&◌, ◌==◌}
-use Rattle.std.proofs.lemmas.Bool.{cases_Bool, cases_lt, cases_order, false_from_ne_true}
+use Rattle.std.proofs.lemmas.Bool.{cases_Bool, cases_lt, false_from_ne_true}
 use Rattle.std.proofs.lemmas.List.{get_or-take, get_or_append_left, get_or_past}
 use Rattle.std.specs.Int.{is_in_range}
 use Rattle.std.specs.Char.{IsScalar}
@@ -15,6 +15,7 @@ use Rattle.utf8_bytes.proofs.TableLemmas.{tail_nil, tail_three_one}
 use Rattle.utf16_wtf8.specs.FromWtf8.{surrogate_begins, wtf8_error_len}
 use Rattle.utf16_wtf8.specs.Laws.{IsMaximal, IsTruncated, StartsWithNoPoint}
 use Rattle.utf16_wtf8.specs.Wtf8.{generalized_utf8}
+use Rattle.utf16_wtf8.proofs.CodeLemmas.{by_size}
 use Rattle.utf16_wtf8.proofs.ContinuedLemmas.{begins-from, begins-lead, begins-to, bytes_of_three, scalar_or_surrogate, surrogate-begins}
 use Rattle.utf16_wtf8.proofs.FromWtf8Lemmas.{error_len-utf8}
 use Rattle.utf16_wtf8.proofs.ScalarLemmas.{code_point-scalar}
@@ -24,15 +25,10 @@ use Rattle.utf16_wtf8.proofs.SurrogateLemmas.{cut_off_surrogate, len_of_three, n
 
 module _ (bytes : List ℕ) where
   not_shorter : (len other : ℕ) → IsMaximal bytes len → IsMaximal bytes other → ¬ (len < other)
-  not_shorter len other m o less = ⊎_elim
-      (λ (begins : IsTruncated (take other bytes)). m.longest other less o.within begins)
-      (λ (one : other ≡ 1). let some = m.some in omega arith)
-      o.begins
+  not_shorter len other m o less = grind arith
 
   one_maximal : (len other : ℕ) → IsMaximal bytes len → IsMaximal bytes other → len ≡ other
-  one_maximal len other m o = ⊎_elim (λ (same : len ≡ other). same)
-      (⊎_elim (λ (less : len < other). absurd (not_shorter len other m o less)) (λ (more : other < len). absurd (not_shorter other len o m more)))
-      (cases_order len other)
+  one_maximal len other m o = grind (arith, not_shorter)
 
 -- ---- where no surrogate begins, it is the length in UTF-8
 
@@ -65,15 +61,7 @@ tail_truncated part isnt is = ⊎_elim
     (scalar_or_surrogate is.point is.code_point)
 
 begins-take : (bytes : List ℕ) (n : ℕ) → surrogate_begins bytes ≡ false → surrogate_begins (take n bytes) ≡ false
-begins-take bytes n isnt = false_from_ne_true (surrogate_begins (take n bytes)) (λ begins. ⊎_elim
-    (λ (short : n < 2).
-    let second = get_or_past (take n bytes) 1 0 (omega (arith, length-take n bytes)) in
-    let from = begins-from (take n bytes) begins in
-    omega arith)
-    (λ (two : 2 ≤ n).
-    let same = ap₂ (λ x y. (x == 0xED) && is_in_range 0xA0 0xBF y) (get_or-take n bytes 0 0 (omega arith)) (get_or-take n bytes 1 0 (omega arith)) in
-    true≢false (sym begins ∙ same ∙ isnt))
-    (cases_lt n 2))
+begins-take bytes n isnt = grind (arith, false_from_ne_true, get_or_past, length-take, begins-from, get_or-take)
 
 module _ (bytes : List ℕ) (none : StartsWithNoPoint bytes) (isnt : surrogate_begins bytes ≡ false) where
   maximal_utf8 : (len : ℕ) → utf8.IsMaximal bytes len → IsMaximal bytes len
@@ -109,26 +97,11 @@ two_first (x ∷ y ∷ more) long = refl
 
 -- a code point of four bytes or more does not begin like a surrogate
 long_lead : (point : ℕ) → 4 ≤ length (generalized_utf8 point) → 240 ≤ slice_index (generalized_utf8 point) 0
-long_lead point long = ⊎_elim
-    (λ (one : point < 0x80). absurd (omega (arith, ap length (one_byte point one))))
-    (λ (from : 0x80 ≤ point). ⊎_elim
-    (λ (two : point < 0x800). absurd (omega (arith, ap length (two_bytes point from two))))
-    (λ (high : 0x800 ≤ point). ⊎_elim
-    (λ (three : point < 0x1_0000). absurd (omega (arith, ap length (three_bytes point high three))))
-    (λ (four : 0x1_0000 ≤ point). omega (arith, ap (λ b. slice_index b 0) (four_bytes point four)))
-    (cases_lt point 0x1_0000))
-    (cases_lt point 0x800))
-    (cases_lt point 0x80)
+long_lead point long = grind (arith, by_size, one_byte, two_bytes, three_bytes, four_bytes)
 
 module _ (bytes : List ℕ) (none : StartsWithNoPoint bytes) (begins : surrogate_begins bytes ≡ true) where
   long : 2 ≤ length bytes
-  long = ⊎_elim
-      (λ (short : length bytes < 2).
-      let second = get_or_past bytes 1 0 (omega arith) in
-      let from = begins-from bytes begins in
-      absurd (omega arith))
-      (λ (two : 2 ≤ length bytes). two)
-      (cases_lt (length bytes) 2)
+  long = grind (arith, get_or_past, begins-from)
 
   -- the first two bytes begin one
   two_begin : IsTruncated (take 2 bytes)
@@ -171,13 +144,11 @@ module _ (bytes : List ℕ) (none : StartsWithNoPoint bytes) (begins : surrogate
       (λ (three : 3 ≤ length bytes). ⊎_elim
       (λ (good : is_in_range 0x80 0xBF (slice_index bytes 2) ≡ true).
       let here = surrogate_here bytes false begins three good (λ leads. absurd (true≢false (sym leads))) in
-      let to = here.to in
       absurd (none (surrogate_of bytes) (drop 3 bytes) (omega arith) (sym (take-append-drop 3 bytes) ∙ ap (λ b. b ++ drop 3 bytes) here.spelled)))
       (λ (bad : is_in_range 0x80 0xBF (slice_index bytes 2) ≡ false).
       let error = (no_third bytes false begins three bad).1 in
       let maximal = two_maximal three in (
         (λ e.
-            let same : Some 2 ≡ Some len = error ∙ e in
             let two : 2 ≡ len = cc in
             (subst (IsMaximal bytes) two maximal, λ is. three_do_not (length bytes) three (omega arith) (subst IsTruncated (sym (take_all (length bytes) bytes (omega arith))) is))),
         (λ m. sym error ∙ ap Some (one_maximal bytes 2 len maximal m.0)),
@@ -221,19 +192,9 @@ module _ (bytes : List ℕ) (none : StartsWithNoPoint bytes) where
         longer three is = three_do_not bytes none begins (length bytes) three (omega arith) (subst IsTruncated (sym (take_all (length bytes) bytes (omega arith))) is)
 
 pub none_if_truncated : (bytes : List ℕ) → StartsWithNoPoint bytes → (wtf8_error_len bytes ≡ None) ↔ IsTruncated bytes
-none_if_truncated bytes none = ⊎_elim
-    (λ (begins : surrogate_begins bytes ≡ true). none_of_surrogate bytes none begins)
-    (λ (isnt : surrogate_begins bytes ≡ false). none_of_utf8 bytes none isnt)
-    (cases_Bool (surrogate_begins bytes))
+none_if_truncated bytes none = grind (arith, nat_tests, none_of_surrogate, none_of_utf8)
 
 -- ---- a whole surrogate
 
 pub pair_has_three : (unit : ℕ) (more : List ℕ) → 0xD800 ≤ unit → unit ≤ 0xDFFF → wtf8_error_len (generalized_utf8 unit ++ more) ≡ Some 3
-pair_has_three unit more from to =
-    let rest = generalized_utf8 unit ++ more in
-    let bytes = bytes_of_three unit more (omega arith) (omega arith) in
-    let third : slice_index rest 2 ≡ 128 + unit % 64 = ap (λ b. slice_index b 2) bytes in
-    let least : 0x80 ≤ slice_index rest 2 = omega arith in
-    let most : slice_index rest 2 ≤ 0xBF = omega arith in
-    let good = ap₂ (λ a b. a && b) (le-leb 0x80 (slice_index rest 2) least) (le-leb (slice_index rest 2) 0xBF most) in
-    len_of_three rest true (surrogate-begins unit more from to) (omega (arith, ap length bytes)) good
+pair_has_three unit more from to = grind (arith, nat_tests, bytes_of_three, le-leb, len_of_three, surrogate-begins)

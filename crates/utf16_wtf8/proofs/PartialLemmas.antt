@@ -121,7 +121,6 @@ not_truncated wtf8 read leaves cut =
     let rest = drop read wtf8 in
     let begins : generalized_utf8 leaves.lead ++ drop 3 rest ≡ rest = ap (λ b. b ++ drop 3 rest) (sym leaves.begins) ∙ take-append-drop 3 rest in
     let three : wtf8_error_len rest ≡ Some 3 = ap wtf8_error_len (sym begins) ∙ pair_has_three leaves.lead (drop 3 rest) (omega (arith, leaves.leading)) (omega (arith, leaves.leading)) in
-    let none = cut.1 in
     absurd (cc)
 
 -- a call that stops before a truncated code point does not stop before a leading surrogate

@@ -1,5 +1,5 @@
 -- The code points of units, and of the items and the tail of the split.
-use Rattle.std.proofs.Common.{◌≡◌, ℕ, ◌<◌, ◌≤◌, Bool, true, false, cond, List, [], ◌∷◌, ◌++◌, All, length, map, refl, sym, ap, ap₂, ◌∙◌, subst, ⊎_elim, arith, le-leb, lt-ltb}
+use Rattle.std.proofs.Common.{◌≡◌, ℕ, ◌≤◌, Bool, true, false, cond, List, [], ◌∷◌, ◌++◌, All, length, map, refl, sym, ap, ap₂, ◌∙◌, subst, ⊎_elim, arith, le-leb, lt-ltb}
 use Rattle.std.specs.Prelude.{◌&&◌}
 use Rattle.std.proofs.lemmas.Bool.{cases_Bool, false_from_ne_true}
 use Rattle.std.proofs.lemmas.List.Elements.{All-cons, All-head, All-nil, All-tail}
@@ -18,14 +18,10 @@ use Rattle.utf16_wtf8.specs.Wtf8.{code_points}
 -- ---- the tests of the two classes
 
 pub high : (unit : ℕ) → IsLeading unit → is_high_surrogate unit ≡ true
-high unit l =
-    let below : unit < 0xDC00 = omega arith in
-    rw (le-leb 0xD800 unit l.0, lt-ltb unit 0xDC00 below) refl
+high unit l = grind (arith, le-leb, lt-ltb)
 
 pub low : (unit : ℕ) → IsTrailing unit → is_low_surrogate unit ≡ true
-low unit t =
-    let below : unit < 0xE000 = omega arith in
-    rw (le-leb 0xDC00 unit t.0, lt-ltb unit 0xE000 below) refl
+low unit t = grind (arith, le-leb, lt-ltb)
 
 pub not_high : (unit : ℕ) → ¬ (IsLeading unit) → is_high_surrogate unit ≡ false
 not_high unit isnt = false_from_ne_true (is_high_surrogate unit) (λ yes. isnt (is_of 54 unit yes))
@@ -108,9 +104,7 @@ points-put unit (next ∷ third ∷ units) = by_class (class_of next) where
   by_class (neither l t) = alone l
   by_class (leading l) = points-before unit next (third ∷ units) (λ t. omega arith) ∙ by_third (class_of third) where
     no_pair : ¬ (IsTrailing third) → unit ∷ code_points (next ∷ third ∷ units) ≡ put_point unit (code_points (next ∷ third ∷ units))
-    no_pair isnt =
-        let same = points-before next third units isnt in
-        ap (λ ps. unit ∷ ps) same ∙ sym (ap (put_point unit) same ∙ put_point-before unit next (code_points (third ∷ units)) (λ t. omega arith))
+    no_pair isnt = grind (arith, points-before, put_point-before)
 
     by_third : Class third → unit ∷ code_points (next ∷ third ∷ units) ≡ put_point unit (code_points (next ∷ third ∷ units))
     by_third (leading m) = no_pair (λ t. omega arith)
@@ -133,7 +127,6 @@ unfolding put_leading
 classed-put_leading unit [] l are = All-cons IsClassed (lone_lead unit) [] l are
 classed-put_leading unit (good c ∷ items) l are = All-cons IsClassed (lone_lead unit) (good c ∷ items) l are
 classed-put_leading unit (lone_trail trail ∷ items) l are =
-    let t : IsTrailing trail = All-head IsClassed (lone_trail trail) items are in
     All-cons IsClassed (good (surrogate_pair_char unit trail)) items (λ is. omega arith) (All-tail IsClassed (lone_trail trail) items are)
 classed-put_leading unit (lone_lead next ∷ items) l are = All-cons IsClassed (lone_lead unit) (lone_lead next ∷ items) l are
 
@@ -163,7 +156,6 @@ put-tail : (big : Bool) (unit : ℕ) (tail : List ℕ) → IsTail big tail → p
 put-tail big unit [] ends = refl
 put-tail big unit (last ∷ []) ends = refl
 put-tail big unit (first ∷ second ∷ after) ends =
-    let lead = ends.0 in
     put_point-before unit (unit_of big first second) [] (λ t. omega arith)
 
 put-leading : (big : Bool) (unit : ℕ) (items : List Item) (tail : List ℕ) → IsLeading unit → All IsClassed items → IsTail big tail

@@ -162,7 +162,6 @@ module _ (bytes points : List ℕ) (read : ℕ) (within : read ≤ length bytes)
     stops_here big room NoSpace here = next_here big n room here
     stops_here big room Incomplete (inr leaves) = inr (leaves_here n leaves)
     stops_here big room Incomplete (inl cut) =
-        let short = cut.0.0.short in
         inl (
           ill_here n None cut.0,
           ends_here
@@ -170,9 +169,7 @@ module _ (bytes points : List ℕ) (read : ℕ) (within : read ≤ length bytes)
               (λ (other : ends_leading points ≡ false). other)
               (λ (next : BeginsLeading rest).
               let zero = none_read none (omega arith) in
-              let l = next.leading in
               let three : wtf8_error_len rest ≡ Some 3 = ap wtf8_error_len next.begins ∙ pair_has_three next.lead next.more (omega arith) (omega arith) in
-              let error : None ≡ wtf8_error_len rest = subst (λ k. None ≡ wtf8_error_len (drop k rest)) zero cut.0.1 in
               absurd (cc))
               seam)
               cut.1,

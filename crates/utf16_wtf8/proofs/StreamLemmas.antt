@@ -1,7 +1,6 @@
 -- A chunk of a stream of WTF-8: the bytes at its boundary, and what is pending after it.
 use Rattle.std.proofs.Common.{◌≡◌, ◌⊎◌, inl, inr, ℕ, ◌+◌, ◌-◌, ◌<◌, ◌≤◌, Bool, false, List, [], ◌++◌, None, length, take, drop, refl, sym, ap, ap₂, ◌∙◌, subst, ⊎_elim, arith, append_assoc, append-nil, length-append, length-drop, length-take, take-append-drop, take_all}
 use borrow.Rule.Slice.PartMut.{put_mid}
-use Rattle.std.proofs.lemmas.Bool.{cases_lt}
 use Rattle.std.proofs.lemmas.List.{drop-append-le, drop_all}
 use Rattle.utf16_units.proofs.IllFormedLemmas.{rest_from}
 use Rattle.utf16_transcode.specs.Transcoded.{Writes}
@@ -165,10 +164,7 @@ module _ (pending chunk : List ℕ) (at : ℕ) (within : at ≤ length (pending 
     len_full = omega (arith, read_is, ap length left_is, length-drop at pending)
 
     pub either_full : (read ≡ 0) ⊎ (left ≡ [])
-    either_full = ⊎_elim
-        (λ (before : at < length pending). inl (omega (arith, read_is, before)))
-        (λ (past : length pending ≤ at). inr (left_is ∙ drop_all at pending past))
-        (cases_lt at (length pending))
+    either_full = grind (arith, read_is, drop_all)
 
     pub read_full : read ≤ length chunk
     read_full = omega (arith, is)

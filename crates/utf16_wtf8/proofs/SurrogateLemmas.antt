@@ -17,12 +17,7 @@ surrogate_of rest = 0xD000 + (slice_index rest 1 - 0x80) * 0x40 + (slice_index r
 
 pub surrogate_spelled : (x y z : ℕ) → x ≡ 0xED → 0xA0 ≤ y → y ≤ 0xBF → 0x80 ≤ z → z ≤ 0xBF
     → generalized_utf8 (0xD000 + (y - 0x80) * 0x40 + (z - 0x80)) ≡ x ∷ y ∷ z ∷ []
-surrogate_spelled x y z lead from to least most =
-    let c = 0xD000 + (y - 0x80) * 0x40 + (z - 0x80) in
-    let first : 224 + c / 4096 ≡ x = omega arith in
-    let second : 128 + c / 64 % 64 ≡ y = omega arith in
-    let third : 128 + c % 64 ≡ z = omega arith in
-    three_bytes c (omega arith) (omega arith) ∙ ap₂ (λ a b. a ∷ b ∷ (128 + c % 64) ∷ []) first second ∙ ap (λ d. x ∷ y ∷ d ∷ []) third
+surrogate_spelled x y z lead from to least most = grind (arith, nat_tests, three_bytes)
 
 first_three : (rest : List ℕ) → 3 ≤ length rest → take 3 rest ≡ slice_index rest 0 ∷ slice_index rest 1 ∷ slice_index rest 2 ∷ []
 first_three [] long = absurd (omega arith)
@@ -58,10 +53,7 @@ module _ (rest : List ℕ) (leading : Bool) (begins : surrogate_begins rest ≡ 
 
   -- two bytes are left
   pub cut_off_surrogate : length rest < 3 → IsIllFormedAfter leading rest None
-  cut_off_surrogate short = (
-    (λ point more below e. let long = has_three point more below e in absurd (omega arith)),
-    sym (error_len_here ∙ ap (λ t. cond t None (cond (is_in_range 0x80 0xBF (slice_index rest 2)) (Some 3) (Some 2))) (lt-ltb (length rest) 3 short)),
-  )
+  cut_off_surrogate short = grind (arith, nat_tests, has_three, error_len_here, lt-ltb)
 
   module _ (long : 3 ≤ length rest) where
     len_by_third : wtf8_error_len rest ≡ cond (is_in_range 0x80 0xBF (slice_index rest 2)) (Some 3) (Some 2)
@@ -89,12 +81,7 @@ module _ (rest : List ℕ) (leading : Bool) (begins : surrogate_begins rest ≡ 
           ∙ sym (surrogate_spelled (slice_index rest 0) (slice_index rest 1) (slice_index rest 2) (begins-lead rest begins) (begins-from rest begins) (begins-to rest begins) least most)
 
       range : (0xD800 ≤ unit) × (unit ≤ 0xDFFF)
-      range =
-          let from = begins-from rest begins in
-          let to = begins-to rest begins in
-          let low = least in
-          let up = most in
-          (omega arith, omega arith)
+      range = grind (arith, nat_tests, begins-from, begins-to, most)
 
       pub len_of_three : wtf8_error_len rest ≡ Some 3
       len_of_three = len_by_third ∙ ap (λ t. cond t (Some 3) (Some 2)) good
@@ -107,7 +94,6 @@ module _ (rest : List ℕ) (leading : Bool) (begins : surrogate_begins rest ≡ 
       pub paired_surrogate : leading ≡ true → IsTrailing unit → IsIllFormedAfter leading rest (Some 3)
       paired_surrogate leads trail = (
         (λ point more below e.
-            let up = range.1 in
             let same = point-unique unit point (drop 3 rest) more (omega arith) below (ap (λ b. b ++ drop 3 rest) (sym spelled) ∙ take-append-drop 3 rest ∙ e) in
             (leads, subst IsTrailing same.0 trail)),
         sym len_of_three,

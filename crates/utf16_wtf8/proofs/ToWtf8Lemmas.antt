@@ -138,11 +138,6 @@ module _ (big : Bool) (raw : List ℕ) (len : ℕ) (are : AreBytes raw) (some : 
 
 -- ---- a tail
 
-pub tail_points-few : (big : Bool) (tail : List ℕ) → length tail < 2 → tail_points big tail ≡ []
-tail_points-few big [] few = refl
-tail_points-few big (last ∷ []) few = refl
-tail_points-few big (first ∷ second ∷ after) few = absurd (omega arith)
-
 pub tail_points-unit : (big : Bool) (tail : List ℕ) → 2 ≤ length tail → tail_points big tail ≡ first_unit big tail ∷ []
 tail_points-unit big [] some = absurd (omega arith)
 tail_points-unit big (last ∷ []) some = absurd (omega arith)

@@ -1,5 +1,5 @@
 -- Code units and their code points undo each other.
-use Rattle.std.proofs.Common.{◌≡◌, ℕ, ◌+◌, ◌-◌, ◌*◌, ◌/◌, ◌%◌, ◌<◌, ◌≤◌, Bool, List, [], ◌∷◌, ◌++◌, All, flat_map, refl, sym, ap, ap₂, ◌∙◌, subst, ⊎_elim, arith}
+use Rattle.std.proofs.Common.{◌≡◌, ℕ, ◌+◌, ◌-◌, ◌/◌, ◌%◌, ◌<◌, ◌≤◌, Bool, List, [], ◌∷◌, ◌++◌, All, flat_map, refl, sym, ap, ap₂, ◌∙◌, subst, ⊎_elim, arith}
 use Rattle.std.proofs.lemmas.Bool.{cases_lt}
 use Rattle.std.proofs.lemmas.List.Elements.{All-append, All-cons, All-head, All-nil, All-tail}
 use Rattle.std.proofs.str.Utf16.{one_unit, pair_units, two_units}
@@ -44,9 +44,7 @@ begins (unit ∷ next ∷ units) = begins-step unit next units (begins units) (b
 -- ---- from units and back
 
 units_pair : (unit next : ℕ) → IsLeading unit → IsTrailing next → encode_utf16 (surrogate_pair_char unit next) ≡ unit ∷ next ∷ []
-units_pair unit next l t =
-    let same : surrogate_pair_char unit next ≡ 0x1_0000 + ((unit - 0xD800) * 0x400 + (next - 0xDC00)) = omega arith in
-    ap encode_utf16 same ∙ pair_units unit next l.0 t.0 (omega arith)
+units_pair unit next l t = grind (arith, pair_units)
 
 back : {units : List ℕ} → Begins units → All IsUnit units → units_for (code_points units) ≡ units
 back nothing are = ap units_for points-nil

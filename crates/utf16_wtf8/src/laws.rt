@@ -3,6 +3,7 @@
 //! The body of a function cites a law by a call of its function, a proof file by the lemma of that
 //! name in the module `Rattle.utf16_wtf8.proofs.LawProofs`. The statements are in
 //! `specs/Laws.antt`. They depend only on the definitions, and hold for all code units.
+#![tactic(auto, using(crate::proofs::LawProofs::laws))]
 
 ghost use Rattle.utf16_wtf8.specs.Laws.{BackAndThere, Concatenates, CutAnywhere, LenIsMaximal, NoneIfTruncated, PairHasThree, RestIsWtf8, ReturnsToWtf8, ThereAndBack, UnitsAreUnique, UnitsAreWtf8, Utf8IfWellFormed, Wtf8HasUnits};
 

@@ -8,12 +8,6 @@ use Rattle.dethrux.proofs.Bounds.{fed_within}
 use Rattle.dethrux.proofs.decoder.dethrux_decoder_feed.Goals as goal
 use Rattle.dethrux.proofs.decoder.dethrux_decoder_feed.Goals.{else-is_big_endian, then-is_big_endian}
 
-pub returns-clause-feeds : goal.returns-clause-feeds
-returns-clause-feeds c = search rules
-
-pub returns-clause-stop : goal.returns-clause-stop
-returns-clause-stop c = search rules
-
 pub returns-clause-done : goal.returns-clause-done
 returns-clause-done c =
     let bytes = stream_pending c.args.decoder.now ++ c.args.chunk.now in

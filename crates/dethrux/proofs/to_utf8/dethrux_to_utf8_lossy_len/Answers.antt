@@ -1,9 +1,6 @@
-use Rattle.std.proofs.Common.{true, false, arith, rules}
+use Rattle.std.proofs.Common.{true, false, arith}
 use Rattle.dethrux.proofs.Bounds.{lossy_within}
 use Rattle.dethrux.proofs.to_utf8.dethrux_to_utf8_lossy_len.Goals as goal
-
-pub returns-then-is_big_endian-clause-len : goal.returns-then-is_big_endian-clause-len
-returns-then-is_big_endian-clause-len c = search rules
 
 pub returns-then-is_big_endian-clause-most : goal.returns-then-is_big_endian-clause-most
 returns-then-is_big_endian-clause-most c = omega (arith, c.to_utf8_lossy_len.ensures, lossy_within true c.args.utf16.now (λ k. omega (arith, c.type_inv.utf16 k)))

@@ -10,9 +10,6 @@ returns-clause-feeds c = search rules
 pub returns-clause-stop : goal.returns-clause-stop
 returns-clause-stop c = search rules
 
-pub returns-clause-fits : goal.returns-clause-fits
-returns-clause-fits c = search rules
-
 pub returns-clause-succeeds : goal.returns-clause-succeeds
 returns-clause-succeeds c enough = encoder_fits (is_big c.args.byte_order) _ _ _ _ _ _ (returns-clause-feeds c) _ (returns-clause-stop c) enough
 

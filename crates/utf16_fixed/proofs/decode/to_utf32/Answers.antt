@@ -36,8 +36,6 @@ stops : (g : Over) (c : In-Err g)
 stops g c =
     let big = g.E.Utf16Order.BIG in
     let wrote = kept g c in
-    let within = wrote.within in
-    let left = c.if-done-raw.false in
     stops_there (char_bytes big) utf32_units (IsUtf16 big) (IsIllFormedAt big) (IsIllFormedUtf16 big) (faults_there big) _ _ _ (search rules)
     (IsUtf16-from_Encodes big _ _ wrote.gives) c.in-Err.stop c.in-Err.ensures.stop
 

@@ -33,8 +33,6 @@ stops : (g : Over) (c : In-Err g)
 stops g c =
     let big = g.E.Utf16Order.BIG in
     let wrote = kept g c in
-    let within = wrote.within in
-    let left = c.if-done-utf32.false in
     stops_there utf32_units (char_bytes big) IsUtf32 IsIllFormedUtf32At IsIllFormedUtf32 ill_formed_there _ _ _ (search rules)
     wrote.gives.scalars c.in-Err.stop c.in-Err.ensures.stop
 

@@ -18,7 +18,6 @@ loop-at-preserved g c =
 pub filled_units-requires-clause-even : goal.filled_units-requires-clause-even
 filled_units-requires-clause-even g c =
     let text = c.args.text.now in
-    let even = c.loop-at.invariant.even in
     omega (arith, ap length (take_rest text c.loop-at.at), length-drop c.loop-at.at text, counted_bytes g.E.Utf16Order.BIG text c.requires)
 
 pub with-requires : goal.with-requires

@@ -1,4 +1,4 @@
-use Rattle.std.proofs.Common.{◌≡◌, ◌-◌, ◌<◌, ◌≤◌, length, take, arith, length-take, rules}
+use Rattle.std.proofs.Common.{◌-◌, ◌<◌, ◌≤◌, length, take, arith, length-take, rules}
 use Rattle.utf16_wtf8.proofs.StreamLemmas.{ReadStart, Writes-joined, Writes-window, fits_joined, leaves_all, read_start, start_within, stops_all, stops_joined, stops_window}
 use Rattle.utf16_wtf8.proofs.stream.from_joined.Given.{Over}
 use Rattle.utf16_wtf8.proofs.stream.from_joined.Goals as goal

@@ -4,7 +4,7 @@ use Rattle.utf16_units.proofs.IllFormedLemmas.{rest_from}
 use Rattle.utf16_fixed.proofs.PartLemmas.{Writes-rest}
 use Rattle.utf16_fixed.specs.Utf32.{TranscodesToUtf32}
 use Rattle.utf16_fixed.proofs.TextLemmas.{utf32_joins}
-use Rattle.utf16_fixed.proofs.decode.write_plain.Goals as goal
+use Rattle.utf16_fixed.proofs.decode.write_run.Goals as goal
 
 pub returns-clause-wrote : goal.returns-clause-wrote
 returns-clause-wrote g c =
