@@ -1,14 +1,15 @@
 -- Prefixes and suffixes of a text, by its bytes.
-use Rattle.std.proofs.Common.{◌≡◌, ℕ, ◌+◌, ◌%◌, Bool, true, All, ◌↔◌, List, [], ◌∷◌, ◌++◌, length, take, take_all, drop, refl, sym, ap, ◌∙◌, subst, arith, append-nil, length-append, drop_at}
+use Rattle.std.proofs.Common.{◌≡◌, ℕ, ◌+◌, ◌-◌, ◌%◌, Bool, true, All, ◌↔◌, List, [], ◌∷◌, ◌++◌, length, take, take_all, drop, refl, sym, ap, ◌∙◌, subst, arith, append-nil, length-append, drop_at}
 use Rattle.std.proofs.Math.Seq.{take-append_seam}
 use Rattle.std.specs.Char.{IsScalar}
 use Rattle.utf16_units.specs.Boundary.{IsBoundary, text_between, text_from, text_to}
 use Rattle.utf16_units.specs.Encoding.{Encodes, IsUtf16, encode, is_utf16, size, text_of}
 use Rattle.utf16_units.proofs.BackChar.{length-even}
 use Rattle.utf16_units.proofs.BoundaryLemmas.{text_between-end, text_from-at, text_to-at, text_to-text_from}
-use Rattle.utf16_units.proofs.EncodingLemmas.{Encodes-text_of, IsUtf16-encode, IsUtf16-from_Encodes, IsUtf16-from_is_utf16, encode-append, encode-text_of, length-encode, length-text, text_of-Encodes, text_of-append, text_of-encode}
+use Rattle.utf16_units.proofs.EncodingLemmas.{Encodes-text_of, IsUtf16-encode, IsUtf16-from_Encodes, IsUtf16-from_is_utf16, encode-append, encode-text_of, length-encode, length-text, size-append, text_of-Encodes, text_of-append, text_of-encode}
 use Rattle.utf16_units.proofs.LawProofs.{found_exactly}
 use Rattle.utf16_units.proofs.PartLemmas.{IsBoundary-seam}
+use Rattle.utf16_str.specs.Window.{bytes_between}
 
 module _ (big : Bool) (bytes part : List ℕ) (t : IsUtf16 big bytes) (p : IsUtf16 big part) where
   -- bytes that start with the bytes of a part are a text that starts with the part
@@ -63,10 +64,27 @@ module _ (big : Bool) (bytes part : List ℕ) (t : is_utf16 big bytes ≡ true) 
       let is = bytes_end big bytes part (IsUtf16-from_is_utf16 big bytes t) (IsUtf16-from_is_utf16 big part p) front e in
       sym (ap (drop (size front)) is ∙ drop_at (encode big front) part (size front) (length-encode big front))
 
+  -- the same by the lengths
+  pub bytes_left : (front : List ℕ) → text_of big bytes ≡ front ++ text_of big part → part ≡ drop (length bytes - length part) bytes
+  bytes_left front e =
+      let start : size front ≡ length bytes - length part =
+      omega (arith, ap size e, size-append front (text_of big part), length-text big bytes (IsUtf16-from_is_utf16 big bytes t), length-text big part (IsUtf16-from_is_utf16 big part p)) in
+      bytes_after front e ∙ ap (λ n. drop n bytes) start
+
   pub bytes_before : (back : List ℕ) → text_of big bytes ≡ text_of big part ++ back → part ≡ take (length part) bytes
   bytes_before back e =
       let is = bytes_begin big bytes part (IsUtf16-from_is_utf16 big bytes t) (IsUtf16-from_is_utf16 big part p) back e in
       sym (ap (take (length part)) is ∙ take-append_seam part (encode big back))
+
+-- a prefix of what is left after a start lies between two offsets
+pub bytes_lie : (big : Bool) (bytes middle part : List ℕ) → is_utf16 big bytes ≡ true → is_utf16 big middle ≡ true → middle ≡ drop (length bytes - length middle) bytes
+    → part ≡ take (length part) middle → let start = size (text_of big bytes) - size (text_of big middle) in part ≡ bytes_between bytes start (start + length part)
+bytes_lie big bytes middle part t m after before =
+    let start = size (text_of big bytes) - size (text_of big middle) in
+    let cut : length bytes - length middle ≡ start =
+    omega (arith, length-text big bytes (IsUtf16-from_is_utf16 big bytes t), length-text big middle (IsUtf16-from_is_utf16 big middle m)) in
+    let whole : length part ≡ start + length part - start = omega arith in
+    before ∙ ap (take (length part)) (after ∙ ap (λ n. drop n bytes) cut) ∙ ap (λ n. take n (drop start bytes)) whole
 
 -- bytes begin, or end, with the encoding of a part exactly if the text does with the part
 module _ (big : Bool) (text bytes part : List ℕ) (e : Encodes big text bytes) (scalars : All IsScalar part) where

@@ -1,21 +1,18 @@
 -- How many substrings there are between occurrences of any part, and that none has it.
-use Rattle.std.proofs.Common.{◌≡◌, ℕ, ◌+◌, ◌<◌, ◌≤◌, Bool, true, false, eqb, List, [], ◌∷◌, length, length-append, map, reverse, ap, ◌∙◌, arith}
+use Rattle.std.proofs.Common.{◌≡◌, ℕ, ◌+◌, Bool, true, false, eqb, List, [], ◌∷◌, length, length-append, map, reverse, ap, ◌∙◌, arith}
 use Rattle.std.proofs.lemmas.List.{length-map, length-reverse}
 use Rattle.std.proofs.lemmas.List.Sums.{count_by-le-length}
 use Rattle.std.proofs.lemmas.List.Splits.{length-slice_split}
 use Rattle.std.specs.List.{slice_split}
 use Rattle.utf16_units.proofs.PartsEnded.{parts_lack}
-use Rattle.utf16_str.specs.Splits.{EachLacks, parts_between, parts_from, rparts_from, single_chars}
+use Rattle.utf16_str.specs.Splits.{EachLacks, parts_between, parts_from, parts_toward, rparts_from, single_chars}
 use Rattle.utf16_str.proofs.PartAbsent.{absent-between}
-use Rattle.utf16_str.proofs.PartCounts.{count-between}
+use Rattle.utf16_str.proofs.PartCounts.{Counted, count-between}
 
 pub each_lacks : (part text : List ℕ) → EachLacks part (parts_from part false text)
 each_lacks [] text = tt
 each_lacks (c ∷ []) text = parts_lack c text
 each_lacks (c ∷ d ∷ part) text = absent-between c (d ∷ part) 0 text
-
-abbrev pub Counted : ℕ → List (List ℕ) → Type 0
-Counted most parts = (0 < length parts) × (length parts ≤ most)
 
 length-single : (text : List ℕ) → length (single_chars text) ≡ length text + 1
 length-single text = length-append (map (λ c. c ∷ []) text) ([] ∷ []) ∙ ap (λ n. n + 1) (length-map text (λ c. c ∷ []))
@@ -45,3 +42,7 @@ count-rparts (c ∷ d ∷ part) begun text =
     let whole = reverse (c ∷ d ∷ part) in
     let few = count-between whole 0 (reverse text) in
     short text (parts_between whole 0 (reverse text)) (few.0, omega (arith, few.1))
+
+pub count-toward : (back : Bool) (part : List ℕ) (begun : Bool) (text : List ℕ) → Counted (length text + 2) (parts_toward back part begun text)
+count-toward false part begun text = count-parts part begun text
+count-toward true part begun text = count-rparts part begun text

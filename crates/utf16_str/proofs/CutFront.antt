@@ -12,6 +12,9 @@ pub no_part : (part : List ℕ) → size part ≡ 0 → part ≡ []
 no_part [] none = refl
 no_part (c ∷ part) none = absurd (omega (arith, none, size-cons c part, char_size-pos c))
 
+pub no_size : (part : List ℕ) → part ≡ [] → size part ≡ 0
+no_size part none = ap size none ∙ size-nil
+
 -- and a part that has one has characters
 pub long_part : (part : List ℕ) → (size part ≡ 0 → ⊥) → 0 < length part
 long_part [] some = absurd (some size-nil)

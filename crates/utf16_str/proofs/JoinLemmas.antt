@@ -1,10 +1,9 @@
 -- The substrings between occurrences of any part, joined, are the text.
 use Rattle.std.proofs.Common.{◌≡◌, ℕ, ◌<◌, Bool, true, false, eqb, List, [], ◌∷◌, ◌++◌, length, map, reverse, refl, sym, ap, ◌∙◌, arith, append_assoc, append-nil, flat_map}
-use Rattle.std.proofs.lemmas.Grind.{flat_map-append}
 use Rattle.std.proofs.lemmas.List.{length-map, length-reverse, reverse-append, reverse-reverse}
 use Rattle.std.proofs.lemmas.List.Splits.{join_with_byte-slice_split}
 use Rattle.std.specs.List.{slice_split}
-use Rattle.utf16_str.specs.Splits.{joined_with, parts_between, parts_from, rjoined_with, rparts_from, single_chars}
+use Rattle.utf16_str.specs.Splits.{in_order, joined_toward, joined_with, parts_between, parts_from, parts_toward, rjoined_with, rparts_from, single_chars}
 use Rattle.utf16_str.proofs.CutBack.{turned}
 use Rattle.utf16_str.proofs.PartCounts.{after-joined, join-between, joined}
 
@@ -23,12 +22,42 @@ join-parts (c ∷ []) begun text = join_with_byte-slice_split c text
 join-parts (c ∷ d ∷ part) begun text = join-between c (d ∷ part) 0 text
 
 -- ---- joined from the end
-join-push : (part : List ℕ) (parts : List (List ℕ)) (last : List ℕ) → 0 < length parts → joined part (parts ++ last ∷ []) ≡ joined part parts ++ (part ++ last)
-join-push part [] last some = absurd (omega (arith, some))
-join-push part (first ∷ parts) last some =
-    let g : List ℕ → List ℕ = λ t. part ++ t in
-    ap (λ t. first ++ t) (flat_map-append g parts (last ∷ []) ∙ ap (λ t. flat_map g parts ++ t) (append-nil (part ++ last)))
-    ∙ sym (append_assoc first (flat_map g parts) (part ++ last))
+pub record Joins (back : Bool) (part : List ℕ) (join : List (List ℕ) → List ℕ) : Type 0 where
+  pub one : (text : List ℕ) → join (text ∷ []) ≡ text
+  pub more : (text next : List ℕ) (texts : List (List ℕ)) → join (text ∷ next ∷ texts) ≡ in_order back text (in_order back part (join (next ∷ texts)))
+
+joins-by : (part : List ℕ) → Joins false part (joined part)
+joins-by part = record {
+  one = λ text. append-nil text;
+  more = λ text next texts. ap (λ t. text ++ t) (append_assoc part next (flat_map (λ t. part ++ t) texts));
+}
+
+joins-with : (part : List ℕ) → Joins false part (joined_with part)
+joins-with [] = joins-by []
+joins-with (c ∷ []) = record { one = λ text. refl; more = λ text next texts. refl }
+joins-with (c ∷ d ∷ part) = joins-by (c ∷ d ∷ part)
+
+-- a last substring joined to others
+join-last : (part : List ℕ) (join : List (List ℕ) → List ℕ) → Joins false part join → (parts : List (List ℕ)) (last : List ℕ) → 0 < length parts
+    → join (parts ++ last ∷ []) ≡ join parts ++ (part ++ last)
+join-last part join j [] last some = absurd (omega (arith, some))
+join-last part join j (p ∷ []) last some =
+    j.more p last [] ∙ ap (λ t. p ++ (part ++ t)) (j.one last) ∙ ap (λ t. t ++ (part ++ last)) (sym (j.one p))
+join-last part join j (p ∷ q ∷ parts) last some =
+    j.more p q (parts ++ last ∷ []) ∙ ap (λ t. p ++ (part ++ t)) (join-last part join j (q ∷ parts) last (omega arith))
+    ∙ ap (λ t. p ++ t) (sym (append_assoc part (join (q ∷ parts)) (part ++ last)))
+    ∙ sym (append_assoc p (part ++ join (q ∷ parts)) (part ++ last))
+    ∙ ap (λ t. t ++ (part ++ last)) (sym (j.more p q parts))
+
+pub joins-toward : (back : Bool) (part : List ℕ) → Joins back part (joined_toward back part)
+joins-toward false part = joins-with part
+joins-toward true part = record {
+  one = λ text. (joins-with part).one text;
+  more = λ text next texts. let parts = reverse (next ∷ texts) in
+      ap (joined_with part) (reverse-append (text ∷ []) (next ∷ texts))
+      ∙ join-last part (joined_with part) (joins-with part) parts text (omega (arith, length-reverse (next ∷ texts)))
+      ∙ sym (append_assoc (joined_with part parts) part text);
+}
 
 push : {A : Type 0} (x : A) (xs : List A) → reverse (x ∷ xs) ≡ reverse xs ++ x ∷ []
 push x xs = reverse-append (x ∷ []) xs
@@ -40,7 +69,7 @@ join-turned part (text ∷ next ∷ parts) =
     let more = next ∷ parts in
     let back = joined (reverse part) more in
     ap (joined part) (push (reverse text) (map reverse more))
-    ∙ join-push part (reverse (map reverse more)) (reverse text) (omega (arith, length-reverse (map reverse more), length-map more reverse))
+    ∙ join-last part (joined part) (joins-by part) (reverse (map reverse more)) (reverse text) (omega (arith, length-reverse (map reverse more), length-map more reverse))
     ∙ ap (λ t. t ++ (part ++ reverse text)) (join-turned part (next ∷ parts))
     ∙ ap (λ p. reverse back ++ (p ++ reverse text)) (sym (reverse-reverse part))
     ∙ sym (turned (text ++ (reverse part ++ back)) text (reverse part) back refl)
@@ -59,3 +88,7 @@ join-rparts (c ∷ d ∷ part) begun text =
     let whole = c ∷ d ∷ part in
     join-turned whole (parts_between (reverse whole) 0 (reverse text))
     ∙ ap reverse (join-some (reverse whole) (reverse text) (omega (arith, length-reverse whole))) ∙ reverse-reverse text
+
+pub join-toward : (back : Bool) (part : List ℕ) (begun : Bool) (text : List ℕ) → joined_toward back part (parts_toward back part begun text) ≡ text
+join-toward false part begun text = join-parts part begun text
+join-toward true part begun text = join-rparts part begun text

@@ -6,8 +6,8 @@ use Rattle.std.specs.Option.{is_some}
 use Rattle.utf16_units.specs.Encoding.{size}
 use Rattle.utf16_units.proofs.EncodingLemmas.{size-nil}
 use Rattle.utf16_str.specs.Matches.{closing, left_size, left_text, limited, with_terminators, without_empty_last}
-use Rattle.utf16_str.specs.Splits.{parts_left, rparts_left}
-use Rattle.utf16_str.proofs.CountLemmas.{count-parts, count-rparts}
+use Rattle.utf16_str.specs.Splits.{parts_left}
+use Rattle.utf16_str.proofs.CountLemmas.{count-parts, count-toward}
 use Rattle.utf16_str.proofs.MatchLemmas.{limited-one, with-kept, with-more, without-kept, without-more}
 use Rattle.utf16_str.proofs.SplitLemmas.{progress-part, progress-part-back}
 
@@ -16,32 +16,28 @@ pub mapped-some : {A : Type 0} (v : A → List ℕ) (rest : Option A) (none : Bo
 mapped-some v None none test is nil = false≢true (test ∙ ap not is)
 mapped-some v (Some x) none test is nil = absurd cc
 
+pub left-some : (back : Bool) (part : List ℕ) (begun : Bool) (rest : Option (List ℕ)) → (rest ≡ None → ⊥) → 0 < length (parts_left back part begun rest)
+left-some back part begun None some = absurd (some refl)
+left-some back part begun (Some text) some = (count-toward back part begun text).0
+
 module _ (part : List ℕ) (begun : Bool) where
-  pub left-some : (rest : Option (List ℕ)) → (rest ≡ None → ⊥) → 0 < length (parts_left part begun rest)
-  left-some None some = absurd (some refl)
-  left-some (Some text) some = (count-parts part begun text).0
-
-  pub rleft-some : (rest : Option (List ℕ)) → (rest ≡ None → ⊥) → 0 < length (rparts_left part begun rest)
-  rleft-some None some = absurd (some refl)
-  rleft-some (Some text) some = (count-rparts part begun text).0
-
   pub closing-some : (rest : Option (List ℕ)) → (rest ≡ None → ⊥) → closing part rest ≡ part
   closing-some None some = absurd (some refl)
   closing-some (Some text) some = refl
 
   -- a substring that is last is not empty
-  pub without-next : (text : List ℕ) (rest : Option (List ℕ)) → (rest ≡ None → ¬ (text ≡ [])) → without_empty_last (text ∷ parts_left part begun rest) ≡ text ∷ without_empty_last (parts_left part begun rest)
+  pub without-next : (text : List ℕ) (rest : Option (List ℕ)) → (rest ≡ None → ¬ (text ≡ [])) → without_empty_last (text ∷ parts_left false part begun rest) ≡ text ∷ without_empty_last (parts_left false part begun rest)
   without-next text None some = without-kept text (some refl)
-  without-next text (Some more) some = without-more text (parts_left part begun (Some more)) (count-parts part begun more).0
+  without-next text (Some more) some = without-more text (parts_left false part begun (Some more)) (count-parts part begun more).0
 
   pub with-next : (text closed : List ℕ) (rest : Option (List ℕ)) → closed ≡ text ++ closing part rest → (rest ≡ None → ¬ (closed ≡ []))
-      → with_terminators part (text ∷ parts_left part begun rest) ≡ closed ∷ with_terminators part (parts_left part begun rest)
+      → with_terminators part (text ∷ parts_left false part begun rest) ≡ closed ∷ with_terminators part (parts_left false part begun rest)
   with-next text closed None is some =
       let same : closed ≡ text = is ∙ append-nil text in
       with-kept part text (λ none. some refl (same ∙ none)) ∙ ap (λ t. t ∷ []) (sym same)
   with-next text closed (Some more) is some =
-      with-more part text (parts_left part begun (Some more)) (count-parts part begun more).0
-      ∙ ap (λ t. t ∷ with_terminators part (parts_left part begun (Some more))) (sym is)
+      with-more part text (parts_left false part begun (Some more)) (count-parts part begun more).0
+      ∙ ap (λ t. t ∷ with_terminators part (parts_left false part begun (Some more))) (sym is)
 
 pub size-left : (rest : Option (List ℕ)) → left_size rest ≡ size (left_text rest)
 size-left None = sym size-nil

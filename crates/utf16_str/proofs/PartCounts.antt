@@ -13,10 +13,10 @@ onto-few c [] = omega arith
 onto-few c (part ∷ parts) = omega arith
 
 -- ---- one or more, and at most one more than the text has characters
-module _ (part : List ℕ) where
-  abbrev Counted : ℕ → List (List ℕ) → Type 0
-  Counted most parts = (0 < length parts) × (length parts ≤ most)
+abbrev pub Counted : ℕ → List (List ℕ) → Type 0
+Counted most parts = (0 < length parts) × (length parts ≤ most)
 
+module _ (part : List ℕ) where
   next_counted : (test : Bool) (c n : ℕ) (more parts : List (List ℕ)) → Counted n more → Counted n parts → Counted (n + 1) (cond test ([] ∷ more) (onto_first c parts))
   next_counted true c n more parts few same = (omega arith, omega (arith, few.1))
   next_counted false c n more parts few same = (onto-some c parts, omega (arith, onto-few c parts, same.1))

@@ -1,5 +1,5 @@
 -- Views of substrings of a text lie in a window of its bytes.
-use Rattle.std.proofs.Common.{◌≡◌, ℕ, ◌+◌, ◌-◌, ◌<◌, Bool, true, All, List, ◌++◌, length, drop, take, Option, None, Some, refl, sym, ap, ◌∙◌, subst, arith, append_assoc, option_map, slice_index_or, IfSome}
+use Rattle.std.proofs.Common.{◌≡◌, ℕ, ◌+◌, ◌-◌, ◌^◌, ◌<◌, Bool, true, false, All, List, ◌++◌, length, drop, take, Option, None, Some, refl, sym, ap, ◌∙◌, subst, arith, append_assoc, option_map, slice_index_or, IfSome}
 use Rattle.std.proofs.Math.Seq.{drop-append_seam, take-append_seam}
 use Rattle.std.specs.Iterator.{YieldsFirstBy, YieldsLastBy}
 use Rattle.std.specs.Iterator.Runs.{EachRunFrom}
@@ -9,12 +9,13 @@ use Rattle.utf16_units.specs.Encoding.{encode, is_utf16, size, text_of}
 use Rattle.utf16_units.proofs.EncodingLemmas.{IsUtf16-from_is_utf16, encode-append, encode-text_of, length-encode, size-append}
 use Rattle.utf16_units.proofs.PartLemmas.{IsBoundary-seam}
 use Rattle.utf16_str.specs.Matches.{YieldsPartsAt}
-use Rattle.utf16_str.specs.Splits.{LiesAt, LiesIn, YieldsPartsOf, YieldsPartsOfBack}
+use Rattle.utf16_str.specs.Splits.{LiesAt, LiesIn, YieldsPartsOf, YieldsPartsOfBack, parts_toward}
 use Rattle.utf16_str.specs.Window.{IsWindowOf, bytes_between}
 use Rattle.utf16_str.specs.WStr.{wstr_bytes, wstr_text}
 use Rattle.utf16_str.specs.declared.wstr.WStr.{WStr}
-use Rattle.utf16_str.proofs.SplitLemmas.{text_runs, text_runs_back}
-use Rattle.utf16_str.proofs.WithinLemmas.{Within, WithinAt}
+use Rattle.utf16_str.proofs.CountLemmas.{count-toward}
+use Rattle.utf16_str.proofs.SplitLemmas.{few-parts, text_runs, text_runs_back}
+use Rattle.utf16_str.proofs.WithinLemmas.{Within, WithinAt, within-toward}
 
 -- the bytes between two others
 middle : (front part back : List ℕ) (i : ℕ) → i ≡ length front → bytes_between (front ++ (part ++ back)) i (i + length part) ≡ part
@@ -100,3 +101,18 @@ module _ {E : Type 0} {order : Ghosts E} (whole : WStr E order) where
   pub yields_parts_at : (left : List (ℕ × List ℕ)) → All (λ at. WithinAt (wstr_text whole) at.0 at.1) left → YieldsPartsAt whole left
   yields_parts_at =
       each_item (λ at. (at.0, wstr_text at.1)) (λ at. WithinAt (wstr_text whole) at.0 at.1) (λ at. LiesAt whole at.0 at.1) (λ at. lies_at at.0 at.1)
+
+  -- the substrings between occurrences of a part
+  module _ (back : Bool) (part : List ℕ) (left : List (List ℕ)) (is : left ≡ parts_toward back part false (wstr_text whole)) where
+    within_between : All (Within (wstr_text whole)) left
+    within_between = subst (All (Within (wstr_text whole))) (sym is) (within-toward back part (wstr_text whole))
+
+    pub yields_between : YieldsPartsOf whole left
+    yields_between = yields_parts left within_between
+
+    pub yields_between_back : YieldsPartsOfBack whole left
+    yields_between_back = yields_parts_back left within_between
+
+    pub few_between : length (wstr_bytes whole) + 2 < 2 ^ 64 → length left < 2 ^ 64
+    few_between long =
+        few-parts order.BIG (wstr_bytes whole) (length left) whole.well_formed long (omega (arith, ap length is, (count-toward back part false (wstr_text whole)).1))

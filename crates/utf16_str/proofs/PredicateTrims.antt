@@ -1,22 +1,8 @@
 -- What is left when a trim stops.
 use Rattle.std.proofs.Common.{◌≡◌, ℕ, Bool, true, false, List, [], ◌∷◌, ◌++◌, sym, ◌∙◌, subst}
 use Rattle.utf16_str.specs.Predicates.{IsTrimmedEndWith, IsTrimmedStartWith}
+use Rattle.utf16_str.proofs.AroundLemmas.{no_last, one_end}
 use Rattle.utf16_str.proofs.PredicatePassed.{IsPassed, IsPassedBack}
-
--- two lists with a last element are the same only if these are
-same_last : (front other : List ℕ) (c d : ℕ) → front ++ c ∷ [] ≡ other ++ d ∷ [] → c ≡ d
-same_last [] [] c d is = cc
-same_last [] (x ∷ []) c d is = absurd cc
-same_last [] (x ∷ y ∷ other) c d is = absurd cc
-same_last (x ∷ []) [] c d is = absurd cc
-same_last (x ∷ y ∷ front) [] c d is = absurd cc
-same_last (x ∷ front) (y ∷ other) c d is =
-    let tails : front ++ c ∷ [] ≡ other ++ d ∷ [] = cc in
-    same_last front other c d tails
-
-no_last : (front : List ℕ) (c : ℕ) → [] ≡ front ++ c ∷ [] → ⊥
-no_last [] c is = absurd cc
-no_last (x ∷ front) c is = absurd cc
 
 module _ (says : ℕ → Bool → Type 0) (text rest : List ℕ) where
   pub trimmed-stop : (c : ℕ) (more : List ℕ) → IsPassed says true text rest → rest ≡ c ∷ more → says c false → IsTrimmedStartWith says text rest
@@ -43,7 +29,7 @@ module _ (says : ℕ → Bool → Type 0) (text rest : List ℕ) where
     back = so_far.back;
     split = so_far.split;
     trimmed = so_far.passed;
-    stops = λ other d ends. subst (λ x. says x false) (same_last front other c d (sym is ∙ ends)) miss;
+    stops = λ other d ends. subst (λ x. says x false) (one_end front c other d (sym is ∙ ends)) miss;
   }
 
   pub trimmed_back-all : IsPassedBack says true text rest → rest ≡ [] → IsTrimmedEndWith says text rest

@@ -1,17 +1,16 @@
 -- The substrings of a text that is split at each delimiter: how many there are, and what an
 -- iterator over them yields.
-use Rattle.std.proofs.Common.{◌≡◌, ◌+◌, ◌^◌, ◌<◌, ◌≤◌, ℕ, Bool, true, false, cond, eq-eqb, eqb, List, [], ◌∷◌, ◌++◌, length, length-append, Some, refl, sym, subst, arith, ap, ◌∙◌}
+use Rattle.std.proofs.Common.{◌≡◌, ◌+◌, ◌^◌, ◌<◌, ◌≤◌, ℕ, Bool, true, eq-eqb, eqb, List, [], ◌∷◌, ◌++◌, length, length-append, Some, refl, sym, subst, arith, ap, ◌∙◌}
 use Rattle.std.specs.Iterator.{MakesProgress, YieldsFirstBy, YieldsLastBy, item_count}
 use Rattle.std.specs.Iterator.Runs.{EveryRun, ItemsMapTo, ItemsMapToReversed}
-use Rattle.std.specs.List.{onto_first, slice_split}
+use Rattle.std.specs.List.{slice_split}
 use Rattle.std.proofs.iter.runs.Sources.{from_back, from_front}
-use Rattle.std.proofs.lemmas.List.Sums.{count_by-le-length}
-use Rattle.std.proofs.lemmas.List.Splits.{length-slice_split, slice_split-cons_yes}
 use Rattle.utf16_units.specs.Delimited.{Lacks}
 use Rattle.utf16_units.specs.Encoding.{is_utf16, text_of}
 use Rattle.utf16_units.proofs.BoundaryLemmas.{length-le-size}
 use Rattle.utf16_units.proofs.DelimitedLemmas.{parts-last}
 use Rattle.utf16_units.proofs.EncodingLemmas.{IsUtf16-from_is_utf16, length-text}
+use Rattle.utf16_str.proofs.PredicateAround.{split-around}
 
 -- an iterator that returned the first text left has fewer left
 module _ {A B : Type 0} (can : List B → Type 0) (always : (items : List B) → can items) (before after : List B) (x : A) (b : B) where
@@ -38,32 +37,13 @@ pub text_runs_back : {A B : Type 0} (v : A → B) → EveryRun (YieldsLastBy v (
 text_runs_back v = from_back (YieldsLastBy v (λ rest. rest)) v (λ rest. rest) (λ s t h. ap length h.0) (λ s x t h. h)
 
 -- the last substring is what follows the last delimiter
-onto_front : (c : ℕ) (parts : List (List ℕ)) (last : List ℕ) → 0 < length parts → onto_first c (parts ++ last ∷ []) ≡ onto_first c parts ++ last ∷ []
-onto_front c [] last some = absurd (omega arith)
-onto_front c (part ∷ parts) last some = refl
-
-more-last : (p : ℕ → Bool) (yes : Bool) (c : ℕ) (front text last : List ℕ) → slice_split p text ≡ slice_split p front ++ last ∷ []
-    → cond yes ([] ∷ slice_split p text) (onto_first c (slice_split p text)) ≡ cond yes ([] ∷ slice_split p front) (onto_first c (slice_split p front)) ++ last ∷ []
-more-last p true c front text last is = ap (λ parts. [] ∷ parts) is
-more-last p false c front text last is = ap (onto_first c) is ∙ onto_front c (slice_split p front) last (omega (arith, length-slice_split p front))
-
-pub parts-back : (p : ℕ → Bool) (front last : List ℕ) (c : ℕ) → p c ≡ true → slice_split p last ≡ last ∷ [] → slice_split p (front ++ c ∷ last) ≡ slice_split p front ++ last ∷ []
-parts-back p [] last c delimits one = slice_split-cons_yes p c last delimits ∙ ap (λ parts. [] ∷ parts) one
-parts-back p (d ∷ front) last c delimits one = more-last p (p d) d front (front ++ c ∷ last) last (parts-back p front last c delimits one)
-
 pub parts-last_one : (e : ℕ) (text front last : List ℕ) → text ≡ front ++ e ∷ last → Lacks e last
     → slice_split (λ c. eqb c e) text ≡ slice_split (λ c. eqb c e) front ++ last ∷ []
 parts-last_one e text front last is lacks =
-    ap (slice_split (λ c. eqb c e)) is ∙ parts-back (λ c. eqb c e) front last e (eq-eqb e e refl) (parts-last e last lacks)
+    ap (slice_split (λ c. eqb c e)) is ∙ split-around (λ c. eqb c e) front e last (eq-eqb e e refl)
+    ∙ ap (λ parts. slice_split (λ c. eqb c e) front ++ parts) (parts-last e last lacks)
 
 -- there are fewer than 2 ^ 64 substrings, since the bytes are a slice's
-pub parts-bound : (big : Bool) (bytes : List ℕ) (p : ℕ → Bool) → is_utf16 big bytes ≡ true → length bytes + 1 < 2 ^ 64 → length (slice_split p (text_of big bytes)) < 2 ^ 64
-parts-bound big bytes p checked long =
-    let text = text_of big bytes in
-    let size = length-text big bytes (IsUtf16-from_is_utf16 big bytes checked) in
-    omega (arith, long, size, length-le-size text, length-slice_split p text, count_by-le-length p text)
-
--- lists that are at most two longer than the text are not longer than that either
 pub few-parts : (big : Bool) (bytes : List ℕ) (n : ℕ) → is_utf16 big bytes ≡ true → length bytes + 2 < 2 ^ 64 → n ≤ length (text_of big bytes) + 2 → n < 2 ^ 64
 few-parts big bytes n checked long few =
     omega (arith, long, few, length-text big bytes (IsUtf16-from_is_utf16 big bytes checked), length-le-size (text_of big bytes))

@@ -1,68 +1,55 @@
 -- White space at the ends of a text.
-use Rattle.std.proofs.Common.{◌≡◌, ℕ, ◌-◌, Bool, true, false, cond, ◌&&◌, eqb, List, [], ◌∷◌, ◌++◌, length, take, drop, refl, sym, ap, ◌∙◌, arith, length-append}
+use Rattle.std.proofs.Common.{◌≡◌, ℕ, All, Bool, true, false, cond, ◌&&◌, eqb, List, [], ◌∷◌, ◌++◌, length, refl, sym, ap, ◌∙◌, arith, append-nil, append_assoc}
+use Rattle.std.proofs.lemmas.List.Elements.{All-head, All-tail}
 use Rattle.std.specs.Char.{is_whitespace}
 use Rattle.std.specs.Str.{drop_trailing_whitespace, skip_leading_whitespace}
-use Rattle.utf16_units.specs.Encoding.{is_utf16, size, text_of}
-use Rattle.utf16_units.proofs.EncodingLemmas.{IsUtf16-from_is_utf16, length-text, size-append}
-use Rattle.utf16_str.proofs.AffixLemmas.{bytes_after, bytes_before}
+use Rattle.utf16_str.specs.Predicates.{IsTrimmedEndWith, IsTrimmedStartWith}
+
+abbrev SaysIsWhite : ℕ → Bool → Type 0
+SaysIsWhite c b = b ≡ is_whitespace c
+
+abbrev AllWhite : List ℕ → Type 0
+AllWhite text = All (λ c. SaysIsWhite c true) text
 
 -- ---- at the start
-module _ (text rest : List ℕ) (c : ℕ) (first : text ≡ c ∷ rest) where
-  pub skip-white : is_whitespace c ≡ true → skip_leading_whitespace text ≡ skip_leading_whitespace rest
-  skip-white white = ap skip_leading_whitespace first ∙ ap (λ b. cond b (skip_leading_whitespace rest) (c ∷ rest)) white
+skip-front : (front rest : List ℕ) → AllWhite front → skip_leading_whitespace (front ++ rest) ≡ skip_leading_whitespace rest
+skip-front [] rest all = refl
+skip-front (c ∷ front) rest all =
+    ap (λ b. cond b (skip_leading_whitespace (front ++ rest)) (c ∷ (front ++ rest))) (sym (All-head (λ d. SaysIsWhite d true) c front all))
+    ∙ skip-front front rest (All-tail (λ d. SaysIsWhite d true) c front all)
 
-  pub skip-other : is_whitespace c ≡ false → skip_leading_whitespace text ≡ text
-  skip-other other =
-      ap skip_leading_whitespace first ∙ ap (λ b. cond b (skip_leading_whitespace rest) (c ∷ rest)) other ∙ sym first
+skip-none : (rest : List ℕ) → ((c : ℕ) (more : List ℕ) → rest ≡ c ∷ more → SaysIsWhite c false) → skip_leading_whitespace rest ≡ rest
+skip-none [] stops = refl
+skip-none (c ∷ rest) stops = ap (λ b. cond b (skip_leading_whitespace rest) (c ∷ rest)) (sym (stops c rest refl))
 
-skipped : (white : Bool) (c : ℕ) (text : List ℕ) → (front : List ℕ) × (text ≡ front ++ skip_leading_whitespace text)
-    → (front : List ℕ) × (c ∷ text ≡ front ++ cond white (skip_leading_whitespace text) (c ∷ text))
-skipped true c text more = (c ∷ more.0, ap (λ t. c ∷ t) more.1)
-skipped false c text more = ([], refl)
-
--- the text ends with what is left
-pub skip-back : (text : List ℕ) → (front : List ℕ) × (text ≡ front ++ skip_leading_whitespace text)
-skip-back [] = ([], refl)
-skip-back (c ∷ text) = skipped (is_whitespace c) c text (skip-back text)
+pub trimmed-start : (text rest : List ℕ) → IsTrimmedStartWith SaysIsWhite text rest → rest ≡ skip_leading_whitespace text
+trimmed-start text rest start =
+    sym (ap skip_leading_whitespace start.split ∙ skip-front start.front rest start.trimmed ∙ skip-none rest start.stops)
 
 -- ---- at the end
-pub drop-white : (front : List ℕ) (c : ℕ) → is_whitespace c ≡ true → drop_trailing_whitespace (front ++ c ∷ []) ≡ drop_trailing_whitespace front
+drop-white : (front : List ℕ) (c : ℕ) → is_whitespace c ≡ true → drop_trailing_whitespace (front ++ c ∷ []) ≡ drop_trailing_whitespace front
 drop-white [] c white = ap (λ b. cond (b && eqb 0 0) [] (c ∷ [])) white
 drop-white (d ∷ front) c white = ap (λ t. cond (is_whitespace d && eqb (length t) 0) [] (d ∷ t)) (drop-white front c white)
 
--- what is left after a character stays with it, if it is not empty
-stays : (white : Bool) (d c : ℕ) (front left : List ℕ) → left ≡ front ++ c ∷ [] → cond (white && eqb (length left) 0) [] (d ∷ left) ≡ d ∷ (front ++ c ∷ [])
-stays false d c front left e = ap (λ t. d ∷ t) e
-stays true d c front left e =
-    let some : eqb (length left) 0 ≡ false = let n = ap length e ∙ length-append front (c ∷ []) in grind arith in
-    ap (λ b. cond b [] (d ∷ left)) some ∙ ap (λ t. d ∷ t) e
+drop-back : (rest back : List ℕ) → AllWhite back → drop_trailing_whitespace (rest ++ back) ≡ drop_trailing_whitespace rest
+drop-back rest [] all = ap drop_trailing_whitespace (append-nil rest)
+drop-back rest (c ∷ back) all =
+    ap drop_trailing_whitespace (sym (append_assoc rest (c ∷ []) back))
+    ∙ drop-back (rest ++ c ∷ []) back (All-tail (λ d. SaysIsWhite d true) c back all)
+    ∙ drop-white rest c (sym (All-head (λ d. SaysIsWhite d true) c back all))
 
-pub drop-other : (front : List ℕ) (c : ℕ) → is_whitespace c ≡ false → drop_trailing_whitespace (front ++ c ∷ []) ≡ front ++ c ∷ []
-drop-other [] c other = ap (λ b. cond (b && eqb 0 0) [] (c ∷ [])) other
-drop-other (d ∷ front) c other =
-    stays (is_whitespace d) d c front (drop_trailing_whitespace (front ++ c ∷ [])) (drop-other front c other)
+-- a character before others that are left is left too
+stays : (white : Bool) (c d : ℕ) (rest left : List ℕ) → left ≡ d ∷ rest → cond (white && eqb (length left) 0) [] (c ∷ left) ≡ c ∷ (d ∷ rest)
+stays false c d rest left e = ap (λ t. c ∷ t) e
+stays true c d rest left e =
+    let some : eqb (length left) 0 ≡ false = let n = ap length e in grind arith in
+    ap (λ b. cond b [] (c ∷ left)) some ∙ ap (λ t. c ∷ t) e
 
-dropped : (none : Bool) (c : ℕ) (text : List ℕ) → (back : List ℕ) × (text ≡ drop_trailing_whitespace text ++ back)
-    → (back : List ℕ) × (c ∷ text ≡ cond none [] (c ∷ drop_trailing_whitespace text) ++ back)
-dropped true c text more = (c ∷ text, refl)
-dropped false c text more = (more.0, ap (λ t. c ∷ t) more.1)
+drop-none : (rest : List ℕ) → ((front : List ℕ) (c : ℕ) → rest ≡ front ++ c ∷ [] → SaysIsWhite c false) → drop_trailing_whitespace rest ≡ rest
+drop-none [] stops = refl
+drop-none (c ∷ []) stops = ap (λ b. cond (b && eqb 0 0) [] (c ∷ [])) (sym (stops [] c refl))
+drop-none (c ∷ d ∷ rest) stops =
+    stays (is_whitespace c) c d rest (drop_trailing_whitespace (d ∷ rest)) (drop-none (d ∷ rest) (λ front e is. stops (c ∷ front) e (ap (λ t. c ∷ t) is)))
 
--- the text begins with what is left
-pub drop-front : (text : List ℕ) → (back : List ℕ) × (text ≡ drop_trailing_whitespace text ++ back)
-drop-front [] = ([], refl)
-drop-front (c ∷ text) = dropped (is_whitespace c && eqb (length (drop_trailing_whitespace text)) 0) c text (drop-front text)
-
--- ---- the bytes that are left
-module _ (big : Bool) (bytes part : List ℕ) (t : is_utf16 big bytes ≡ true) (p : is_utf16 big part ≡ true) where
-  pub bytes-skip : text_of big part ≡ skip_leading_whitespace (text_of big bytes) → part ≡ drop (length bytes - length part) bytes
-  bytes-skip is =
-      let ends = skip-back (text_of big bytes) in
-      let split = ends.1 ∙ ap (λ t. ends.0 ++ t) (sym is) in
-      let start : size ends.0 ≡ length bytes - length part =
-      omega (arith, ap size split, size-append ends.0 (text_of big part), length-text big bytes (IsUtf16-from_is_utf16 big bytes t), length-text big part (IsUtf16-from_is_utf16 big part p)) in
-      bytes_after big bytes part t p ends.0 split ∙ ap (λ n. drop n bytes) start
-
-  pub bytes-drop : text_of big part ≡ drop_trailing_whitespace (text_of big bytes) → part ≡ take (length part) bytes
-  bytes-drop is =
-      let begins = drop-front (text_of big bytes) in
-      bytes_before big bytes part t p begins.0 (begins.1 ∙ ap (λ t. t ++ begins.0) (sym is))
+pub trimmed-end : (text rest : List ℕ) → IsTrimmedEndWith SaysIsWhite text rest → rest ≡ drop_trailing_whitespace text
+trimmed-end text rest end = sym (ap drop_trailing_whitespace end.split ∙ drop-back rest end.back end.trimmed ∙ drop-none rest end.stops)

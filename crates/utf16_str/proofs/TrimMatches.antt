@@ -1,9 +1,6 @@
 -- A part taken off the ends of a text, as often as it is there.
-use Rattle.std.proofs.Common.{◌≡◌, ℕ, zero, suc, ◌-◌, ◌<◌, Bool, true, List, ◌++◌, length, length-append, drop, refl, sym, ap, ◌∙◌, arith, append_assoc, append-nil}
+use Rattle.std.proofs.Common.{◌≡◌, ℕ, zero, suc, ◌<◌, List, ◌++◌, length, length-append, refl, sym, ap, ◌∙◌, arith, append_assoc, append-nil}
 use Rattle.std.specs.List.{repeat}
-use Rattle.utf16_units.specs.Encoding.{is_utf16, size, text_of}
-use Rattle.utf16_units.proofs.EncodingLemmas.{IsUtf16-from_is_utf16, length-text, size-append}
-use Rattle.utf16_str.proofs.AffixLemmas.{bytes_after}
 
 -- the part was taken off a number of times
 pub record IsTakenStart (part text left : List ℕ) : Type 0 where
@@ -20,7 +17,7 @@ taken-start part text = record { times = 0; split = refl }
 pub taken-end : (part text : List ℕ) → IsTakenEnd part text text
 taken-end part text = record { times = 0; split = sym (append-nil text) }
 
-repeat-push : (n : ℕ) (part : List ℕ) → repeat n part ++ part ≡ part ++ repeat n part
+pub repeat-push : (n : ℕ) (part : List ℕ) → repeat n part ++ part ≡ part ++ repeat n part
 repeat-push zero part = sym (append-nil part)
 repeat-push (suc n) part = append_assoc part (repeat n part) part ∙ ap (λ t. part ++ t) (repeat-push n part)
 
@@ -43,11 +40,3 @@ shorter part rest text is some = omega (arith, ap length is, length-append part 
 
 pub shorter_front : (part front text : List ℕ) → text ≡ front ++ part → 0 < length part → length front < length text
 shorter_front part front text is some = omega (arith, ap length is, length-append front part, some)
-
--- the bytes that are left
-pub bytes-left : (big : Bool) (bytes part front : List ℕ) → is_utf16 big bytes ≡ true → is_utf16 big part ≡ true → text_of big bytes ≡ front ++ text_of big part
-    → part ≡ drop (length bytes - length part) bytes
-bytes-left big bytes part front t p split =
-    let start : size front ≡ length bytes - length part =
-    omega (arith, ap size split, size-append front (text_of big part), length-text big bytes (IsUtf16-from_is_utf16 big bytes t), length-text big part (IsUtf16-from_is_utf16 big part p)) in
-    bytes_after big bytes part t p front split ∙ ap (λ n. drop n bytes) start

@@ -1,5 +1,5 @@
 -- The substrings of a text that its iterators give are in the text.
-use Rattle.std.proofs.Common.{◌≡◌, ℕ, zero, suc, ◌+◌, Bool, arith, true, false, cond, eqb, All, List, [], ◌∷◌, ◌++◌, length, drop, take, refl, sym, ap, ◌∙◌, append_assoc, append-nil, flat_map}
+use Rattle.std.proofs.Common.{◌≡◌, ℕ, zero, suc, ◌+◌, Bool, arith, true, false, cond, eqb, All, List, [], ◌∷◌, ◌++◌, length, drop, take, refl, sym, ap, ◌∙◌, append_assoc, append-nil}
 use Rattle.std.proofs.lemmas.List.{take-append-drop}
 use Rattle.std.proofs.lemmas.List.Elements.{All-cons, All-filter, All-head, All-nil, All-same, All-tail, All-weaker}
 use Rattle.std.specs.List.{onto_first, slice_split}
@@ -7,9 +7,9 @@ use Rattle.std.specs.Prelude.{◌-◌, filter, nat_lt, slice_index}
 use Rattle.std.specs.Str.Lines.{lines_of_parts, strip_carriage_return}
 use Rattle.utf16_units.specs.Encoding.{size}
 use Rattle.utf16_units.proofs.EncodingLemmas.{size-append, size-nil}
-use Rattle.utf16_str.specs.Matches.{limited, match_offsets, with_terminators, without_empty_last}
-use Rattle.utf16_str.specs.Splits.{joined_with, split_by}
-use Rattle.utf16_str.proofs.JoinLemmas.{join-parts}
+use Rattle.utf16_str.specs.Matches.{limited, match_offsets, rmatch_offsets, with_terminators, without_empty_last}
+use Rattle.utf16_str.specs.Splits.{in_order, joined_toward, joined_with, parts_toward, rjoined_with}
+use Rattle.utf16_str.proofs.JoinLemmas.{join-toward, joins-toward}
 
 -- the part is in the text
 abbrev pub Within : List ℕ → List ℕ → Type 0
@@ -23,9 +23,6 @@ WithinAt text at part = (w : Within text part) × (at ≡ size w.0)
 within-take : (text part : List ℕ) (n : ℕ) → Within text part → Within text (take n part)
 within-take text part n w =
     (w.0, drop n part ++ w.1, w.2 ∙ ap (λ t. w.0 ++ (t ++ w.1)) (sym (take-append-drop n part)) ∙ ap (λ t. w.0 ++ t) (append_assoc (take n part) (drop n part) w.1))
-
-regroup : (front p sep rest : List ℕ) → front ++ (p ++ (sep ++ rest)) ≡ (front ++ (p ++ sep)) ++ rest
-regroup front p sep rest = ap (λ t. front ++ t) (sym (append_assoc p sep rest)) ∙ sym (append_assoc front (p ++ sep) rest)
 
 -- ---- lists without the last item, if that is empty
 module _ (P : List ℕ → Type 0) where
@@ -98,78 +95,103 @@ within-split p text = within-starts text (slice_split p text) (starts-split p te
 pub within-words : (p : ℕ → Bool) (text : List ℕ) → All (Within text) (filter (λ word. nat_lt 0 (length word)) (slice_split p text))
 within-words p text = All-filter (λ word. nat_lt 0 (length word)) (Within text) (slice_split p text) (within-split p text)
 
--- ---- substrings that are joined by a part
-pub record Joins (part : List ℕ) (join : List (List ℕ) → List ℕ) : Type 0 where
-  pub one : (text : List ℕ) → join (text ∷ []) ≡ text
-  pub more : (text next : List ℕ) (texts : List (List ℕ)) → join (text ∷ next ∷ texts) ≡ text ++ (part ++ join (next ∷ texts))
+-- ---- substrings that are joined by a part. What was taken before them is `done`
+regroup : (back : Bool) (done taken left : List ℕ) → in_order back done (in_order back taken left) ≡ in_order back (in_order back done taken) left
+regroup false done taken left = sym (append_assoc done taken left)
+regroup true done taken left = append_assoc left taken done
 
-pub joins-with : (part : List ℕ) → Joins part (joined_with part)
-joins-with [] = record { one = λ text. append-nil text; more = λ text next texts. refl }
-joins-with (c ∷ []) = record { one = λ text. refl; more = λ text next texts. refl }
-joins-with (c ∷ d ∷ part) = record {
-  one = λ text. append-nil text;
-  more = λ text next texts. let whole = c ∷ d ∷ part in ap (λ t. text ++ t) (append_assoc whole next (flat_map (λ t. whole ++ t) texts));
-}
+within-taken : (back : Bool) (text done part left : List ℕ) → text ≡ in_order back done (in_order back part left) → Within text part
+within-taken false text done part left is = (done, left, is)
+within-taken true text done part left is = (left, done, is ∙ append_assoc left part done)
 
-module _ (part : List ℕ) (join : List (List ℕ) → List ℕ) (j : Joins part join) (text : List ℕ) where
-  at_front : (front p : List ℕ) → text ≡ front ++ join (p ∷ []) → Within text p
-  at_front front p is = (front, [], is ∙ ap (λ t. front ++ t) (j.one p ∙ sym (append-nil p)))
+within-all : (back : Bool) (text done part : List ℕ) → text ≡ in_order back done part → Within text part
+within-all false text done part is = (done, [], is ∙ ap (λ t. done ++ t) (sym (append-nil part)))
+within-all true text done part is = ([], done, is)
 
-  before : (front p q : List ℕ) (parts : List (List ℕ)) → text ≡ front ++ join (p ∷ q ∷ parts) → text ≡ front ++ (p ++ (part ++ join (q ∷ parts)))
-  before front p q parts is = is ∙ ap (λ t. front ++ t) (j.more p q parts)
+none-done : (back : Bool) (text : List ℕ) → text ≡ in_order back [] text
+none-done false text = refl
+none-done true text = sym (append-nil text)
 
-  later : (front p q : List ℕ) (parts : List (List ℕ)) → text ≡ front ++ join (p ∷ q ∷ parts) → text ≡ (front ++ (p ++ part)) ++ join (q ∷ parts)
-  later front p q parts is = before front p q parts is ∙ regroup front p part (join (q ∷ parts))
+module _ (back : Bool) (part text : List ℕ) where
+  abbrev join : List (List ℕ) → List ℕ
+  join = joined_toward back part
 
-  within-joined : (front : List ℕ) (parts : List (List ℕ)) → text ≡ front ++ join parts → All (Within text) parts
-  within-joined front [] is = All-nil (Within text)
-  within-joined front (p ∷ []) is = All-cons (Within text) p [] (at_front front p is) (All-nil (Within text))
-  within-joined front (p ∷ q ∷ parts) is =
-      All-cons (Within text) p (q ∷ parts) (front, part ++ join (q ∷ parts), before front p q parts is)
-      (within-joined (front ++ (p ++ part)) (q ∷ parts) (later front p q parts is))
+  at_end : (done p : List ℕ) → text ≡ in_order back done (join (p ∷ [])) → Within text p
+  at_end done p is = within-all back text done p (is ∙ ap (in_order back done) ((joins-toward back part).one p))
 
-  within-limited : (n : ℕ) (front : List ℕ) (parts : List (List ℕ)) → text ≡ front ++ join parts → All (Within text) (limited join n parts)
-  within-limited zero front parts is = All-nil (Within text)
-  within-limited (suc n) front [] is = All-nil (Within text)
-  within-limited (suc zero) front (p ∷ parts) is =
-      All-cons (Within text) (join (p ∷ parts)) [] (front, [], is ∙ ap (λ t. front ++ t) (sym (append-nil (join (p ∷ parts))))) (All-nil (Within text))
-  within-limited (suc (suc n)) front (p ∷ []) is = All-cons (Within text) p [] (at_front front p is) (All-nil (Within text))
-  within-limited (suc (suc n)) front (p ∷ q ∷ parts) is =
-      All-cons (Within text) p (limited join (suc n) (q ∷ parts)) (front, part ++ join (q ∷ parts), before front p q parts is)
-      (within-limited (suc n) (front ++ (p ++ part)) (q ∷ parts) (later front p q parts is))
+  before : (done p q : List ℕ) (parts : List (List ℕ)) → text ≡ in_order back done (join (p ∷ q ∷ parts)) → text ≡ in_order back done (in_order back p (in_order back part (join (q ∷ parts))))
+  before done p q parts is = is ∙ ap (in_order back done) ((joins-toward back part).more p q parts)
 
-  within-matches : (offset : ℕ) (front : List ℕ) (parts : List (List ℕ)) → offset ≡ size front → text ≡ front ++ join parts
-      → All (λ at. WithinAt text at.0 at.1) (match_offsets part offset parts)
-  within-matches offset front [] here is = All-nil (λ at. WithinAt text at.0 at.1)
-  within-matches offset front (p ∷ []) here is = All-nil (λ at. WithinAt text at.0 at.1)
-  within-matches offset front (p ∷ q ∷ parts) here is =
-      let past : offset + size p + size part ≡ size (front ++ (p ++ part)) = omega (arith, here, size-append front (p ++ part), size-append p part) in
-      All-cons (λ at. WithinAt text at.0 at.1) (offset + size p, part) (match_offsets part (offset + size p + size part) (q ∷ parts))
-      ((front ++ p, join (q ∷ parts), before front p q parts is ∙ sym (append_assoc front p (part ++ join (q ∷ parts)))), omega (arith, here, size-append front p))
-      (within-matches (offset + size p + size part) (front ++ (p ++ part)) (q ∷ parts) past (later front p q parts is))
+  later : (done p q : List ℕ) (parts : List (List ℕ)) → text ≡ in_order back done (join (p ∷ q ∷ parts)) → text ≡ in_order back (in_order back (in_order back done p) part) (join (q ∷ parts))
+  later done p q parts is =
+      before done p q parts is ∙ regroup back done p (in_order back part (join (q ∷ parts))) ∙ regroup back (in_order back done p) part (join (q ∷ parts))
 
-  within-terminated : (front : List ℕ) (parts : List (List ℕ)) → text ≡ front ++ join parts → All (Within text) (with_terminators part parts)
-  within-terminated front [] is = All-nil (Within text)
-  within-terminated front (p ∷ []) is = unless_empty (Within text) (eqb (length p) 0) p (at_front front p is)
-  within-terminated front (p ∷ q ∷ parts) is =
+  within-joined : (done : List ℕ) (parts : List (List ℕ)) → text ≡ in_order back done (join parts) → All (Within text) parts
+  within-joined done [] is = All-nil (Within text)
+  within-joined done (p ∷ []) is = All-cons (Within text) p [] (at_end done p is) (All-nil (Within text))
+  within-joined done (p ∷ q ∷ parts) is =
+      All-cons (Within text) p (q ∷ parts) (within-taken back text done p _ (before done p q parts is))
+      (within-joined (in_order back (in_order back done p) part) (q ∷ parts) (later done p q parts is))
+
+  within-limited : (n : ℕ) (done : List ℕ) (parts : List (List ℕ)) → text ≡ in_order back done (join parts) → All (Within text) (limited join n parts)
+  within-limited zero done parts is = All-nil (Within text)
+  within-limited (suc n) done [] is = All-nil (Within text)
+  within-limited (suc zero) done (p ∷ parts) is = All-cons (Within text) (join (p ∷ parts)) [] (within-all back text done (join (p ∷ parts)) is) (All-nil (Within text))
+  within-limited (suc (suc n)) done (p ∷ []) is = All-cons (Within text) p [] (at_end done p is) (All-nil (Within text))
+  within-limited (suc (suc n)) done (p ∷ q ∷ parts) is =
+      All-cons (Within text) p (limited join (suc n) (q ∷ parts)) (within-taken back text done p _ (before done p q parts is))
+      (within-limited (suc n) (in_order back (in_order back done p) part) (q ∷ parts) (later done p q parts is))
+
+  -- the substrings, and the first n of them
+  module _ (parts : List (List ℕ)) (is : text ≡ join parts) where
+    pub within-parts : All (Within text) parts
+    within-parts = within-joined [] parts (is ∙ none-done back (join parts))
+
+    pub within-first : (n : ℕ) → All (Within text) (limited join n parts)
+    within-first n = within-limited n [] parts (is ∙ none-done back (join parts))
+
+pub within-toward : (back : Bool) (part text : List ℕ) → All (Within text) (parts_toward back part false text)
+within-toward back part text = within-parts back part text (parts_toward back part false text) (sym (join-toward back part false text))
+
+-- ---- those with the part, and where the part is
+module _ (part text : List ℕ) where
+  within-terminated : (done : List ℕ) (parts : List (List ℕ)) → text ≡ done ++ joined_with part parts → All (Within text) (with_terminators part parts)
+  within-terminated done [] is = All-nil (Within text)
+  within-terminated done (p ∷ []) is = unless_empty (Within text) (eqb (length p) 0) p (at_end false part text done p is)
+  within-terminated done (p ∷ q ∷ parts) is =
       All-cons (Within text) (p ++ part) (with_terminators part (q ∷ parts))
-      (front, join (q ∷ parts), before front p q parts is ∙ ap (λ t. front ++ t) (sym (append_assoc p part (join (q ∷ parts)))))
-      (within-terminated (front ++ (p ++ part)) (q ∷ parts) (later front p q parts is))
+      (done, joined_with part (q ∷ parts), before false part text done p q parts is ∙ ap (λ t. done ++ t) (sym (append_assoc p part (joined_with part (q ∷ parts)))))
+      (within-terminated ((done ++ p) ++ part) (q ∷ parts) (later false part text done p q parts is))
 
--- the substrings of a text that are joined by a part, the first n of them, those with it, and
--- where it is
-module _ (part text : List ℕ) (parts : List (List ℕ)) (is : text ≡ joined_with part parts) where
-  pub within-parts : All (Within text) parts
-  within-parts = within-joined part (joined_with part) (joins-with part) text [] parts is
+  within-matches : (offset : ℕ) (done : List ℕ) (parts : List (List ℕ)) → offset ≡ size done → text ≡ done ++ joined_with part parts
+      → All (λ at. WithinAt text at.0 at.1) (match_offsets part offset parts)
+  within-matches offset done [] here is = All-nil (λ at. WithinAt text at.0 at.1)
+  within-matches offset done (p ∷ []) here is = All-nil (λ at. WithinAt text at.0 at.1)
+  within-matches offset done (p ∷ q ∷ parts) here is =
+      let rest = joined_with part (q ∷ parts) in
+      let past : offset + size p + size part ≡ size ((done ++ p) ++ part) = omega (arith, here, size-append (done ++ p) part, size-append done p) in
+      All-cons (λ at. WithinAt text at.0 at.1) (offset + size p, part) (match_offsets part (offset + size p + size part) (q ∷ parts))
+      ((done ++ p, rest, before false part text done p q parts is ∙ sym (append_assoc done p (part ++ rest))), omega (arith, here, size-append done p))
+      (within-matches (offset + size p + size part) ((done ++ p) ++ part) (q ∷ parts) past (later false part text done p q parts is))
 
-  pub within-first : (n : ℕ) → All (Within text) (limited (joined_with part) n parts)
-  within-first n = within-limited part (joined_with part) (joins-with part) text n [] parts is
+  within-rmatches : (end : ℕ) (done : List ℕ) (parts : List (List ℕ)) → end ≡ size (rjoined_with part parts) → text ≡ rjoined_with part parts ++ done
+      → All (λ at. WithinAt text at.0 at.1) (rmatch_offsets part end parts)
+  within-rmatches end done [] here is = All-nil (λ at. WithinAt text at.0 at.1)
+  within-rmatches end done (p ∷ []) here is = All-nil (λ at. WithinAt text at.0 at.1)
+  within-rmatches end done (p ∷ q ∷ parts) here is =
+      let rest = rjoined_with part (q ∷ parts) in
+      let past : end - size p - size part ≡ size rest =
+      omega (arith, here, ap size ((joins-toward true part).more p q parts), size-append (rest ++ part) p, size-append rest part) in
+      let next = later true part text done p q parts is in
+      All-cons (λ at. WithinAt text at.0 at.1) (end - size p - size part, part) (rmatch_offsets part (end - size p - size part) (q ∷ parts)) ((rest, p ++ done, next), past)
+      (within-rmatches (end - size p - size part) (part ++ (p ++ done)) (q ∷ parts) past next)
 
-  pub within-ended : All (Within text) (with_terminators part parts)
-  within-ended = within-terminated part (joined_with part) (joins-with part) text [] parts is
+  module _ (parts : List (List ℕ)) where
+    pub within-ended : text ≡ joined_with part parts → All (Within text) (with_terminators part parts)
+    within-ended is = within-terminated [] parts is
 
-  pub within-at : All (λ at. WithinAt text at.0 at.1) (match_offsets part 0 parts)
-  within-at = within-matches part (joined_with part) (joins-with part) text 0 [] parts (sym size-nil) is
+    pub within-at : text ≡ joined_with part parts → All (λ at. WithinAt text at.0 at.1) (match_offsets part 0 parts)
+    within-at is = within-matches 0 [] parts (sym size-nil) is
 
-pub within-split_by : (part text : List ℕ) → All (Within text) (split_by part text)
-within-split_by part text = within-parts part text (split_by part text) (sym (join-parts part false text))
+    pub within-rat : text ≡ rjoined_with part parts → All (λ at. WithinAt text at.0 at.1) (rmatch_offsets part (size text) parts)
+    within-rat is = within-rmatches (size text) [] parts (ap size is) (is ∙ none-done true (rjoined_with part parts))

@@ -1,15 +1,16 @@
 -- The words of a text between the characters that pass a test, one by one from either end, and a
 -- predicate that gives the answers of the test.
-use Rattle.std.proofs.Common.{◌≡◌, ◌≢◌, ℕ, All, Bool, true, false, cond, List, [], ◌∷◌, ◌++◌, length, refl, sym, ap, ◌∙◌, arith, append-nil, nat_lt}
+use Rattle.std.proofs.Common.{◌≡◌, ◌≢◌, ◌+◌, ◌≤◌, ℕ, All, Bool, true, false, cond, List, [], ◌∷◌, ◌++◌, length, refl, sym, ap, ◌∙◌, arith, append-nil, nat_lt}
 use Rattle.std.proofs.lemmas.Bool.{false≢true}
 use Rattle.std.proofs.lemmas.List.Elements.{All-head, All-tail, All-weaker, filter-append}
-use Rattle.std.proofs.lemmas.List.Splits.{slice_split-cons_yes, slice_split_at, slice_split_none}
+use Rattle.std.proofs.lemmas.List.Splits.{length-slice_split, slice_split-cons_yes, slice_split_at, slice_split_none}
+use Rattle.std.proofs.lemmas.List.Sums.{count_by-le-length, length-filter}
 use Rattle.std.specs.List.{filter, slice_split}
 use Rattle.utf16_str.specs.Predicates.{AnswersBy, IsCutWith, IsLastCutWith, IsTrimmedEndWith, IsTrimmedStartWith, SaysOfEach}
 use Rattle.utf16_str.specs.Splits.{words_by}
 use Rattle.utf16_str.proofs.PredicateAround.{split-around}
 
-abbrev pub not_empty : List ℕ → Bool
+abbrev not_empty : List ℕ → Bool
 not_empty word = nat_lt 0 (length word)
 
 kept : (word : List ℕ) (parts : List (List ℕ)) → word ≢ [] → filter not_empty (word ∷ parts) ≡ word ∷ filter not_empty parts
@@ -17,6 +18,11 @@ kept [] parts some = absurd (some refl)
 kept (c ∷ word) parts some =
     let filled : nat_lt 0 (length (c ∷ word)) ≡ true = grind arith in
     ap (λ b. cond b ((c ∷ word) ∷ filter not_empty parts) (filter not_empty parts)) filled
+
+pub few-words : (p : ℕ → Bool) (text : List ℕ) → length (words_by p text) ≤ length text + 1
+few-words p text =
+    let parts = slice_split p text in
+    omega (arith, length-filter not_empty parts, count_by-le-length not_empty parts, length-slice_split p text, count_by-le-length p text)
 
 module _ (p : ℕ → Bool) where
   abbrev words : List ℕ → List (List ℕ)

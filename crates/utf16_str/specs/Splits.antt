@@ -1,5 +1,5 @@
 -- The substrings of a text that is split at each occurrence of a part, its lines, and its words.
-use Rattle.std.specs.Prelude.{◌≡◌, ◌==◌, ℕ, zero, suc, ◌+◌, ◌-◌, ◌≤◌, ⊤, All, Bool, false, List, [], ◌∷◌, ◌++◌, Option, None, Some, filter, length, map, nat_eq, nat_lt, reverse, if◌then◌else◌}
+use Rattle.std.specs.Prelude.{◌≡◌, ◌==◌, ℕ, zero, suc, ◌+◌, ◌-◌, ◌≤◌, ⊤, All, Bool, true, false, List, [], ◌∷◌, ◌++◌, Option, None, Some, filter, length, map, nat_eq, nat_lt, reverse, if◌then◌else◌}
 use Rattle.std.specs.Char.{is_whitespace}
 use Rattle.std.specs.Iterator.{YieldsFirstBy, YieldsLastBy}
 use Rattle.std.specs.Iterator.Runs.{EachRunFrom, EveryRun, ItemsMapTo, ItemsMapToReversed}
@@ -65,14 +65,20 @@ split_by part text = parts_from part false text
 abbrev pub rsplit_by : List ℕ → List ℕ → List (List ℕ)
 rsplit_by part text = rparts_from part false text
 
--- the same for what is left of a text: none if nothing is left
-abbrev pub parts_left : List ℕ → Bool → Option (List ℕ) → List (List ℕ)
-parts_left part begun None = []
-parts_left part begun (Some rest) = parts_from part begun rest
+-- the same from the start of a text, or from its end if `back` is true
+abbrev pub parts_toward : Bool → List ℕ → Bool → List ℕ → List (List ℕ)
+parts_toward false part begun text = parts_from part begun text
+parts_toward true part begun text = rparts_from part begun text
 
-abbrev pub rparts_left : List ℕ → Bool → Option (List ℕ) → List (List ℕ)
-rparts_left part begun None = []
-rparts_left part begun (Some rest) = rparts_from part begun rest
+-- the same for what is left of a text: none if nothing is left
+abbrev pub parts_left : Bool → List ℕ → Bool → Option (List ℕ) → List (List ℕ)
+parts_left back part begun None = []
+parts_left back part begun (Some rest) = parts_toward back part begun rest
+
+-- what is taken from the start of a text, or from its end, and what is left: as they are in it
+abbrev pub in_order : Bool → List ℕ → List ℕ → List ℕ
+in_order false taken left = taken ++ left
+in_order true taken left = left ++ taken
 
 -- the substrings with the part between each two
 abbrev pub joined_with : List ℕ → List (List ℕ) → List ℕ
@@ -82,6 +88,10 @@ joined_with (c ∷ d ∷ part) parts = join_by (λ text. text) (c ∷ d ∷ part
 
 abbrev pub rjoined_with : List ℕ → List (List ℕ) → List ℕ
 rjoined_with part parts = joined_with part (reverse parts)
+
+abbrev pub joined_toward : Bool → List ℕ → List (List ℕ) → List ℕ
+joined_toward false part parts = joined_with part parts
+joined_toward true part parts = rjoined_with part parts
 
 -- no substring has the part, unless it is empty
 abbrev pub EachLacks : List ℕ → List (List ℕ) → Type 0

@@ -26,7 +26,6 @@ mod words;
 mod wstr;
 mod wstr_mut;
 
-pub use crate::ascii_whitespace::WStrSplitAsciiWhitespace;
 pub use crate::iters::{WStrCharIndices, WStrChars};
 pub use crate::lines::WStrLines;
 pub use crate::matches::{WStrMatchIndices, WStrMatches, WStrRMatchIndices};
@@ -36,7 +35,7 @@ pub use crate::split::{WStrRSplit, WStrSplit};
 pub use crate::split_with::WStrSplitWith;
 pub use crate::splitn::{WStrRSplitN, WStrSplitN};
 pub use crate::terminators::{WStrSplitInclusive, WStrSplitTerminator};
-pub use crate::words::WStrSplitWhitespace;
+pub use crate::words::{WStrSplitAsciiWhitespace, WStrSplitWhitespace};
 pub use crate::wstr::WStr;
 pub use crate::wstr_mut::WStrMut;
 pub use utf16_bytes::Pattern;

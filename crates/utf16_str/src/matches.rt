@@ -1,14 +1,14 @@
 //! The occurrences of a pattern in a text that do not overlap, with or without their offsets.
 
-ghost use Rattle.std.specs.Prelude.{◌≡◌, ◌+◌, ◌^◌, ◌<◌, ℕ, List, length, map, option_map};
+ghost use Rattle.std.specs.Prelude.{◌≡◌, ◌+◌, ◌^◌, ◌<◌, ℕ, List, false, length, map, option_map, true};
 ghost use Rattle.std.specs.Iterator.{YieldsFirstBy, item_count};
 ghost use Rattle.utf16_units.specs.Encoding.{size};
 ghost use Rattle.utf16_str.specs.Matches.{YieldsPartsAt, YieldsTextsAt, left_size, match_offsets, rmatch_offsets};
-ghost use Rattle.utf16_str.specs.Splits.{YieldsPartsOf, YieldsTexts, parts_left, rparts_left, rsplit_by, split_by};
+ghost use Rattle.utf16_str.specs.Splits.{YieldsPartsOf, YieldsTexts, parts_left, rsplit_by, split_by};
 ghost use Rattle.utf16_str.specs.WStr.{wstr_text};
 
 use crate::WStr;
-use crate::remaining::Remaining;
+use crate::remaining::{Backward, Forward, Remaining};
 use std::marker::Model;
 use utf16_bytes::Pattern;
 use utf16_units::Utf16Order;
@@ -25,7 +25,7 @@ impl<'a, E: Utf16Order, P: Pattern<E>> Model for WStrMatchIndices<'a, E, P> {
     ghost Value = { List (ℕ × List ℕ) };
 
     ghost view = { λ it. match_offsets (P.part it.left.pattern) it.offset
-        (parts_left (P.part it.left.pattern) it.left.begun (option_map wstr_text it.left.rest)) };
+        (parts_left false (P.part it.left.pattern) it.left.begun (option_map wstr_text it.left.rest)) };
 
     ghost invariant = { λ it. it.offset + left_size (option_map wstr_text it.left.rest) < 2 ^ 64 };
 }
@@ -39,7 +39,7 @@ impl<'a, E: Utf16Order, P: Pattern<E>> Iterator for WStrMatchIndices<'a, E, P> {
 
     #[inline]
     fn next(&mut self) -> Option<(usize, WStr<'a, E>)> {
-        let (part, closed) = self.left.next_part()?;
+        let (part, closed) = self.left.next_part::<Forward>()?;
         if self.left.rest.is_none() {
             return None;
         }
@@ -89,7 +89,7 @@ impl<'a, E: Utf16Order, P: Pattern<E>> Model for WStrRMatchIndices<'a, E, P> {
 
     ghost view = { λ it. rmatch_offsets (P.part it.left.pattern)
         (left_size (option_map wstr_text it.left.rest))
-        (rparts_left (P.part it.left.pattern) it.left.begun (option_map wstr_text it.left.rest)) };
+        (parts_left true (P.part it.left.pattern) it.left.begun (option_map wstr_text it.left.rest)) };
 }
 
 impl<'a, E: Utf16Order, P: Pattern<E>> Iterator for WStrRMatchIndices<'a, E, P> {
@@ -101,7 +101,7 @@ impl<'a, E: Utf16Order, P: Pattern<E>> Iterator for WStrRMatchIndices<'a, E, P> 
 
     #[inline]
     fn next(&mut self) -> Option<(usize, WStr<'a, E>)> {
-        let (part, closed) = self.left.last_part()?;
+        let (part, closed) = self.left.next_part::<Backward>()?;
         let before = self.left.rest?;
         let (found, _) = closed.split_at(closed.len() - part.len());
         Some((before.len(), found))

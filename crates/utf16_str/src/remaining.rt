@@ -1,8 +1,8 @@
 //! The parts of a text between occurrences of a pattern, one by one from either end.
 
-ghost use Rattle.std.specs.Prelude.{◌≡◌, ◌++◌, ◌∷◌, [], IfSome, IsNone, MatchOption, None, Some, false, option_map, true};
+ghost use Rattle.std.specs.Prelude.{◌≡◌, ◌∷◌, [], Bool, IfSome, IsNone, MatchOption, None, Some, false, option_map, true};
 ghost use Rattle.utf16_str.specs.Matches.{closing, left_text};
-ghost use Rattle.utf16_str.specs.Splits.{parts_from, parts_left, rparts_from, rparts_left};
+ghost use Rattle.utf16_str.specs.Splits.{in_order, parts_left, parts_toward};
 ghost use Rattle.utf16_str.specs.WStr.{wstr_text};
 
 use crate::WStr;
@@ -34,102 +34,101 @@ impl<'a, E: Utf16Order, P: Pattern<E>> Remaining<'a, E, P> {
         }
     }
 
-    // Takes the next part: without the occurrence that ends it, and with it.
+    // Takes the next part in a direction: without the occurrence that ends it, and with it.
     #[inline]
-    pub(crate) fn next_part(&mut self) -> Option<(WStr<'a, E>, WStr<'a, E>)>
+    pub(crate) fn next_part<D: Direction>(&mut self) -> Option<(WStr<'a, E>, WStr<'a, E>)>
         ensures pattern { self.new.pattern ≡ self.old.pattern }
         ensures parts { MatchOption result
-            (parts_left (P.part self.old.pattern) self.old.begun
+            (parts_left D.BACK (P.part self.old.pattern) self.old.begun
             (option_map wstr_text self.old.rest) ≡ [])
-            (λ part. parts_left (P.part self.old.pattern) self.old.begun
+            (λ part. parts_left D.BACK (P.part self.old.pattern) self.old.begun
             (option_map wstr_text self.old.rest)
-            ≡ wstr_text part.0 ∷ parts_left (P.part self.new.pattern) self.new.begun
-            (option_map wstr_text self.new.rest)) }
-        ensures done { IsNone result → self.new.rest ≡ None }
-        ensures closed { IfSome result (λ part. wstr_text part.1 ≡ wstr_text part.0
-            ++ closing (P.part self.new.pattern) (option_map wstr_text self.new.rest)) }
-        ensures joined { IfSome result (λ part. left_text (option_map wstr_text self.old.rest)
-            ≡ wstr_text part.1 ++ left_text (option_map wstr_text self.new.rest)) }
-    {
-        let rest = self.rest?;
-        let Some((part, after)) = rest.cut(self.pattern, self.begun) else {
-            self.rest = None;
-            return Some((rest, rest));
-        };
-        self.begun = true;
-        self.rest = Some(after);
-        let (closed, _) = rest.split_at(rest.len() - after.len());
-        Some((part, closed))
-    }
-
-    // Takes the last part: without the occurrence before it, and with it.
-    #[inline]
-    pub(crate) fn last_part(&mut self) -> Option<(WStr<'a, E>, WStr<'a, E>)>
-        ensures pattern { self.new.pattern ≡ self.old.pattern }
-        ensures parts { MatchOption result
-            (rparts_left (P.part self.old.pattern) self.old.begun
-            (option_map wstr_text self.old.rest) ≡ [])
-            (λ part. rparts_left (P.part self.old.pattern) self.old.begun
-            (option_map wstr_text self.old.rest)
-            ≡ wstr_text part.0 ∷ rparts_left (P.part self.new.pattern) self.new.begun
+            ≡ wstr_text part.0 ∷ parts_left D.BACK (P.part self.new.pattern) self.new.begun
             (option_map wstr_text self.new.rest)) }
         ensures done { IsNone result → self.new.rest ≡ None }
         ensures closed { IfSome result (λ part. wstr_text part.1
-            ≡ closing (P.part self.new.pattern) (option_map wstr_text self.new.rest)
-            ++ wstr_text part.0) }
+            ≡ in_order D.BACK (wstr_text part.0)
+            (closing (P.part self.new.pattern) (option_map wstr_text self.new.rest))) }
         ensures joined { IfSome result (λ part. left_text (option_map wstr_text self.old.rest)
-            ≡ left_text (option_map wstr_text self.new.rest) ++ wstr_text part.1) }
+            ≡ in_order D.BACK (wstr_text part.1)
+            (left_text (option_map wstr_text self.new.rest))) }
     {
-        let rest = self.rest?;
-        let Some((before, part)) = rest.rcut(self.pattern, self.begun) else {
+        let text = self.rest?;
+        let Some((part, closed, rest)) = D::cut(text, self.pattern, self.begun) else {
             self.rest = None;
-            return Some((rest, rest));
+            return Some((text, text));
         };
         self.begun = true;
-        self.rest = Some(before);
-        let (_, closed) = rest.split_at(before.len());
+        self.rest = Some(rest);
         Some((part, closed))
     }
 }
 
-impl<'a, E: Utf16Order> WStr<'a, E> {
-    // The text before the next occurrence of a pattern and the text after it, where `begun` says
-    // whether the empty pattern occurred just before the text.
-    #[inline]
-    fn cut<P: Pattern<E>>(self, pattern: P, begun: bool) -> Option<(WStr<'a, E>, WStr<'a, E>)>
-        ensures parts { MatchOption result
-            (parts_from (P.part pattern) begun (wstr_text self.entry)
-            ≡ wstr_text self.entry ∷ [])
-            (λ cut. parts_from (P.part pattern) begun (wstr_text self.entry)
-            ≡ wstr_text cut.0 ∷ parts_from (P.part pattern) true (wstr_text cut.1)) }
-        ensures joined { IfSome result (λ cut. wstr_text self.entry
-            ≡ wstr_text cut.0 ++ (P.part pattern ++ wstr_text cut.1)) }
-    {
-        if !begun || pattern.encoded_len() > 0 {
-            return self.split_once(pattern);
-        }
-        let (_, after) = self.split_first()?;
-        let (first, _) = self.split_at(self.len() - after.len());
-        Some((first, after))
-    }
+/// The end of a text from which its parts are taken.
+pub trait Direction {
+    ghost BACK: { Bool };
 
-    // The text before the last occurrence of a pattern and the text after it, where `begun` says
-    // whether the empty pattern occurred just after the text.
-    #[inline]
-    fn rcut<P: Pattern<E>>(self, pattern: P, begun: bool) -> Option<(WStr<'a, E>, WStr<'a, E>)>
+    /// Returns the text up to the next occurrence of a pattern, the same with the occurrence, and
+    /// the text after it, or `None` if it does not occur. `begun` says whether the empty pattern
+    /// occurred just before the text.
+    fn cut<'a, E: Utf16Order, P: Pattern<E>>(
+        text: WStr<'a, E>,
+        pattern: P,
+        begun: bool,
+    ) -> Option<(WStr<'a, E>, WStr<'a, E>, WStr<'a, E>)>
         ensures parts { MatchOption result
-            (rparts_from (P.part pattern) begun (wstr_text self.entry)
-            ≡ wstr_text self.entry ∷ [])
-            (λ cut. rparts_from (P.part pattern) begun (wstr_text self.entry)
-            ≡ wstr_text cut.1 ∷ rparts_from (P.part pattern) true (wstr_text cut.0)) }
-        ensures joined { IfSome result (λ cut. wstr_text self.entry
-            ≡ wstr_text cut.0 ++ (P.part pattern ++ wstr_text cut.1)) }
-    {
+            (parts_toward BACK (P.part pattern) begun (wstr_text text.entry)
+            ≡ wstr_text text.entry ∷ [])
+            (λ cut. parts_toward BACK (P.part pattern) begun (wstr_text text.entry)
+            ≡ wstr_text cut.0 ∷ parts_toward BACK (P.part pattern) true (wstr_text cut.2)) }
+        ensures closed { IfSome result (λ cut. wstr_text cut.1
+            ≡ in_order BACK (wstr_text cut.0) (P.part pattern)) }
+        ensures joined { IfSome result (λ cut. wstr_text text.entry
+            ≡ in_order BACK (wstr_text cut.1) (wstr_text cut.2)) };
+}
+
+/// Parts are taken from the start of a text.
+pub struct Forward;
+
+impl Direction for Forward {
+    ghost BACK = { false };
+
+    #[inline]
+    fn cut<'a, E: Utf16Order, P: Pattern<E>>(
+        text: WStr<'a, E>,
+        pattern: P,
+        begun: bool,
+    ) -> Option<(WStr<'a, E>, WStr<'a, E>, WStr<'a, E>)> {
         if !begun || pattern.encoded_len() > 0 {
-            return self.rsplit_once(pattern);
+            let (part, after) = text.split_once(pattern)?;
+            let (closed, _) = text.split_at(text.len() - after.len());
+            return Some((part, closed, after));
         }
-        let (_, before) = self.split_last()?;
-        let (_, last) = self.split_at(before.len());
-        Some((before, last))
+        let (_, after) = text.split_first()?;
+        let (first, _) = text.split_at(text.len() - after.len());
+        Some((first, first, after))
+    }
+}
+
+/// Parts are taken from the end of a text.
+pub struct Backward;
+
+impl Direction for Backward {
+    ghost BACK = { true };
+
+    #[inline]
+    fn cut<'a, E: Utf16Order, P: Pattern<E>>(
+        text: WStr<'a, E>,
+        pattern: P,
+        begun: bool,
+    ) -> Option<(WStr<'a, E>, WStr<'a, E>, WStr<'a, E>)> {
+        if !begun || pattern.encoded_len() > 0 {
+            let (before, part) = text.rsplit_once(pattern)?;
+            let (_, closed) = text.split_at(before.len());
+            return Some((part, closed, before));
+        }
+        let (_, before) = text.split_last()?;
+        let (_, last) = text.split_at(before.len());
+        Some((last, last, before))
     }
 }

@@ -2,31 +2,38 @@
 
 ghost use Rattle.std.specs.Prelude.{◌≡◌, ◌^◌, ◌<◌, ◌∷◌, [], ℕ, List, length, option_map};
 ghost use Rattle.std.specs.Iterator.{YieldsFirstBy, YieldsLastBy, item_count};
-ghost use Rattle.utf16_str.specs.Splits.{EachLacks, YieldsPartsOf, YieldsPartsOfBack, YieldsTexts, YieldsTextsBack, joined_with, parts_left, rparts_left, rsplit_by, split_by};
+ghost use Rattle.utf16_str.specs.Splits.{EachLacks, YieldsPartsOf, YieldsPartsOfBack, YieldsTexts, YieldsTextsBack, joined_with, parts_left, rsplit_by, split_by};
 ghost use Rattle.utf16_str.specs.WStr.{wstr_text};
 
 use crate::WStr;
-use crate::remaining::Remaining;
-use std::marker::Model;
+use crate::remaining::{Backward, Direction, Forward, Remaining};
+use std::marker::{Model, PhantomData};
 use utf16_bytes::Pattern;
 use utf16_units::Utf16Order;
 
-/// An iterator over the remaining substrings of a [`WStr`] separated by a delimiter, for a `char`
-/// from either end. Each is a view without the delimiter. Once none is left, `next` and `next_back`
-/// always return `None`.
+/// An iterator over the remaining substrings of a [`WStr`] separated by a delimiter. It goes in the
+/// direction `D`, and for a `char` from either end. Each is a view without the delimiter. Once none
+/// is left, `next` and `next_back` always return `None`.
 #[derive(Drop)]
-pub struct WStrSplit<'a, E: Utf16Order, P: Pattern<E>> {
+pub struct WStrParts<'a, E: Utf16Order, P: Pattern<E>, D: Direction> {
     left: Remaining<'a, E, P>,
+    direction: PhantomData<D>,
 }
 
-impl<'a, E: Utf16Order, P: Pattern<E>> Model for WStrSplit<'a, E, P> {
+/// An iterator over the remaining substrings of a [`WStr`], in order: see [`WStrParts`].
+pub type WStrSplit<'a, E, P> = WStrParts<'a, E, P, Forward>;
+
+/// An iterator over the remaining substrings of a [`WStr`], the last first: see [`WStrParts`].
+pub type WStrRSplit<'a, E, P> = WStrParts<'a, E, P, Backward>;
+
+impl<'a, E: Utf16Order, P: Pattern<E>, D: Direction> Model for WStrParts<'a, E, P, D> {
     ghost Value = { List (List ℕ) };
 
-    ghost view = { λ it. parts_left (P.part it.left.pattern) it.left.begun
+    ghost view = { λ it. parts_left D.BACK (P.part it.left.pattern) it.left.begun
         (option_map wstr_text it.left.rest) };
 }
 
-impl<'a, E: Utf16Order, P: Pattern<E>> Iterator for WStrSplit<'a, E, P> {
+impl<'a, E: Utf16Order, P: Pattern<E>, D: Direction> Iterator for WStrParts<'a, E, P, D> {
     type Item = WStr<'a, E>;
 
     ghost next_gives = { YieldsFirstBy wstr_text (λ rest. rest) };
@@ -35,45 +42,17 @@ impl<'a, E: Utf16Order, P: Pattern<E>> Iterator for WStrSplit<'a, E, P> {
 
     #[inline]
     fn next(&mut self) -> Option<WStr<'a, E>> {
-        let (part, _) = self.left.next_part()?;
+        let (part, _) = self.left.next_part::<D>()?;
         Some(part)
     }
 }
 
-impl<'a, E: Utf16Order> DoubleEndedIterator for WStrSplit<'a, E, char> {
+impl<'a, E: Utf16Order> DoubleEndedIterator for WStrParts<'a, E, char, Forward> {
     ghost next_back_gives = { YieldsLastBy wstr_text (λ rest. rest) };
 
     #[inline]
     fn next_back(&mut self) -> Option<WStr<'a, E>> {
-        let (part, _) = self.left.last_part()?;
-        Some(part)
-    }
-}
-
-/// An iterator over the remaining substrings of a [`WStr`] separated by a delimiter, the last
-/// first. Each is a view without the delimiter. Once none is left, `next` always returns `None`.
-#[derive(Drop)]
-pub struct WStrRSplit<'a, E: Utf16Order, P: Pattern<E>> {
-    left: Remaining<'a, E, P>,
-}
-
-impl<'a, E: Utf16Order, P: Pattern<E>> Model for WStrRSplit<'a, E, P> {
-    ghost Value = { List (List ℕ) };
-
-    ghost view = { λ it. rparts_left (P.part it.left.pattern) it.left.begun
-        (option_map wstr_text it.left.rest) };
-}
-
-impl<'a, E: Utf16Order, P: Pattern<E>> Iterator for WStrRSplit<'a, E, P> {
-    type Item = WStr<'a, E>;
-
-    ghost next_gives = { YieldsFirstBy wstr_text (λ rest. rest) };
-
-    ghost remaining = { item_count (λ rest. rest) };
-
-    #[inline]
-    fn next(&mut self) -> Option<WStr<'a, E>> {
-        let (part, _) = self.left.last_part()?;
+        let (part, _) = self.left.next_part::<Backward>()?;
         Some(part)
     }
 }
@@ -104,8 +83,9 @@ impl<'a, E: Utf16Order> WStr<'a, E> {
         ensures within { YieldsPartsOf self.entry result }
         ensures within_back { YieldsPartsOfBack self.entry result }
     {
-        WStrSplit {
+        WStrParts {
             left: Remaining::new(self, delimiter),
+            direction: PhantomData,
         }
     }
 
@@ -125,8 +105,9 @@ impl<'a, E: Utf16Order> WStr<'a, E> {
         ensures runs { YieldsTexts self.entry }
         ensures within { YieldsPartsOf self.entry result }
     {
-        WStrRSplit {
+        WStrParts {
             left: Remaining::new(self, delimiter),
+            direction: PhantomData,
         }
     }
 }

@@ -3,32 +3,41 @@
 ghost use Rattle.std.specs.Prelude.{◌≡◌, ◌≤◌, ℕ, List, length, option_map, reverse};
 ghost use Rattle.std.specs.Iterator.{YieldsFirstBy, item_count};
 ghost use Rattle.utf16_str.specs.Matches.{limited};
-ghost use Rattle.utf16_str.specs.Splits.{YieldsPartsOf, YieldsTexts, joined_with, parts_left, rjoined_with, rparts_left, rsplit_by, split_by};
+ghost use Rattle.utf16_str.specs.Splits.{YieldsPartsOf, YieldsTexts, joined_toward, joined_with, parts_left, rjoined_with, rsplit_by, split_by};
 ghost use Rattle.utf16_str.specs.WStr.{wstr_text};
 
 use crate::WStr;
-use crate::remaining::Remaining;
-use std::marker::Model;
+use crate::remaining::{Backward, Direction, Forward, Remaining};
+use std::marker::{Model, PhantomData};
 use utf16_bytes::Pattern;
 use utf16_units::Utf16Order;
 
 /// An iterator over at most a number of remaining substrings of a [`WStr`] separated by a
-/// delimiter. Each is a view; the last one has the rest of the text. Once none is left, `next`
-/// always returns `None`.
+/// delimiter, in the direction `D`. Each is a view; the last one that it gives has the rest of the
+/// text. Once none is left, `next` always returns `None`.
 #[derive(Drop)]
-pub struct WStrSplitN<'a, E: Utf16Order, P: Pattern<E>> {
+pub struct WStrPartsN<'a, E: Utf16Order, P: Pattern<E>, D: Direction> {
     left: Remaining<'a, E, P>,
     count: usize,
+    direction: PhantomData<D>,
 }
 
-impl<'a, E: Utf16Order, P: Pattern<E>> Model for WStrSplitN<'a, E, P> {
+/// An iterator over at most a number of substrings of a [`WStr`], in order: see [`WStrPartsN`].
+pub type WStrSplitN<'a, E, P> = WStrPartsN<'a, E, P, Forward>;
+
+/// An iterator over at most a number of substrings of a [`WStr`], the last first: see
+/// [`WStrPartsN`].
+pub type WStrRSplitN<'a, E, P> = WStrPartsN<'a, E, P, Backward>;
+
+impl<'a, E: Utf16Order, P: Pattern<E>, D: Direction> Model for WStrPartsN<'a, E, P, D> {
     ghost Value = { List (List ℕ) };
 
-    ghost view = { λ it. limited (joined_with (P.part it.left.pattern)) it.count
-        (parts_left (P.part it.left.pattern) it.left.begun (option_map wstr_text it.left.rest)) };
+    ghost view = { λ it. limited (joined_toward D.BACK (P.part it.left.pattern)) it.count
+        (parts_left D.BACK (P.part it.left.pattern) it.left.begun
+        (option_map wstr_text it.left.rest)) };
 }
 
-impl<'a, E: Utf16Order, P: Pattern<E>> Iterator for WStrSplitN<'a, E, P> {
+impl<'a, E: Utf16Order, P: Pattern<E>, D: Direction> Iterator for WStrPartsN<'a, E, P, D> {
     type Item = WStr<'a, E>;
 
     ghost next_gives = { YieldsFirstBy wstr_text (λ rest. rest) };
@@ -44,44 +53,7 @@ impl<'a, E: Utf16Order, P: Pattern<E>> Iterator for WStrSplitN<'a, E, P> {
         if self.count == 0 {
             return self.left.rest;
         }
-        let (part, _) = self.left.next_part()?;
-        Some(part)
-    }
-}
-
-/// An iterator over at most a number of remaining substrings of a [`WStr`] separated by a
-/// delimiter, the last first. Each is a view; the last one that it gives has the rest of the text.
-/// Once none is left, `next` always returns `None`.
-#[derive(Drop)]
-pub struct WStrRSplitN<'a, E: Utf16Order, P: Pattern<E>> {
-    left: Remaining<'a, E, P>,
-    count: usize,
-}
-
-impl<'a, E: Utf16Order, P: Pattern<E>> Model for WStrRSplitN<'a, E, P> {
-    ghost Value = { List (List ℕ) };
-
-    ghost view = { λ it. limited (rjoined_with (P.part it.left.pattern)) it.count
-        (rparts_left (P.part it.left.pattern) it.left.begun (option_map wstr_text it.left.rest)) };
-}
-
-impl<'a, E: Utf16Order, P: Pattern<E>> Iterator for WStrRSplitN<'a, E, P> {
-    type Item = WStr<'a, E>;
-
-    ghost next_gives = { YieldsFirstBy wstr_text (λ rest. rest) };
-
-    ghost remaining = { item_count (λ rest. rest) };
-
-    #[inline]
-    fn next(&mut self) -> Option<WStr<'a, E>> {
-        if self.count == 0 {
-            return None;
-        }
-        self.count -= 1;
-        if self.count == 0 {
-            return self.left.rest;
-        }
-        let (part, _) = self.left.last_part()?;
+        let (part, _) = self.left.next_part::<D>()?;
         Some(part)
     }
 }
@@ -104,9 +76,10 @@ impl<'a, E: Utf16Order> WStr<'a, E> {
         ensures runs { YieldsTexts self.entry }
         ensures within { YieldsPartsOf self.entry result }
     {
-        WStrSplitN {
+        WStrPartsN {
             left: Remaining::new(self, delimiter),
             count: n,
+            direction: PhantomData,
         }
     }
 
@@ -127,9 +100,10 @@ impl<'a, E: Utf16Order> WStr<'a, E> {
         ensures runs { YieldsTexts self.entry }
         ensures within { YieldsPartsOf self.entry result }
     {
-        WStrRSplitN {
+        WStrPartsN {
             left: Remaining::new(self, delimiter),
             count: n,
+            direction: PhantomData,
         }
     }
 }

@@ -1,13 +1,13 @@
 //! The substrings of a text that each end with a terminator, without it and with it.
 
-ghost use Rattle.std.specs.Prelude.{◌≡◌, ◌^◌, ◌<◌, ℕ, List, length, option_map};
+ghost use Rattle.std.specs.Prelude.{◌≡◌, ◌^◌, ◌<◌, ℕ, List, false, length, option_map};
 ghost use Rattle.std.specs.Iterator.{YieldsFirstBy, item_count};
 ghost use Rattle.utf16_str.specs.Matches.{with_terminators, without_empty_last};
 ghost use Rattle.utf16_str.specs.Splits.{YieldsPartsOf, YieldsTexts, parts_left, split_by};
 ghost use Rattle.utf16_str.specs.WStr.{wstr_text};
 
 use crate::WStr;
-use crate::remaining::Remaining;
+use crate::remaining::{Forward, Remaining};
 use std::marker::Model;
 use utf16_bytes::Pattern;
 use utf16_units::Utf16Order;
@@ -22,7 +22,7 @@ pub struct WStrSplitTerminator<'a, E: Utf16Order, P: Pattern<E>> {
 impl<'a, E: Utf16Order, P: Pattern<E>> Model for WStrSplitTerminator<'a, E, P> {
     ghost Value = { List (List ℕ) };
 
-    ghost view = { λ it. without_empty_last (parts_left (P.part it.left.pattern) it.left.begun
+    ghost view = { λ it. without_empty_last (parts_left false (P.part it.left.pattern) it.left.begun
         (option_map wstr_text it.left.rest)) };
 }
 
@@ -35,7 +35,7 @@ impl<'a, E: Utf16Order, P: Pattern<E>> Iterator for WStrSplitTerminator<'a, E, P
 
     #[inline]
     fn next(&mut self) -> Option<WStr<'a, E>> {
-        let (part, _) = self.left.next_part()?;
+        let (part, _) = self.left.next_part::<Forward>()?;
         if self.left.rest.is_none() && part.is_empty() {
             return None;
         }
@@ -54,7 +54,7 @@ impl<'a, E: Utf16Order, P: Pattern<E>> Model for WStrSplitInclusive<'a, E, P> {
     ghost Value = { List (List ℕ) };
 
     ghost view = { λ it. with_terminators (P.part it.left.pattern)
-        (parts_left (P.part it.left.pattern) it.left.begun (option_map wstr_text it.left.rest)) };
+        (parts_left false (P.part it.left.pattern) it.left.begun (option_map wstr_text it.left.rest)) };
 }
 
 impl<'a, E: Utf16Order, P: Pattern<E>> Iterator for WStrSplitInclusive<'a, E, P> {
@@ -66,7 +66,7 @@ impl<'a, E: Utf16Order, P: Pattern<E>> Iterator for WStrSplitInclusive<'a, E, P>
 
     #[inline]
     fn next(&mut self) -> Option<WStr<'a, E>> {
-        let (_, part) = self.left.next_part()?;
+        let (_, part) = self.left.next_part::<Forward>()?;
         if self.left.rest.is_none() && part.is_empty() {
             return None;
         }

@@ -7,6 +7,7 @@ ghost use Rattle.utf16_str.specs.Window.{bytes_between};
 ghost use Rattle.utf16_str.specs.WStr.{wstr_bytes, wstr_text};
 
 use crate::WStr;
+use crate::words::{Space, UnicodeSpace};
 use utf16_units::Utf16Order;
 
 impl<'a, E: Utf16Order> WStr<'a, E> {
@@ -26,14 +27,7 @@ impl<'a, E: Utf16Order> WStr<'a, E> {
             ≡ drop (length (wstr_bytes self.entry) - length (wstr_bytes result))
             (wstr_bytes self.entry) }
     {
-        let mut text = self;
-        while let Some((c, rest)) = text.split_first() {
-            if !c.is_whitespace() {
-                return text;
-            }
-            text = rest;
-        }
-        text
+        self.trim_start_by(&UnicodeSpace::is_space)
     }
 
     /// Returns the text without the white space at its end.
@@ -50,14 +44,7 @@ impl<'a, E: Utf16Order> WStr<'a, E> {
         ensures bytes { wstr_bytes result
             ≡ take (length (wstr_bytes result)) (wstr_bytes self.entry) }
     {
-        let mut text = self;
-        while let Some((c, front)) = text.split_last() {
-            if !c.is_whitespace() {
-                return text;
-            }
-            text = front;
-        }
-        text
+        self.trim_end_by(&UnicodeSpace::is_space)
     }
 
     /// Returns the text without the white space at its start and at its end.

@@ -83,7 +83,7 @@ impl<'a, E: Utf16Order> WStr<'a, E> {
         ensures bytes { LiesAfterTrim (F.post predicate) (wstr_text self.entry)
             (wstr_bytes self.entry) (wstr_bytes result) }
     {
-        self.trim_by(&predicate)
+        self.trim_start_by(&predicate).trim_end_by(&predicate)
     }
 
     // The text without the characters at its start for which the predicate is true.
@@ -123,16 +123,5 @@ impl<'a, E: Utf16Order> WStr<'a, E> {
             front = chars.as_wstr();
         }
         front
-    }
-
-    // The text without the characters at its ends for which the predicate is true.
-    pub(crate) fn trim_by<F: Fn(char) -> bool>(self, predicate: &F) -> Self
-        requires { F.IsAlwaysCallable predicate.now }
-        ensures text { IsTrimmedWith (F.post predicate.now) (wstr_text self.entry)
-            (wstr_text result) }
-        ensures bytes { LiesAfterTrim (F.post predicate.now) (wstr_text self.entry)
-            (wstr_bytes self.entry) (wstr_bytes result) }
-    {
-        self.trim_start_by(predicate).trim_end_by(predicate)
     }
 }

@@ -1,31 +1,72 @@
 //! The words of a text: what is between white space.
 
 ghost use Rattle.std.specs.Prelude.{◌≡◌, ◌≢◌, ◌++◌, ◌∷◌, ◌<◌, ◌^◌, [], Bool, List, length, ℕ};
-ghost use Rattle.std.specs.Char.{is_whitespace};
+ghost use Rattle.std.specs.Char.{is_ascii_whitespace, is_whitespace};
 ghost use Rattle.std.specs.Iterator.{YieldsFirstBy, YieldsLastBy, item_count};
-ghost use Rattle.utf16_str.specs.Predicates.{AnswersBy};
+ghost use Rattle.utf16_str.specs.AsciiWords.{ascii_words};
 ghost use Rattle.utf16_str.specs.Splits.{YieldsPartsOf, YieldsPartsOfBack, YieldsTexts, YieldsTextsBack, words, words_by};
 ghost use Rattle.utf16_str.specs.WStr.{wstr_text};
 
 use crate::WStr;
-use std::marker::Model;
+use std::marker::{Model, PhantomData};
 use utf16_units::Utf16Order;
+
+/// A set of characters that is white space.
+pub trait Space {
+    ghost is_space: { ℕ → Bool };
+
+    /// Returns `true` if a character is white space.
+    fn is_space(c: char) -> bool
+        ensures { result ≡ is_space c };
+}
+
+/// The white space of Unicode: what has the property `White_Space`, as in `char::is_whitespace`.
+pub struct UnicodeSpace;
+
+impl Space for UnicodeSpace {
+    ghost is_space = { is_whitespace };
+
+    #[inline]
+    fn is_space(c: char) -> bool {
+        c.is_whitespace()
+    }
+}
+
+/// The white space of ASCII, as in `char::is_ascii_whitespace`.
+pub struct AsciiSpace;
+
+impl Space for AsciiSpace {
+    ghost is_space = { is_ascii_whitespace };
+
+    #[inline]
+    fn is_space(c: char) -> bool {
+        c.is_ascii_whitespace()
+    }
+}
 
 /// An iterator over the remaining words of a [`WStr`], the substrings between white space that are
 /// not empty, from either end. Each is a view. Once none is left, `next` and `next_back` always
-/// return `None`.
+/// return `None`. `S` is what is white space.
 #[derive(Drop)]
-pub struct WStrSplitWhitespace<'a, E: Utf16Order> {
+pub struct WStrWords<'a, E: Utf16Order, S: Space> {
     rest: WStr<'a, E>,
+    space: PhantomData<S>,
 }
 
-impl<'a, E: Utf16Order> Model for WStrSplitWhitespace<'a, E> {
+/// An iterator over the remaining words of a [`WStr`] between white space: see [`WStrWords`].
+pub type WStrSplitWhitespace<'a, E> = WStrWords<'a, E, UnicodeSpace>;
+
+/// An iterator over the remaining words of a [`WStr`] between the white space of ASCII: see
+/// [`WStrWords`].
+pub type WStrSplitAsciiWhitespace<'a, E> = WStrWords<'a, E, AsciiSpace>;
+
+impl<'a, E: Utf16Order, S: Space> Model for WStrWords<'a, E, S> {
     ghost Value = { List (List ℕ) };
 
-    ghost view = { λ it. words (wstr_text it.rest) };
+    ghost view = { λ it. words_by S.is_space (wstr_text it.rest) };
 }
 
-impl<'a, E: Utf16Order> Iterator for WStrSplitWhitespace<'a, E> {
+impl<'a, E: Utf16Order, S: Space> Iterator for WStrWords<'a, E, S> {
     type Item = WStr<'a, E>;
 
     ghost next_gives = { YieldsFirstBy wstr_text (λ rest. rest) };
@@ -33,7 +74,7 @@ impl<'a, E: Utf16Order> Iterator for WStrSplitWhitespace<'a, E> {
     ghost remaining = { item_count (λ rest. rest) };
 
     fn next(&mut self) -> Option<WStr<'a, E>> {
-        let (word, after) = self.rest.split_first_word_by(&is_space);
+        let (word, after) = self.rest.split_first_word::<S>();
         self.rest = after;
         if word.is_empty() {
             return None;
@@ -42,11 +83,11 @@ impl<'a, E: Utf16Order> Iterator for WStrSplitWhitespace<'a, E> {
     }
 }
 
-impl<'a, E: Utf16Order> DoubleEndedIterator for WStrSplitWhitespace<'a, E> {
+impl<'a, E: Utf16Order, S: Space> DoubleEndedIterator for WStrWords<'a, E, S> {
     ghost next_back_gives = { YieldsLastBy wstr_text (λ rest. rest) };
 
     fn next_back(&mut self) -> Option<WStr<'a, E>> {
-        let (before, word) = self.rest.split_last_word_by(&is_space);
+        let (before, word) = self.rest.split_last_word::<S>();
         self.rest = before;
         if word.is_empty() {
             return None;
@@ -74,22 +115,58 @@ impl<'a, E: Utf16Order> WStr<'a, E> {
         ensures within { YieldsPartsOf self.entry result }
         ensures within_back { YieldsPartsOfBack self.entry result }
     {
-        WStrSplitWhitespace { rest: self }
+        self.words()
     }
 
-    // Returns the first word between characters for which a test is true, and a text that has the
-    // other words. If there are no words, both are empty.
-    pub(crate) fn split_first_word_by<F: Fn(char) -> bool>(self, is_space: &F) -> (Self, Self)
-        requires { F.IsAlwaysCallable is_space.now }
-        ensures some { (p : ℕ → Bool) → AnswersBy (F.post is_space.now) p
-            → wstr_text result.0 ≢ [] → words_by p (wstr_text self.entry)
-            ≡ wstr_text result.0 ∷ words_by p (wstr_text result.1) }
-        ensures none { (p : ℕ → Bool) → AnswersBy (F.post is_space.now) p
-            → wstr_text result.0 ≡ [] → (words_by p (wstr_text self.entry) ≡ [])
-            × (words_by p (wstr_text result.1) ≡ []) }
+    /// Returns an iterator over the words, in order: the substrings between the white space of
+    /// ASCII that are not empty.
+    ///
+    /// # Complexity
+    ///
+    /// One pass over the text. Copies nothing and does not allocate.
+    ///
+    /// # Source
+    ///
+    /// The words are the same as with `str::split_ascii_whitespace`.
+    #[inline]
+    pub fn split_ascii_whitespace(self) -> WStrSplitAsciiWhitespace<'a, E>
+        ensures parts { result ≡ ascii_words (wstr_text self.entry) }
+        ensures bound { length result < 2 ^ 64 }
+        ensures runs { YieldsTexts self.entry }
+        ensures runs_back { YieldsTextsBack self.entry }
+        ensures within { YieldsPartsOf self.entry result }
+        ensures within_back { YieldsPartsOfBack self.entry result }
     {
-        let trimmed = self.trim_start_by(is_space);
-        match trimmed.cut_by(is_space) {
+        self.words()
+    }
+
+    #[inline]
+    fn words<S: Space>(self) -> WStrWords<'a, E, S>
+        ensures parts { result ≡ words_by S.is_space (wstr_text self.entry) }
+        ensures bound { length result < 2 ^ 64 }
+        ensures runs { YieldsTexts self.entry }
+        ensures runs_back { YieldsTextsBack self.entry }
+        ensures within { YieldsPartsOf self.entry result }
+        ensures within_back { YieldsPartsOfBack self.entry result }
+    {
+        WStrWords {
+            rest: self,
+            space: PhantomData,
+        }
+    }
+
+    // Returns the first word, and a text that has the other words. If there are no words, both are
+    // empty.
+    fn split_first_word<S: Space>(self) -> (Self, Self)
+        ensures some { wstr_text result.0 ≢ [] → words_by S.is_space (wstr_text self.entry)
+            ≡ wstr_text result.0 ∷ words_by S.is_space (wstr_text result.1) }
+        ensures none { wstr_text result.0 ≡ []
+            → (words_by S.is_space (wstr_text self.entry) ≡ [])
+            × (words_by S.is_space (wstr_text result.1) ≡ []) }
+    {
+        let is_space = |c| S::is_space(c);
+        let trimmed = self.trim_start_by(&is_space);
+        match trimmed.cut_by(&is_space) {
             Some(cut) => cut,
             None => trimmed.split_at(trimmed.len()),
         }
@@ -97,26 +174,18 @@ impl<'a, E: Utf16Order> WStr<'a, E> {
 
     // Returns a text that has the other words, and the last word. If there are no words, both are
     // empty.
-    pub(crate) fn split_last_word_by<F: Fn(char) -> bool>(self, is_space: &F) -> (Self, Self)
-        requires { F.IsAlwaysCallable is_space.now }
-        ensures some { (p : ℕ → Bool) → AnswersBy (F.post is_space.now) p
-            → wstr_text result.1 ≢ [] → words_by p (wstr_text self.entry)
-            ≡ words_by p (wstr_text result.0) ++ wstr_text result.1 ∷ [] }
-        ensures none { (p : ℕ → Bool) → AnswersBy (F.post is_space.now) p
-            → wstr_text result.1 ≡ [] → (words_by p (wstr_text self.entry) ≡ [])
-            × (words_by p (wstr_text result.0) ≡ []) }
+    fn split_last_word<S: Space>(self) -> (Self, Self)
+        ensures some { wstr_text result.1 ≢ [] → words_by S.is_space (wstr_text self.entry)
+            ≡ words_by S.is_space (wstr_text result.0) ++ wstr_text result.1 ∷ [] }
+        ensures none { wstr_text result.1 ≡ []
+            → (words_by S.is_space (wstr_text self.entry) ≡ [])
+            × (words_by S.is_space (wstr_text result.0) ≡ []) }
     {
-        let trimmed = self.trim_end_by(is_space);
-        match trimmed.cut_last_by(is_space) {
+        let is_space = |c| S::is_space(c);
+        let trimmed = self.trim_end_by(&is_space);
+        match trimmed.cut_last_by(&is_space) {
             Some(cut) => cut,
             None => trimmed.split_at(0),
         }
     }
-}
-
-// Whether a character is white space.
-fn is_space(c: char) -> bool
-    ensures { result ≡ is_whitespace c }
-{
-    c.is_whitespace()
 }

@@ -1,25 +1,19 @@
 -- The first match of a part in a text, by induction over the text.
 use Rattle.std.proofs.Common.{◌≡◌, ℕ, ◌≤◌, Bool, true, false, List, [], ◌∷◌, ◌++◌, length, drop, nat_eq, Option, None, Some, refl, ap, ◌∙◌, arith, if◌then◌else◌, option_map}
 use Rattle.std.proofs.Math.Seq.{drop-append_seam}
-use Rattle.std.proofs.lemmas.Bool.Decides.{Decides-eqb}
-use Rattle.std.proofs.lemmas.Slice.Eq.{starts_is}
 use Rattle.std.specs.List.{starts_with}
 use Rattle.utf16_units.specs.Encoding.{size}
 use Rattle.utf16_units.proofs.BoundaryLemmas.{char_size-pos}
 use Rattle.utf16_units.proofs.EncodingLemmas.{size-cons, size-nil}
+use Rattle.utf16_str.proofs.PartLemmas.{begins, not_begun}
 use Rattle.utf16string.specs.Replace.{around_match}
 
 -- whether a text begins with a part
-begins : (part text rest : List ℕ) → text ≡ part ++ rest → starts_with nat_eq text part ≡ true
-begins part text rest e = (starts_is Decides-eqb text part (starts_with nat_eq text part) refl).1 rest e
-
-not_true : (b : Bool) → ¬ (b ≡ true) → b ≡ false
-not_true true never = absurd (never refl)
-not_true false never = refl
+begins_so : (part text rest : List ℕ) → text ≡ part ++ rest → starts_with nat_eq text part ≡ true
+begins_so part text rest e = (begins part text (starts_with nat_eq text part) refl).1 rest e
 
 begins_not : (part text : List ℕ) → ((rest : List ℕ) → ¬ (text ≡ part ++ rest)) → starts_with nat_eq text part ≡ false
-begins_not part text never =
-    not_true (starts_with nat_eq text part) (λ yes. never (drop (length part) text) ((starts_is Decides-eqb text part (starts_with nat_eq text part) refl).0 yes))
+begins_not part text never = not_begun part text never (starts_with nat_eq text part) refl
 
 -- what `around_match` is for the empty text, and for others, by whether the part matches at once
 abbrev at_end : Bool → Option (List ℕ × List ℕ)
@@ -38,8 +32,8 @@ rest-nil (p ∷ part) rest e = absurd cc
 
 at_once : (part text rest : List ℕ) → text ≡ part ++ rest → around_match part text ≡ start rest
 unfolding around_match
-at_once part [] rest e = ap at_end (begins part [] rest e) ∙ ap start (rest-nil part rest e)
-at_once part (c ∷ text) rest e = ap (at_char part c text) (begins part (c ∷ text) rest e) ∙ ap start (ap (drop (length part)) e ∙ drop-append_seam part rest)
+at_once part [] rest e = ap at_end (begins_so part [] rest e) ∙ ap start (rest-nil part rest e)
+at_once part (c ∷ text) rest e = ap (at_char part c text) (begins_so part (c ∷ text) rest e) ∙ ap start (ap (drop (length part)) e ∙ drop-append_seam part rest)
 
 -- a match that begins no later than any other is the first
 pub first_match : (part front back : List ℕ) → ((f b : List ℕ) → front ++ (part ++ back) ≡ f ++ (part ++ b) → size front ≤ size f)

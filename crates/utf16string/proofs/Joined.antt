@@ -5,7 +5,7 @@ use Rattle.utf16_units.specs.declared.byte_order.Utf16Order.{Ghosts}
 use Rattle.utf16_units.specs.Encoding.{size}
 use Rattle.utf16string.specs.WString.{Extends, wstring_bytes, wstring_capacity, wstring_text}
 use Rattle.utf16string.specs.declared.wstring.WString.{WString}
-use Rattle.utf16string.proofs.EmptyPart.{part-empty}
+use Rattle.utf16_str.proofs.CutFront.{no_part}
 
 module _ {E Z X : Type 0} {order : Ghosts E} (text : X → List ℕ) (old : WString E Z order) where
   -- the texts so far are appended to the old one, and the capacity is the same if they are empty
@@ -23,7 +23,7 @@ module _ {E Z X : Type 0} {order : Ghosts E} (text : X → List ℕ) (old : WStr
       more ∙ ap (λ t. t ++ text x) so.0 ∙ flat_map_more text (wstring_text old) items x,
       omega (arith, grows, so.1),
       omega (arith, long, so.2),
-      λ same. absurd (some (part-empty (text x) (omega (arith, same, long, so.2)))),
+      λ same. absurd (some (no_part (text x) (omega (arith, same, long, so.2)))),
     )
 
     pub joined-none : text x ≡ [] → Joined (items ++ x ∷ []) now

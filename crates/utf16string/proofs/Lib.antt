@@ -20,4 +20,3 @@ mod Joined
 mod Appended
 mod Repeated
 mod Written
-mod EmptyPart

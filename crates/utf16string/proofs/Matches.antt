@@ -1,23 +1,13 @@
 -- The first match of a part in a text, from where a search finds it.
-use Rattle.std.proofs.Common.{◌≡◌, ℕ, ◌+◌, ◌-◌, ◌<◌, ◌≤◌, List, ◌++◌, None, Some, refl, sym, ap, ◌∙◌, subst, arith, append_assoc, ⊎_elim}
+use Rattle.std.proofs.Common.{◌≡◌, ℕ, ◌+◌, ◌<◌, ◌≤◌, List, ◌++◌, None, Some, sym, ap, ◌∙◌, subst, arith, append_assoc, ⊎_elim}
 use Rattle.std.proofs.lemmas.Bool.{cases_lt}
 use Rattle.utf16_units.specs.Boundary.{OccursIn, text_from, text_to}
 use Rattle.utf16_units.specs.Encoding.{size}
-use Rattle.utf16_units.proofs.BoundaryLemmas.{size-text_to, text_from-at, text_to-at}
-use Rattle.utf16_units.proofs.EncodingLemmas.{size-append}
-use Rattle.utf16_str.specs.Occurrence.{IsFirst}
+use Rattle.utf16_units.proofs.BoundaryLemmas.{size-text_to, text_from-at}
+use Rattle.utf16_bytes.specs.Occurrence.{IsFirst}
+use Rattle.utf16_bytes.proofs.PatternLemmas.{between_parts}
 use Rattle.utf16string.specs.Replace.{around_match}
 use Rattle.utf16string.proofs.FirstMatch.{first_match, no_match}
-
--- a part between two texts occurs after the first
-occurs_after : (text part front back : List ℕ) → text ≡ front ++ (part ++ back) → OccursIn text (size front) part
-occurs_after text part front back e = subst (λ t. OccursIn t (size front) part) (sym e) (record {
-  start = record { front = front; back = part ++ back; split = refl; offset = refl };
-  end = record { front = front ++ part; back = back; split = append_assoc front part back; offset = size-append front part };
-  between =
-      ap (λ t. text_to t (size front + size part - size front)) (text_from-at front (part ++ back) (size front) refl)
-      ∙ text_to-at part back (size front + size part - size front) (omega arith);
-})
 
 module _ (text part : List ℕ) where
   pub found_match : (at : ℕ) → IsFirst (λ i. OccursIn text i part) (Some at) → text ≡ text_to text at ++ (part ++ text_from text (at + size part))
@@ -25,14 +15,14 @@ module _ (text part : List ℕ) where
   found_match at first around =
       let least = λ (f b : List ℕ) (e : text_to text at ++ (part ++ text_from text (at + size part)) ≡ f ++ (part ++ b)).
       ⊎_elim
-      (λ (less : size f < at). absurd (first.1 (size f) less (occurs_after text part f b (around ∙ e))))
+      (λ (less : size f < at). absurd (first.1 (size f) less (between_parts text f part b (around ∙ e ∙ sym (append_assoc f part b)))))
       (λ (late : at ≤ size f). omega (arith, late, size-text_to text at first.0.start))
       (cases_lt (size f) at) in
       subst (λ t. around_match part t ≡ Some (text_to text at, text_from text (at + size part))) (sym around)
       (first_match part (text_to text at) (text_from text (at + size part)) least)
 
   pub absent_match : IsFirst (λ i. OccursIn text i part) None → around_match part text ≡ None
-  absent_match none = no_match part text (λ f b e. none (size f) (occurs_after text part f b e))
+  absent_match none = no_match part text (λ f b e. none (size f) (between_parts text f part b (e ∙ sym (append_assoc f part b))))
 
   -- what the text is from a match on
   pub from_match : (at : ℕ) → OccursIn text at part → text ≡ text_to text at ++ (part ++ text_from text (at + size part)) → text_from text at ≡ part ++ text_from text (at + size part)

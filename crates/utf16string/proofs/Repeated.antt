@@ -1,22 +1,19 @@
 -- A text and its bytes repeated.
-use Rattle.std.proofs.Common.{◌≡◌, ℕ, zero, suc, ◌+◌, ◌*◌, Bool, List, [], ◌∷◌, ◌++◌, length, refl, sym, ap, ◌∙◌, arith, append_assoc, append-nil, length-append}
+use Rattle.std.proofs.Common.{◌≡◌, ℕ, zero, suc, ◌+◌, ◌*◌, Bool, List, [], ◌∷◌, ◌++◌, length, refl, ap, ◌∙◌, arith, length-append}
 use Rattle.std.proofs.lemmas.List.Elements.{All-nil}
 use Rattle.std.specs.Char.{IsScalar}
 use Rattle.std.specs.List.{repeat}
 use Rattle.utf16_units.specs.Encoding.{Encodes, size}
 use Rattle.utf16_units.proofs.BoundaryLemmas.{char_size-pos}
+use Rattle.utf16_str.proofs.TrimMatches.{repeat-push}
 use Rattle.utf16_units.proofs.EncodingLemmas.{Encodes-append, encode-nil, size-cons}
 
 pub Encodes-repeat : (big : Bool) (text bytes : List ℕ) (n : ℕ) → Encodes big text bytes → Encodes big (repeat n text) (repeat n bytes)
 Encodes-repeat big text bytes zero e = record { scalars = All-nil IsScalar; spelled = encode-nil big }
 Encodes-repeat big text bytes (suc n) e = Encodes-append big text (repeat n text) bytes (repeat n bytes) e (Encodes-repeat big text bytes n e)
 
-turned : (n : ℕ) (xs : List ℕ) → repeat n xs ++ xs ≡ xs ++ repeat n xs
-turned zero xs = sym (append-nil xs)
-turned (suc n) xs = append_assoc xs (repeat n xs) xs ∙ ap (λ t. xs ++ t) (turned n xs)
-
 pub repeat-more : (n : ℕ) (xs : List ℕ) → repeat n xs ++ xs ≡ repeat (n + 1) xs
-repeat-more n xs = let more : suc n ≡ n + 1 = omega arith in turned n xs ∙ ap (λ k. repeat k xs) more
+repeat-more n xs = let more : suc n ≡ n + 1 = omega arith in repeat-push n xs ∙ ap (λ k. repeat k xs) more
 
 pub length-repeat : (n : ℕ) (xs : List ℕ) → length (repeat n xs) ≡ n * length xs
 length-repeat zero xs = omega arith

@@ -25,31 +25,10 @@ impl AsciiCase {
         ensures { result ≡ in_case self unit }
     {
         match self {
-            AsciiCase::Lower => lower(unit),
-            AsciiCase::Upper => upper(unit),
+            AsciiCase::Lower if 0x41 <= unit && unit <= 0x5A => unit + 0x20,
+            AsciiCase::Upper if 0x61 <= unit && unit <= 0x7A => unit - 0x20,
+            _ => unit,
         }
-    }
-}
-
-#[inline(always)]
-fn lower(unit: u16) -> u16
-    ensures { result ≡ to_ascii_lowercase unit }
-{
-    if 0x41 <= unit && unit <= 0x5A {
-        unit + 0x20
-    } else {
-        unit
-    }
-}
-
-#[inline(always)]
-fn upper(unit: u16) -> u16
-    ensures { result ≡ to_ascii_uppercase unit }
-{
-    if 0x61 <= unit && unit <= 0x7A {
-        unit - 0x20
-    } else {
-        unit
     }
 }
 
@@ -69,7 +48,7 @@ impl<E: Utf16Order, A: Allocator> WString<E, A> {
         ensures text { wstring_text self.new ≡ map to_ascii_lowercase (wstring_text self.old) }
         ensures capacity { wstring_capacity self.new ≡ wstring_capacity self.old }
     {
-        change_case::<E>(self.raw.as_mut_slice(), AsciiCase::Lower);
+        self.make_case(AsciiCase::Lower);
     }
 
     /// Converts each ASCII letter to upper case. Other characters and the capacity stay.
@@ -85,7 +64,14 @@ impl<E: Utf16Order, A: Allocator> WString<E, A> {
         ensures text { wstring_text self.new ≡ map to_ascii_uppercase (wstring_text self.old) }
         ensures capacity { wstring_capacity self.new ≡ wstring_capacity self.old }
     {
-        change_case::<E>(self.raw.as_mut_slice(), AsciiCase::Upper);
+        self.make_case(AsciiCase::Upper);
+    }
+
+    fn make_case(&mut self, case: AsciiCase)
+        ensures text { wstring_text self.new ≡ map (in_case case) (wstring_text self.old) }
+        ensures capacity { wstring_capacity self.new ≡ wstring_capacity self.old }
+    {
+        change_case::<E>(self.raw.as_mut_slice(), case);
     }
 }
 

@@ -1,4 +1,4 @@
-use Rattle.std.proofs.Common.{◌≡◌, ◌∙◌, ◌+◌, ◌++◌, None, ap, arith, option_map, sym}
+use Rattle.std.proofs.Common.{false, ◌≡◌, ◌∙◌, ◌+◌, ◌++◌, None, ap, arith, option_map, sym}
 use Rattle.utf16_units.specs.Boundary.{text_from}
 use Rattle.utf16_units.specs.Encoding.{size}
 use Rattle.utf16_units.proofs.EncodingLemmas.{size-append}
@@ -50,10 +50,10 @@ returns-clause-steps g c =
     let again : c.len-3.result ≡ c.len.result = c.len-3.ensures.size ∙ sym c.len.ensures.size in
     let found : wstr_text c.split_at.result.1 ≡ part = c.split_at.ensures.back ∙ ap (text_from (wstr_text c.in_ok-part.closed)) again ∙ (cut g at).from in
     sym c.self.view_is
-    ∙ ap (λ p. match_offsets (g.P.Pattern.part p) offset (parts_left (g.P.Pattern.part c.self.inside.left.pattern) c.self.inside.left.begun (option_map wstr_text c.self.inside.left.rest))) (sym c.in_ok-part.ensures.pattern)
+    ∙ ap (λ p. match_offsets (g.P.Pattern.part p) offset (parts_left false (g.P.Pattern.part c.self.inside.left.pattern) c.self.inside.left.begun (option_map wstr_text c.self.inside.left.rest))) (sym c.in_ok-part.ensures.pattern)
     ∙ ap (match_offsets part offset) c.in_ok-part.ensures.parts
     ∙ offsets-step part offset (wstr_text c.in_ok-part.part) (wstr_text c.split_at.result.1) _ _ _
-    (left-some part c.next_part.new.self.begun (option_map wstr_text c.next_part.new.self.rest) (some g at))
+    (left-some false part c.next_part.new.self.begun (option_map wstr_text c.next_part.new.self.rest) (some g at))
     (ap (λ n. offset + n) c.len.ensures.size) found (omega (arith, long g at, c.len-2.ensures.size))
 
 pub returns-clause-goes : goal.returns-clause-goes

@@ -1,4 +1,4 @@
-use Rattle.std.proofs.Common.{◌≡◌, ◌∙◌, [], None, ap, option_map, sym}
+use Rattle.std.proofs.Common.{false, ◌≡◌, ◌∙◌, [], None, ap, option_map, sym}
 use Rattle.std.proofs.lemmas.Bool.{false≢true}
 use Rattle.utf16_str.specs.Matches.{with_terminators}
 use Rattle.utf16_str.specs.Splits.{parts_left}
@@ -17,7 +17,7 @@ returns-clause-steps g c =
       | else-is_none-via-else-is_none w ↦ λ none. absurd (mapped-some wstr_text rest _ c.is_none.ensures w.if-is_none.false none)
     ] in
     sym c.self.view_is
-    ∙ ap (λ p. with_terminators (g.P.Pattern.part p) (parts_left (g.P.Pattern.part c.self.inside.left.pattern) c.self.inside.left.begun (option_map wstr_text c.self.inside.left.rest))) (sym c.in_ok-part.ensures.pattern)
+    ∙ ap (λ p. with_terminators (g.P.Pattern.part p) (parts_left false (g.P.Pattern.part c.self.inside.left.pattern) c.self.inside.left.begun (option_map wstr_text c.self.inside.left.rest))) (sym c.in_ok-part.ensures.pattern)
     ∙ ap (with_terminators part) c.in_ok-part.ensures.parts
     ∙ with-next part c.next_part.new.self.begun (wstr_text c.in_ok-part.field-0-0) (wstr_text c.in_ok-part.part) (option_map wstr_text rest) c.in_ok-part.ensures.closed some
 

@@ -1,15 +1,20 @@
-use Rattle.std.proofs.Common.{arith, eqb}
+use Rattle.std.proofs.Common.{arith, Bool, eqb, ℕ}
 use Rattle.utf16_str.specs.WStr.{wstr_bytes, wstr_text}
+use Rattle.std.proofs.lemmas.List.Splits.{length-slice_split}
+use Rattle.std.proofs.lemmas.List.Sums.{count_by-le-length}
 use Rattle.std.specs.List.{slice_split}
 use Rattle.utf16_str.proofs.LineLemmas.{length-lines_of_parts}
-use Rattle.utf16_str.proofs.SplitLemmas.{parts-bound, text_runs, text_runs_back}
+use Rattle.utf16_str.proofs.SplitLemmas.{few-parts, text_runs, text_runs_back}
 use Rattle.utf16_str.proofs.PartWindows.{yields_parts, yields_parts_back}
 use Rattle.utf16_str.proofs.WithinLemmas.{within-lines, within-split}
 use Rattle.utf16_str.proofs.wstr.WStr.lines.Goals as goal
 
 pub returns-clause-bound : goal.returns-clause-bound
 returns-clause-bound g c =
-    omega (arith, length-lines_of_parts (slice_split (λ b. eqb b 10) (wstr_text c.args.self)), parts-bound g.E.Utf16Order.BIG (wstr_bytes c.args.self) (λ b. eqb b 10) c.args.self.well_formed (omega arith))
+    let newline : ℕ → Bool = λ b. eqb b 10 in
+    let text = wstr_text c.args.self in
+    few-parts g.E.Utf16Order.BIG (wstr_bytes c.args.self) _ c.args.self.well_formed (omega arith)
+    (omega (arith, length-lines_of_parts (slice_split newline text), length-slice_split newline text, count_by-le-length newline text))
 
 pub returns-clause-runs : goal.returns-clause-runs
 returns-clause-runs g c = text_runs wstr_text

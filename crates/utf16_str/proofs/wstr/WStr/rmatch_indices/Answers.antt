@@ -1,21 +1,19 @@
-use Rattle.std.proofs.Common.{◌≡◌, All, ap, arith, false, length, option_map, rules, subst, sym}
+use Rattle.std.proofs.Common.{true, All, arith, false, option_map, rules, subst, sym}
 use Rattle.utf16_str.specs.Matches.{left_size}
-use Rattle.utf16_str.specs.Splits.{rparts_left, rsplit_by}
-use Rattle.utf16_str.specs.WStr.{wstr_bytes, wstr_text}
-use Rattle.utf16_str.proofs.CountLemmas.{count-rparts}
+use Rattle.utf16_str.specs.Splits.{parts_left, rsplit_by}
+use Rattle.utf16_str.specs.WStr.{wstr_text}
 use Rattle.utf16_str.proofs.JoinLemmas.{join-rparts}
 use Rattle.utf16_str.proofs.MatchLemmas.{length-roffsets}
-use Rattle.utf16_str.proofs.PartWindows.{yields_parts_at}
-use Rattle.utf16_str.proofs.SplitLemmas.{few-parts, text_runs}
-use Rattle.utf16_str.proofs.WithinBack.{within-rat}
-use Rattle.utf16_str.proofs.WithinLemmas.{WithinAt}
+use Rattle.utf16_str.proofs.PartWindows.{few_between, yields_parts_at}
+use Rattle.utf16_str.proofs.SplitLemmas.{text_runs}
+use Rattle.utf16_str.proofs.WithinLemmas.{WithinAt, within-rat}
 use Rattle.utf16_str.proofs.wstr.WStr.rmatch_indices.Goals as goal
 
 pub returns-clause-bound : goal.returns-clause-bound
 returns-clause-bound g c =
-    let made : rparts_left (g.P.Pattern.part c.new.result.pattern) c.new.result.begun (option_map wstr_text c.new.result.rest) ≡ rsplit_by (g.P.Pattern.part c.args.pattern) (wstr_text c.args.self) = search rules in
-    let parts = rparts_left (g.P.Pattern.part c.new.result.pattern) c.new.result.begun (option_map wstr_text c.new.result.rest) in
-    few-parts g.E.Utf16Order.BIG (wstr_bytes c.args.self) _ c.args.self.well_formed (omega arith) (omega (arith, length-roffsets (g.P.Pattern.part c.new.result.pattern) (left_size (option_map wstr_text c.new.result.rest)) parts, ap length made, (count-rparts (g.P.Pattern.part c.args.pattern) false (wstr_text c.args.self)).1))
+    let parts = parts_left true (g.P.Pattern.part c.new.result.pattern) c.new.result.begun (option_map wstr_text c.new.result.rest) in
+    let end = left_size (option_map wstr_text c.new.result.rest) in
+    omega (arith, length-roffsets (g.P.Pattern.part c.new.result.pattern) end parts, few_between c.args.self true (g.P.Pattern.part c.args.pattern) parts (search rules) (omega arith))
 
 pub returns-clause-runs : goal.returns-clause-runs
 returns-clause-runs g c = text_runs (λ at. (at.0, wstr_text at.1))

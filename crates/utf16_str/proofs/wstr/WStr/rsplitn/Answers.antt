@@ -1,17 +1,17 @@
-use Rattle.std.proofs.Common.{option_map, ◌≡◌, sym, false, rules, ◌∙◌, ap}
-use Rattle.utf16_str.specs.Splits.{rjoined_with, rparts_left, rsplit_by}
+use Rattle.std.proofs.Common.{true, option_map, ◌≡◌, sym, false, rules, ◌∙◌, ap}
+use Rattle.utf16_str.specs.Splits.{rjoined_with, parts_left, rsplit_by}
 use Rattle.utf16_str.specs.WStr.{wstr_text}
 use Rattle.utf16_str.proofs.MatchLemmas.{length-limited}
 use Rattle.utf16_str.proofs.SplitLemmas.{text_runs}
 use Rattle.utf16_str.proofs.PartWindows.{yields_parts}
 use Rattle.utf16_str.proofs.JoinLemmas.{join-rparts}
-use Rattle.utf16_str.proofs.WithinBack.{within-rfirst}
+use Rattle.utf16_str.proofs.WithinLemmas.{within-first}
 use Rattle.utf16_str.proofs.wstr.WStr.rsplitn.Goals as goal
 
 pub returns-clause-bound : goal.returns-clause-bound
 returns-clause-bound g c =
     let part = g.P.Pattern.part c.new.result.pattern in
-    length-limited (rjoined_with part) c.args.n (rparts_left part c.new.result.begun (option_map wstr_text c.new.result.rest))
+    length-limited (rjoined_with part) c.args.n (parts_left true part c.new.result.begun (option_map wstr_text c.new.result.rest))
 
 pub returns-clause-runs : goal.returns-clause-runs
 returns-clause-runs g c = text_runs wstr_text
@@ -20,5 +20,5 @@ pub returns-clause-within : goal.returns-clause-within
 returns-clause-within g c =
     let text = wstr_text c.args.self in
     let part = g.P.Pattern.part c.new.result.pattern in
-    let made : rparts_left part c.new.result.begun (option_map wstr_text c.new.result.rest) ≡ rsplit_by part text = search rules in
-    yields_parts c.args.self _ (within-rfirst part text _ (sym (join-rparts part false text) ∙ ap (rjoined_with part) (sym made)) c.args.n)
+    let made : parts_left true part c.new.result.begun (option_map wstr_text c.new.result.rest) ≡ rsplit_by part text = search rules in
+    yields_parts c.args.self _ (within-first true part text _ (sym (join-rparts part false text) ∙ ap (rjoined_with part) (sym made)) c.args.n)

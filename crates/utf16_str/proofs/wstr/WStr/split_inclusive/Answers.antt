@@ -1,19 +1,17 @@
-use Rattle.std.proofs.Common.{◌≡◌, ap, arith, false, length, option_map, rules, sym, ◌∙◌}
+use Rattle.std.proofs.Common.{◌≡◌, ap, arith, false, option_map, rules, sym, ◌∙◌}
 use Rattle.utf16_str.specs.Splits.{joined_with, parts_left, split_by}
-use Rattle.utf16_str.specs.WStr.{wstr_bytes, wstr_text}
-use Rattle.utf16_str.proofs.CountLemmas.{count-parts}
+use Rattle.utf16_str.specs.WStr.{wstr_text}
 use Rattle.utf16_str.proofs.MatchLemmas.{length-with}
-use Rattle.utf16_str.proofs.SplitLemmas.{few-parts, text_runs}
-use Rattle.utf16_str.proofs.PartWindows.{yields_parts}
+use Rattle.utf16_str.proofs.SplitLemmas.{text_runs}
+use Rattle.utf16_str.proofs.PartWindows.{few_between, yields_parts}
 use Rattle.utf16_str.proofs.JoinLemmas.{join-parts}
 use Rattle.utf16_str.proofs.WithinLemmas.{within-ended}
 use Rattle.utf16_str.proofs.wstr.WStr.split_inclusive.Goals as goal
 
 pub returns-clause-bound : goal.returns-clause-bound
 returns-clause-bound g c =
-    let made : parts_left (g.P.Pattern.part c.new.result.pattern) c.new.result.begun (option_map wstr_text c.new.result.rest) ≡ split_by (g.P.Pattern.part c.args.terminator) (wstr_text c.args.self) = search rules in
-    let parts = parts_left (g.P.Pattern.part c.new.result.pattern) c.new.result.begun (option_map wstr_text c.new.result.rest) in
-    few-parts g.E.Utf16Order.BIG (wstr_bytes c.args.self) _ c.args.self.well_formed (omega arith) (omega (arith, length-with (g.P.Pattern.part c.new.result.pattern) parts, ap length made, (count-parts (g.P.Pattern.part c.args.terminator) false (wstr_text c.args.self)).1))
+    let parts = parts_left false (g.P.Pattern.part c.new.result.pattern) c.new.result.begun (option_map wstr_text c.new.result.rest) in
+    omega (arith, length-with (g.P.Pattern.part c.new.result.pattern) parts, few_between c.args.self false (g.P.Pattern.part c.args.terminator) parts (search rules) (omega arith))
 
 pub returns-clause-runs : goal.returns-clause-runs
 returns-clause-runs g c = text_runs wstr_text
@@ -22,5 +20,5 @@ pub returns-clause-within : goal.returns-clause-within
 returns-clause-within g c =
     let text = wstr_text c.args.self in
     let part = g.P.Pattern.part c.new.result.pattern in
-    let made : parts_left part c.new.result.begun (option_map wstr_text c.new.result.rest) ≡ split_by part text = search rules in
+    let made : parts_left false part c.new.result.begun (option_map wstr_text c.new.result.rest) ≡ split_by part text = search rules in
     yields_parts c.args.self _ (within-ended part text _ (sym (join-parts part false text) ∙ ap (joined_with part) (sym made)))

@@ -2,13 +2,11 @@ use Rattle.std.proofs.Common.{arith, refl}
 use Rattle.utf16_str.specs.WStr.{wstr_bytes}
 use Rattle.utf16_str.proofs.PredicateSplitRuns.{split_runs, split_runs_back}
 use Rattle.utf16_str.proofs.PredicateWithin.{gives_within, gives_within_back}
-use Rattle.utf16_str.proofs.PartsCount.{few-chars}
+use Rattle.utf16_str.proofs.SplitLemmas.{few-parts}
 use Rattle.utf16_str.proofs.wstr.WStr.split_with.Goals as goal
 
 pub returns-clause-bound : goal.returns-clause-bound
-returns-clause-bound g c =
-    let few = few-chars g.E.Utf16Order.BIG (wstr_bytes c.args.self) c.args.self.well_formed in
-    omega arith
+returns-clause-bound g c = few-parts g.E.Utf16Order.BIG (wstr_bytes c.args.self) _ c.args.self.well_formed (omega arith) (omega arith)
 
 pub returns-clause-runs : goal.returns-clause-runs
 returns-clause-runs g c = split_runs (goal.F-post g) _ c.args.predicate c.args.self refl refl

@@ -11,7 +11,7 @@ use Rattle.utf16_str.proofs.wstr.WStr.splitn.Goals as goal
 pub returns-clause-bound : goal.returns-clause-bound
 returns-clause-bound g c =
     let part = g.P.Pattern.part c.new.result.pattern in
-    length-limited (joined_with part) c.args.n (parts_left part c.new.result.begun (option_map wstr_text c.new.result.rest))
+    length-limited (joined_with part) c.args.n (parts_left false part c.new.result.begun (option_map wstr_text c.new.result.rest))
 
 pub returns-clause-runs : goal.returns-clause-runs
 returns-clause-runs g c = text_runs wstr_text
@@ -20,5 +20,5 @@ pub returns-clause-within : goal.returns-clause-within
 returns-clause-within g c =
     let text = wstr_text c.args.self in
     let part = g.P.Pattern.part c.new.result.pattern in
-    let made : parts_left part c.new.result.begun (option_map wstr_text c.new.result.rest) ≡ split_by part text = search rules in
-    yields_parts c.args.self _ (within-first part text _ (sym (join-parts part false text) ∙ ap (joined_with part) (sym made)) c.args.n)
+    let made : parts_left false part c.new.result.begun (option_map wstr_text c.new.result.rest) ≡ split_by part text = search rules in
+    yields_parts c.args.self _ (within-first false part text _ (sym (join-parts part false text) ∙ ap (joined_with part) (sym made)) c.args.n)

@@ -1,24 +1,5 @@
-use Rattle.std.proofs.Common.{sym, ap, ◌∙◌}
-use Rattle.std.specs.Str.{drop_trailing_whitespace}
-use Rattle.utf16_str.specs.WStr.{wstr_text}
-use Rattle.utf16_str.proofs.TrimLemmas.{bytes-drop, drop-other, drop-white}
+use Rattle.utf16_str.proofs.TrimLemmas.{trimmed-end}
 use Rattle.utf16_str.proofs.wstr.WStr.trim_end.Goals as goal
 
-pub loop-c-preserved : goal.loop-c-preserved
-loop-c-preserved g c =
-    sym (ap drop_trailing_whitespace c.in-Some.ensures ∙ drop-white (wstr_text c.in-Some.front) c.in-Some.c (sym c.is_whitespace.ensures ∙ c.if-not-is_whitespace.false)) ∙ c.loop-c.invariant
-
-pub returns-then-not-is_whitespace-clause-text : goal.returns-then-not-is_whitespace-clause-text
-returns-then-not-is_whitespace-clause-text g c =
-    c.in-Some.ensures ∙ sym (drop-other (wstr_text c.in-Some.front) c.in-Some.c (sym c.is_whitespace.ensures ∙ c.if-not-is_whitespace.true))
-    ∙ sym (ap drop_trailing_whitespace c.in-Some.ensures) ∙ c.loop-c.invariant
-
-pub returns-then-not-is_whitespace-clause-bytes : goal.returns-then-not-is_whitespace-clause-bytes
-returns-then-not-is_whitespace-clause-bytes g c =
-    bytes-drop _ _ _ c.args.self.well_formed c.loop-c.text.well_formed (returns-then-not-is_whitespace-clause-text g c)
-
 pub returns-clause-text : goal.returns-clause-text
-returns-clause-text g c = c.in_default.ensures ∙ sym (ap drop_trailing_whitespace c.in_default.ensures) ∙ c.loop-c.invariant
-
-pub returns-clause-bytes : goal.returns-clause-bytes
-returns-clause-bytes g c = bytes-drop _ _ _ c.args.self.well_formed c.loop-c.text.well_formed (returns-clause-text g c)
+returns-clause-text g c = trimmed-end _ _ c.trim_end_by.ensures.text

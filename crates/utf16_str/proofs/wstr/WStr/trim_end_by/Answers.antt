@@ -1,6 +1,6 @@
 use Rattle.std.proofs.Common.{refl, subst, sym, true, ◌∙◌}
 use Rattle.utf16_str.specs.WStr.{wstr_text}
-use Rattle.utf16_str.proofs.PredicateBytes.{bytes_before}
+use Rattle.utf16_str.proofs.AffixLemmas.{bytes_before}
 use Rattle.utf16_str.proofs.PredicatePassed.{IsPassedBack, passed_back-more, passed_back-none}
 use Rattle.utf16_str.proofs.PredicateTrims.{trimmed_back-all, trimmed_back-stop}
 use Rattle.utf16_str.proofs.wstr.WStr.trim_end_by.Goals as goal

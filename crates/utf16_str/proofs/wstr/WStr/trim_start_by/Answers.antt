@@ -1,6 +1,6 @@
 use Rattle.std.proofs.Common.{refl, subst, sym, true, ◌∙◌}
 use Rattle.utf16_str.specs.WStr.{wstr_text}
-use Rattle.utf16_str.proofs.PredicateBytes.{bytes_after}
+use Rattle.utf16_str.proofs.AffixLemmas.{bytes_left}
 use Rattle.utf16_str.proofs.PredicatePassed.{IsPassed, passed-more, passed-none}
 use Rattle.utf16_str.proofs.PredicateTrims.{trimmed-all, trimmed-stop}
 use Rattle.utf16_str.proofs.wstr.WStr.trim_start_by.Goals as goal
@@ -23,11 +23,11 @@ returns-then-not-predicate-clause-text g c =
 
 pub returns-then-not-predicate-clause-bytes : goal.returns-then-not-predicate-clause-bytes
 returns-then-not-predicate-clause-bytes g c =
-    bytes_after _ _ _ c.args.self.well_formed c.loop-c.rest.well_formed c.loop-c.invariant.passed.front c.loop-c.invariant.passed.split
+    bytes_left _ _ _ c.args.self.well_formed c.loop-c.rest.well_formed c.loop-c.invariant.passed.front c.loop-c.invariant.passed.split
 
 pub returns-clause-text : goal.returns-clause-text
 returns-clause-text g c = trimmed-all _ _ _ c.loop-c.invariant.passed (sym c.loop-c.invariant.same ∙ c.in_default.ensures.steps.0)
 
 pub returns-clause-bytes : goal.returns-clause-bytes
 returns-clause-bytes g c =
-    bytes_after _ _ _ c.args.self.well_formed c.loop-c.rest.well_formed c.loop-c.invariant.passed.front c.loop-c.invariant.passed.split
+    bytes_left _ _ _ c.args.self.well_formed c.loop-c.rest.well_formed c.loop-c.invariant.passed.front c.loop-c.invariant.passed.split

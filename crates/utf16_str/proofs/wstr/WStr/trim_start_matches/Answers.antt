@@ -1,8 +1,9 @@
 use Rattle.std.proofs.Common.{◌∙◌, arith, refl}
 use Rattle.std.proofs.lemmas.Bool.{false≢true}
 use Rattle.utf16_str.specs.WStr.{wstr_text}
+use Rattle.utf16_str.proofs.AffixLemmas.{bytes_left}
 use Rattle.utf16_str.proofs.CutFront.{long_part, no_part}
-use Rattle.utf16_str.proofs.TrimMatches.{bytes-left, shorter, taken-start, taken-start-more}
+use Rattle.utf16_str.proofs.TrimMatches.{shorter, taken-start, taken-start-more}
 use Rattle.utf16_str.proofs.wstr.WStr.trim_start_matches.Goals as goal
 
 pub loop-rest-init : goal.loop-rest-init
@@ -31,4 +32,4 @@ returns-clause-text g c = record {
 }
 
 pub returns-clause-bytes : goal.returns-clause-bytes
-returns-clause-bytes g c = bytes-left _ _ _ _ c.args.self.well_formed c.loop-rest.text.well_formed c.loop-rest.invariant.split
+returns-clause-bytes g c = bytes_left _ _ _ c.args.self.well_formed c.loop-rest.text.well_formed _ c.loop-rest.invariant.split

@@ -3,13 +3,13 @@ use Rattle.std.proofs.lemmas.Bool.{false≢true}
 use Rattle.std.proofs.lemmas.Result.{on_ok_weaker}
 use Rattle.utf16_units.specs.Encoding.{text_of}
 use Rattle.utf16string.specs.WString.{wstring_text}
-use Rattle.utf16string.proofs.EmptyPart.{size-empty}
+use Rattle.utf16_str.proofs.CutFront.{no_size}
 use Rattle.utf16string.proofs.Replacing.{ahead-end, ahead-start, between-last, between-step, no-char, no-text, none-between, nothing-left}
 use Rattle.utf16string.proofs.wstring.replaces.push_between.Goals as goal
 
 pub returns-in_err-reserve_exact-clause-nothing : goal.returns-in_err-reserve_exact-clause-nothing
 returns-in_err-reserve_exact-clause-nothing g c none =
-    absurd (false≢true (c.in_err-reserve_exact.ensures.succeeds (omega (arith, c.len-len.ensures.size, size-empty _ (no-text c.args.count _ _ none), c.args.made.now.raw.ok))))
+    absurd (false≢true (c.in_err-reserve_exact.ensures.succeeds (omega (arith, c.len-len.ensures.size, no_size _ (no-text c.args.count _ _ none), c.args.made.now.raw.ok))))
 
 pub loop-init : goal.loop-init
 loop-init g c =
@@ -18,7 +18,7 @@ loop-init g c =
       ahead-start [] _ _ _ _ _ c.args.count same c.chars-chars.ensures.text,
       (
         omega (arith, ap length same),
-        λ none. c.in_ok-reserve_exact.ensures.exact ∙ omega (arith, c.len-len.ensures.size, size-empty _ (no-text c.args.count _ _ none), held),
+        λ none. c.in_ok-reserve_exact.ensures.exact ∙ omega (arith, c.len-len.ensures.size, no_size _ (no-text c.args.count _ _ none), held),
       ),
     )
 

@@ -4,7 +4,7 @@ use Rattle.std.proofs.lemmas.Bool.{false≢true}
 use Rattle.std.specs.Str.{chars}
 use Rattle.utf16string.specs.WString.{ExtendsStrs}
 use Rattle.utf16string.proofs.Appended.{no_chars, no_text}
-use Rattle.utf16string.proofs.EmptyPart.{size-empty}
+use Rattle.utf16_str.proofs.CutFront.{no_size}
 use Rattle.utf16string.proofs.Joined.{joined-more, joined-none}
 use Rattle.utf16string.proofs.wstring.extends.WStringExtendRefStr.extend.Goals as goal
 
@@ -17,7 +17,7 @@ pub loop-string-preserved : goal.loop-string-preserved
 loop-string-preserved g c =
     let put = c.in_ok-push_str.ensures in
     joined-more (λ s. chars s.now) c.args.self.now c.loop-string.yielded c.loop-string.self c.push_str.new.self c.in-Some.string c.loop-string.invariant put.text put.len put.grows
-    (λ none. false≢true (sym c.if-is_empty.false ∙ c.is_empty.ensures ∙ eq-eqb _ _ (no_chars c.in-Some.string.now (search rules) (size-empty _ none))))
+    (λ none. false≢true (sym c.if-is_empty.false ∙ c.is_empty.ensures ∙ eq-eqb _ _ (no_chars c.in-Some.string.now (search rules) (no_size _ none))))
 
 pub returns-clause-runs : goal.returns-clause-runs
 returns-clause-runs g c =

@@ -1,5 +1,0 @@
-use Rattle.std.proofs.Common.{rules}
-use Rattle.utf16_str.proofs.slicing.RangeUsizeSliceIndex.window.Goals as goal
-
-pub returns : goal.returns
-returns g c = search rules
