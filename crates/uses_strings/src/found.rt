@@ -6,7 +6,7 @@ ghost use Rattle.std.specs.Str.{drop_trailing_whitespace, skip_leading_whitespac
 ghost use Rattle.std.specs.Str.Lines.{lines};
 ghost use Rattle.utf16string.specs.Boundary.{OccursIn};
 ghost use Rattle.utf16string.specs.Occurrence.{IsFirst, IsLast};
-ghost use Rattle.utf16string.specs.Splits.{words};
+ghost use Rattle.utf16string.specs.Substrings.{words};
 ghost use Rattle.utf16string.specs.WStr.{wstr_text};
 
 use std::alloc::{AllocError, Allocator};

@@ -6,7 +6,7 @@ ghost use Rattle.utf16_units.specs.Boundary.{IsBoundary, text_between, text_from
 ghost use Rattle.utf16_units.specs.Delimited.{Lacks};
 ghost use Rattle.utf16_units.specs.Encoding.{Encodes, size};
 ghost use Rattle.utf16string.specs.Offsets.{char_offsets};
-ghost use Rattle.utf16string.specs.Splits.{LiesIn};
+ghost use Rattle.utf16string.specs.Substrings.{LiesIn};
 ghost use Rattle.utf16string.specs.WStr.{wstr_bytes, wstr_text};
 ghost use Rattle.utf16string.specs.WString.{wstring_text};
 

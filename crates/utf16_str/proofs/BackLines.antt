@@ -3,7 +3,7 @@ use Rattle.std.proofs.Common.{◌≡◌, ◌≢◌, ℕ, ◌<◌, Bool, eqb, Lis
 use Rattle.std.specs.List.{slice_split}
 use Rattle.std.specs.Str.Lines.{lines, lines_of_parts, strip_carriage_return}
 use Rattle.utf16_units.specs.Delimited.{Lacks}
-use Rattle.utf16_str.specs.Splits.{EndsWithAny}
+use Rattle.utf16_str.specs.Substrings.{EndsWithAny}
 use Rattle.utf16_str.proofs.AroundLemmas.{last_of}
 use Rattle.utf16_str.proofs.PredicateAround.{some-parts, split-around}
 use Rattle.utf16_str.proofs.LineLemmas.{lines-first, lines-last, lines_of_parts-cons}

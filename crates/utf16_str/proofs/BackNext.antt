@@ -1,7 +1,7 @@
 -- The next item from the back of an iterator over substrings between occurrences of a character.
 use Rattle.std.proofs.Common.{◌≡◌, ℕ, Bool, true, false, List, [], ◌∷◌, ◌++◌, Option, None, Some, ap, reverse, refl, sym, ◌∙◌}
 use Rattle.std.proofs.lemmas.List.{reverse-append, reverse-reverse}
-use Rattle.utf16_str.specs.Splits.{parts_left}
+use Rattle.utf16_str.specs.Substrings.{parts_left}
 
 module _ (c : ℕ) where
   -- from the end they come in reverse

@@ -5,7 +5,7 @@ use Rattle.std.proofs.lemmas.List.Sums.{count_by-le-length}
 use Rattle.std.proofs.lemmas.List.Splits.{length-slice_split}
 use Rattle.std.specs.List.{slice_split}
 use Rattle.utf16_units.proofs.PartsEnded.{parts_lack}
-use Rattle.utf16_str.specs.Splits.{EachLacks, parts_between, parts_from, parts_toward, rparts_from, single_chars}
+use Rattle.utf16_str.specs.Substrings.{EachLacks, parts_between, parts_from, parts_toward, rparts_from, single_chars}
 use Rattle.utf16_str.proofs.PartAbsent.{absent-between}
 use Rattle.utf16_str.proofs.PartCounts.{Counted, count-between}
 

@@ -3,7 +3,7 @@ use Rattle.std.proofs.Common.{◌≡◌, ◌≢◌, ℕ, ◌<◌, Bool, true, fa
 use Rattle.std.proofs.lemmas.List.{length-reverse, reverse-append, reverse-reverse}
 use Rattle.std.specs.List.{slice_split}
 use Rattle.utf16_units.proofs.DelimitedLemmas.{parts-last}
-use Rattle.utf16_str.specs.Splits.{IsAfterLast, LacksPart, parts_between, rparts_from, single_chars}
+use Rattle.utf16_str.specs.Substrings.{IsAfterLast, LacksPart, parts_between, rparts_from, single_chars}
 use Rattle.utf16_str.proofs.PartLemmas.{Absent, NoneEarlier, between-first, between-last}
 use Rattle.utf16_str.proofs.SplitLemmas.{parts-last_one}
 

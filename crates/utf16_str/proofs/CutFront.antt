@@ -4,7 +4,7 @@ use Rattle.utf16_units.specs.Encoding.{size}
 use Rattle.utf16_units.proofs.BoundaryLemmas.{char_size-pos}
 use Rattle.utf16_units.proofs.DelimitedLemmas.{parts-first, parts-last}
 use Rattle.utf16_units.proofs.EncodingLemmas.{size-cons, size-nil}
-use Rattle.utf16_str.specs.Splits.{IsBeforeFirst, LacksPart, parts_from, single_chars}
+use Rattle.utf16_str.specs.Substrings.{IsBeforeFirst, LacksPart, parts_from, single_chars}
 use Rattle.utf16_str.proofs.PartLemmas.{between-first, between-last}
 
 -- a part without a size has no characters

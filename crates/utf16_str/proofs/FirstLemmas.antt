@@ -8,7 +8,7 @@ use Rattle.utf16_units.proofs.EncodingLemmas.{size-cons, size-nil}
 use Rattle.utf16_bytes.specs.Occurrence.{IsFirst, IsLast}
 use Rattle.utf16_bytes.proofs.OccurrenceLemmas.{text_around}
 use Rattle.utf16_bytes.proofs.PatternLemmas.{between_parts}
-use Rattle.utf16_str.specs.Splits.{IsAfterLast, IsBeforeFirst, LacksPart}
+use Rattle.utf16_str.specs.Substrings.{IsAfterLast, IsBeforeFirst, LacksPart}
 use Rattle.utf16_str.proofs.CharSearch.{lacks-not, lacks_after, lacks_all, lacks_before}
 
 -- of two beginnings of a text, the one of the lesser size has fewer characters

@@ -10,7 +10,7 @@ use Rattle.utf16_units.specs.Encoding.{size}
 use Rattle.utf16_bytes.specs.Occurrence.{IsFirst}
 use Rattle.utf16_bytes.proofs.OccurrenceLemmas.{text_around}
 use Rattle.utf16_str.specs.Found.{after_part, before_part, has_part, occurs, text_before}
-use Rattle.utf16_str.specs.Splits.{IsBeforeFirst, LacksPart}
+use Rattle.utf16_str.specs.Substrings.{IsBeforeFirst, LacksPart}
 use Rattle.utf16_str.proofs.CharFound.{around, found, lacks-any, or-true, whole}
 use Rattle.utf16_str.proofs.FirstLemmas.{lacks_part}
 use Rattle.utf16_str.proofs.PartLemmas.{Absent, NoneEarlier, begins, not_begun}

@@ -3,7 +3,7 @@ use Rattle.std.proofs.Common.{◌≡◌, ℕ, ◌<◌, Bool, true, false, eqb, L
 use Rattle.std.proofs.lemmas.List.{length-map, length-reverse, reverse-append, reverse-reverse}
 use Rattle.std.proofs.lemmas.List.Splits.{join_with_byte-slice_split}
 use Rattle.std.specs.List.{slice_split}
-use Rattle.utf16_str.specs.Splits.{in_order, joined_toward, joined_with, parts_between, parts_from, parts_toward, rjoined_with, rparts_from, single_chars}
+use Rattle.utf16_str.specs.Substrings.{in_order, joined_toward, joined_with, parts_between, parts_from, parts_toward, rjoined_with, rparts_from, single_chars}
 use Rattle.utf16_str.proofs.CutBack.{turned}
 use Rattle.utf16_str.proofs.PartCounts.{after-joined, join-between, joined}
 

@@ -6,7 +6,7 @@ use Rattle.std.specs.Option.{is_some}
 use Rattle.utf16_units.specs.Encoding.{size}
 use Rattle.utf16_units.proofs.EncodingLemmas.{size-nil}
 use Rattle.utf16_str.specs.Matches.{closing, left_size, left_text, limited, with_terminators, without_empty_last}
-use Rattle.utf16_str.specs.Splits.{parts_left}
+use Rattle.utf16_str.specs.Substrings.{parts_left}
 use Rattle.utf16_str.proofs.CountLemmas.{count-parts, count-toward}
 use Rattle.utf16_str.proofs.MatchLemmas.{limited-one, with-kept, with-more, without-kept, without-more}
 use Rattle.utf16_str.proofs.SplitLemmas.{progress-part, progress-part-back}

@@ -3,7 +3,7 @@ use Rattle.std.proofs.Common.{◌≡◌, ℕ, zero, suc, ◌-◌, Bool, true, fa
 use Rattle.std.proofs.lemmas.Bool.{false≢true}
 use Rattle.std.proofs.lemmas.List.Elements.{All-cons, All-head, All-nil, All-tail}
 use Rattle.std.specs.List.{onto_first, starts_with}
-use Rattle.utf16_str.specs.Splits.{parts_between}
+use Rattle.utf16_str.specs.Substrings.{parts_between}
 use Rattle.utf16_str.proofs.PartLemmas.{Absent, begins}
 
 abbrev head : List (List ℕ) → List ℕ

@@ -1,7 +1,7 @@
 -- How many substrings there are between occurrences of a part, and that joined they are the text.
 use Rattle.std.proofs.Common.{◌≡◌, ℕ, zero, suc, ◌+◌, ◌-◌, ◌<◌, ◌≤◌, Bool, true, false, cond, List, [], ◌∷◌, ◌++◌, length, drop, nat_eq, refl, sym, ap, ◌∙◌, arith, append_assoc, flat_map}
 use Rattle.std.specs.List.{join_by, onto_first, starts_with}
-use Rattle.utf16_str.specs.Splits.{parts_between}
+use Rattle.utf16_str.specs.Substrings.{parts_between}
 use Rattle.utf16_str.proofs.PartLemmas.{at_char, begins}
 
 pub onto-some : (c : ℕ) (parts : List (List ℕ)) → 0 < length (onto_first c parts)

@@ -3,7 +3,7 @@ use Rattle.std.proofs.Common.{◌≡◌, ℕ, ◌-◌, ◌≤◌, Bool, true, fa
 use Rattle.std.proofs.lemmas.Bool.Decides.{Decides-eqb}
 use Rattle.std.proofs.lemmas.Slice.Eq.{starts_is}
 use Rattle.std.specs.List.{onto_first, starts_with}
-use Rattle.utf16_str.specs.Splits.{parts_between}
+use Rattle.utf16_str.specs.Substrings.{parts_between}
 
 -- no occurrence of a part begins before the end of `front`
 abbrev pub NoneEarlier : List ℕ → List ℕ → List ℕ → Type 0

@@ -9,7 +9,7 @@ use Rattle.utf16_units.specs.Encoding.{encode, is_utf16, size, text_of}
 use Rattle.utf16_units.proofs.EncodingLemmas.{IsUtf16-from_is_utf16, encode-append, encode-text_of, length-encode, size-append}
 use Rattle.utf16_units.proofs.PartLemmas.{IsBoundary-seam}
 use Rattle.utf16_str.specs.Matches.{YieldsPartsAt}
-use Rattle.utf16_str.specs.Splits.{LiesAt, LiesIn, YieldsPartsOf, YieldsPartsOfBack, parts_toward}
+use Rattle.utf16_str.specs.Substrings.{LiesAt, LiesIn, YieldsPartsOf, YieldsPartsOfBack, parts_toward}
 use Rattle.utf16_str.specs.Window.{IsWindowOf, bytes_between}
 use Rattle.utf16_str.specs.WStr.{wstr_bytes, wstr_text}
 use Rattle.utf16_str.specs.declared.wstr.WStr.{WStr}

@@ -6,7 +6,7 @@ use Rattle.std.specs.Iterator.{Yields}
 use Rattle.std.specs.Iterator.Runs.{EachRunFrom}
 use Rattle.utf16_units.specs.declared.byte_order.Utf16Order.{Ghosts}
 use Rattle.utf16_str.specs.Predicates.{GivesLastPart, GivesPart}
-use Rattle.utf16_str.specs.Splits.{LiesIn}
+use Rattle.utf16_str.specs.Substrings.{LiesIn}
 use Rattle.utf16_str.specs.SplitWith.{split_predicate, split_rest, split_steps, split_steps_back}
 use Rattle.utf16_str.specs.WStr.{wstr_text}
 use Rattle.utf16_str.specs.declared.split_with.WStrSplitWith.{WStrSplitWith}

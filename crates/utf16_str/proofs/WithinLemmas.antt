@@ -8,7 +8,7 @@ use Rattle.std.specs.Str.Lines.{lines_of_parts, strip_carriage_return}
 use Rattle.utf16_units.specs.Encoding.{size}
 use Rattle.utf16_units.proofs.EncodingLemmas.{size-append, size-nil}
 use Rattle.utf16_str.specs.Matches.{limited, match_offsets, rmatch_offsets, with_terminators, without_empty_last}
-use Rattle.utf16_str.specs.Splits.{in_order, joined_toward, joined_with, parts_toward, rjoined_with}
+use Rattle.utf16_str.specs.Substrings.{in_order, joined_toward, joined_with, parts_toward, rjoined_with}
 use Rattle.utf16_str.proofs.JoinLemmas.{join-toward, joins-toward}
 
 -- the part is in the text

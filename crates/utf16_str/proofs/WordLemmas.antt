@@ -7,7 +7,7 @@ use Rattle.std.proofs.lemmas.List.Splits.{length-slice_split, slice_split-cons_y
 use Rattle.std.proofs.lemmas.List.Sums.{count_by-le-length, length-filter}
 use Rattle.std.specs.List.{filter, slice_split}
 use Rattle.utf16_str.specs.Predicates.{AnswersBy, IsCutWith, IsLastCutWith, IsTrimmedEndWith, IsTrimmedStartWith, SaysOfEach}
-use Rattle.utf16_str.specs.Splits.{words_by}
+use Rattle.utf16_str.specs.Substrings.{words_by}
 use Rattle.utf16_str.proofs.PredicateAround.{split-around}
 
 abbrev not_empty : List ℕ → Bool

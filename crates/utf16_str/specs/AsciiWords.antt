@@ -1,7 +1,7 @@
 -- The white space of ASCII, and the words between it.
 use Rattle.std.specs.Prelude.{◌≡◌, ℕ, Bool, List}
 use Rattle.std.specs.Char.{is_ascii_whitespace}
-use Rattle.utf16_str.specs.Splits.{words_by}
+use Rattle.utf16_str.specs.Substrings.{words_by}
 
 -- the answer of `char::is_ascii_whitespace`, which is true of U+0009, U+000A, U+000C, U+000D and
 -- U+0020

@@ -11,7 +11,7 @@ pub use Rattle.utf16_units.specs.TextOrder
 pub use Rattle.utf16_bytes.specs.Occurrence
 pub mod Hash
 pub mod Offsets
-pub mod Splits
+pub mod Substrings
 pub mod Found
 pub mod Matches
 pub mod Trims

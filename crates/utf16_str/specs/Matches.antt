@@ -5,7 +5,7 @@ use Rattle.std.specs.Iterator.{YieldsFirstBy}
 use Rattle.std.specs.Iterator.Runs.{EachRunFrom, EveryRun, ItemsMapTo}
 use Rattle.utf16_units.specs.declared.byte_order.Utf16Order.{Ghosts}
 use Rattle.utf16_units.specs.Encoding.{size}
-use Rattle.utf16_str.specs.Splits.{LiesAt}
+use Rattle.utf16_str.specs.Substrings.{LiesAt}
 use Rattle.utf16_str.specs.WStr.{wstr_text}
 use Rattle.utf16_str.specs.declared.wstr.WStr.{WStr}
 

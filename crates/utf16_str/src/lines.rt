@@ -4,7 +4,7 @@ ghost use Rattle.std.specs.Prelude.{◌≡◌, ◌<◌, ◌^◌, ◌++◌, List,
 ghost use Rattle.utf16_units.specs.Delimited.{Lacks};
 ghost use Rattle.std.specs.Iterator.{YieldsFirstBy, YieldsLastBy, item_count};
 ghost use Rattle.std.specs.Str.Lines.{lines};
-ghost use Rattle.utf16_str.specs.Splits.{EndsWithAny, YieldsPartsOf, YieldsPartsOfBack, YieldsTexts, YieldsTextsBack, lines_left};
+ghost use Rattle.utf16_str.specs.Substrings.{EndsWithAny, YieldsPartsOf, YieldsPartsOfBack, YieldsTexts, YieldsTextsBack, lines_left};
 ghost use Rattle.utf16_str.specs.WStr.{wstr_text};
 
 use crate::WStr;

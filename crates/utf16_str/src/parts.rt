@@ -5,7 +5,7 @@ ghost use Rattle.utf16_units.specs.Boundary.{IsBoundary, OccursIn, text_between,
 ghost use Rattle.utf16_units.specs.Encoding.{size};
 ghost use Rattle.std.specs.Option.{is_some};
 ghost use Rattle.utf16_str.specs.Found.{after_part, before_part, has_part};
-ghost use Rattle.utf16_str.specs.Splits.{IsAfterLast, IsBeforeFirst, LacksPart};
+ghost use Rattle.utf16_str.specs.Substrings.{IsAfterLast, IsBeforeFirst, LacksPart};
 ghost use Rattle.utf16_str.specs.Window.{IsRangeOf, IsWindowOf, bytes_between, range_bytes, range_text};
 ghost use Rattle.utf16_str.specs.WStr.{wstr_bytes, wstr_text};
 

@@ -2,7 +2,7 @@
 
 ghost use Rattle.std.specs.Prelude.{◌≡◌, ◌∷◌, [], Bool, IfSome, IsNone, MatchOption, None, Some, false, option_map, true};
 ghost use Rattle.utf16_str.specs.Matches.{closing, left_text};
-ghost use Rattle.utf16_str.specs.Splits.{in_order, parts_left, parts_toward};
+ghost use Rattle.utf16_str.specs.Substrings.{in_order, parts_left, parts_toward};
 ghost use Rattle.utf16_str.specs.WStr.{wstr_text};
 
 use crate::WStr;

@@ -2,7 +2,7 @@
 
 ghost use Rattle.std.specs.Prelude.{◌≡◌, ◌^◌, ◌<◌, ◌∷◌, [], ℕ, List, length, option_map};
 ghost use Rattle.std.specs.Iterator.{YieldsFirstBy, YieldsLastBy, item_count};
-ghost use Rattle.utf16_str.specs.Splits.{EachLacks, YieldsPartsOf, YieldsPartsOfBack, YieldsTexts, YieldsTextsBack, joined_with, parts_left, rsplit_by, split_by};
+ghost use Rattle.utf16_str.specs.Substrings.{EachLacks, YieldsPartsOf, YieldsPartsOfBack, YieldsTexts, YieldsTextsBack, joined_with, parts_left, rsplit_by, split_by};
 ghost use Rattle.utf16_str.specs.WStr.{wstr_text};
 
 use crate::WStr;

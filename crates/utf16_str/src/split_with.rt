@@ -7,7 +7,7 @@ ghost use Rattle.utf16_units.specs.Boundary.{IsBoundary};
 ghost use Rattle.utf16_units.specs.Encoding.{size};
 ghost use Rattle.utf16_str.specs.WStr.{wstr_text};
 ghost use Rattle.utf16_str.specs.Predicates.{IsCutWith, IsLastCutWith, SaysOfEach};
-ghost use Rattle.utf16_str.specs.Splits.{LiesIn};
+ghost use Rattle.utf16_str.specs.Substrings.{LiesIn};
 ghost use Rattle.utf16_str.specs.SplitWith.{SplitsText, SplitsTextBack, most_parts, split_predicate, split_rest, split_steps, split_steps_back};
 
 use crate::WStr;

@@ -3,7 +3,7 @@
 ghost use Rattle.std.specs.Prelude.{◌≡◌, ◌≤◌, ℕ, List, length, option_map, reverse};
 ghost use Rattle.std.specs.Iterator.{YieldsFirstBy, item_count};
 ghost use Rattle.utf16_str.specs.Matches.{limited};
-ghost use Rattle.utf16_str.specs.Splits.{YieldsPartsOf, YieldsTexts, joined_toward, joined_with, parts_left, rjoined_with, rsplit_by, split_by};
+ghost use Rattle.utf16_str.specs.Substrings.{YieldsPartsOf, YieldsTexts, joined_toward, joined_with, parts_left, rjoined_with, rsplit_by, split_by};
 ghost use Rattle.utf16_str.specs.WStr.{wstr_text};
 
 use crate::WStr;

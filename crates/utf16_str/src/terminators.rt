@@ -3,7 +3,7 @@
 ghost use Rattle.std.specs.Prelude.{◌≡◌, ◌^◌, ◌<◌, ℕ, List, false, length, option_map};
 ghost use Rattle.std.specs.Iterator.{YieldsFirstBy, item_count};
 ghost use Rattle.utf16_str.specs.Matches.{with_terminators, without_empty_last};
-ghost use Rattle.utf16_str.specs.Splits.{YieldsPartsOf, YieldsTexts, parts_left, split_by};
+ghost use Rattle.utf16_str.specs.Substrings.{YieldsPartsOf, YieldsTexts, parts_left, split_by};
 ghost use Rattle.utf16_str.specs.WStr.{wstr_text};
 
 use crate::WStr;

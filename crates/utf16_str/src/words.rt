@@ -4,7 +4,7 @@ ghost use Rattle.std.specs.Prelude.{◌≡◌, ◌≢◌, ◌++◌, ◌∷◌, �
 ghost use Rattle.std.specs.Char.{is_ascii_whitespace, is_whitespace};
 ghost use Rattle.std.specs.Iterator.{YieldsFirstBy, YieldsLastBy, item_count};
 ghost use Rattle.utf16_str.specs.AsciiWords.{ascii_words};
-ghost use Rattle.utf16_str.specs.Splits.{YieldsPartsOf, YieldsPartsOfBack, YieldsTexts, YieldsTextsBack, words, words_by};
+ghost use Rattle.utf16_str.specs.Substrings.{YieldsPartsOf, YieldsPartsOfBack, YieldsTexts, YieldsTextsBack, words, words_by};
 ghost use Rattle.utf16_str.specs.WStr.{wstr_text};
 
 use crate::WStr;

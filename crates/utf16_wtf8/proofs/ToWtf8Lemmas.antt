@@ -142,6 +142,3 @@ pub tail_points-unit : (big : Bool) (tail : List ℕ) → 2 ≤ length tail → 
 tail_points-unit big [] some = absurd (omega arith)
 tail_points-unit big (last ∷ []) some = absurd (omega arith)
 tail_points-unit big (first ∷ second ∷ after) some = refl
-
-pub tail_bytes : (big : Bool) (tail : List ℕ) → 2 ≤ length tail → flat_map generalized_utf8 (tail_points big tail) ≡ generalized_utf8 (first_unit big tail)
-tail_bytes big tail some = ap (flat_map generalized_utf8) (tail_points-unit big tail some) ∙ append-nil (generalized_utf8 (first_unit big tail))

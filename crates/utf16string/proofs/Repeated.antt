@@ -15,10 +15,6 @@ Encodes-repeat big text bytes (suc n) e = Encodes-append big text (repeat n text
 pub repeat-more : (n : ℕ) (xs : List ℕ) → repeat n xs ++ xs ≡ repeat (n + 1) xs
 repeat-more n xs = let more : suc n ≡ n + 1 = omega arith in repeat-push n xs ∙ ap (λ k. repeat k xs) more
 
-pub length-repeat : (n : ℕ) (xs : List ℕ) → length (repeat n xs) ≡ n * length xs
-length-repeat zero xs = omega arith
-length-repeat (suc n) xs = omega (arith, length-append xs (repeat n xs), length-repeat n xs)
-
 repeat-nil : (n : ℕ) → ◌≡◌ {A = List ℕ} [] (repeat n [])
 repeat-nil zero = refl
 repeat-nil (suc n) = repeat-nil n

@@ -15,7 +15,7 @@ pub use Rattle.utf16_str.specs.Matches
 pub use Rattle.utf16_str.specs.Offsets
 pub use Rattle.utf16_str.specs.Parse
 pub use Rattle.utf16_str.specs.Predicates
-pub use Rattle.utf16_str.specs.Splits
+pub use Rattle.utf16_str.specs.Substrings
 pub use Rattle.utf16_str.specs.SplitWith
 pub use Rattle.utf16_str.specs.Found
 pub use Rattle.utf16_str.specs.Trims

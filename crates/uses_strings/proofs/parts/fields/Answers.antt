@@ -1,6 +1,6 @@
 use Rattle.std.proofs.Common.{All, subst, sym}
 use Rattle.std.proofs.lemmas.Result.{IfOk-weaker}
-use Rattle.utf16string.specs.Splits.{LiesIn}
+use Rattle.utf16string.specs.Substrings.{LiesIn}
 use Rattle.uses_strings.proofs.parts.fields.Goals as goal
 
 pub returns-clause-within : goal.returns-clause-within

@@ -2,7 +2,7 @@ use Rattle.std.proofs.Common.{◌≡◌, ◌≢◌, ℕ, List, [], ◌∷◌, �
 use Rattle.std.proofs.lemmas.Bool.{false≢true}
 use Rattle.std.specs.Iterator.{YieldsLastBy}
 use Rattle.std.specs.Str.Lines.{lines}
-use Rattle.utf16_str.specs.Splits.{lines_left}
+use Rattle.utf16_str.specs.Substrings.{lines_left}
 use Rattle.utf16_str.specs.WStr.{wstr_text}
 use Rattle.utf16_str.proofs.BackLines.{lines-closed, lines-none, lines-rest}
 use Rattle.utf16_str.proofs.LineLemmas.{lines-nil, strip-or}

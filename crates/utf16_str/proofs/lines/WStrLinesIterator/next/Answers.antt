@@ -2,7 +2,7 @@ use Rattle.std.proofs.Common.{◌≡◌, ◌≢◌, ℕ, List, [], Some, rules, 
 use Rattle.std.specs.Iterator.{YieldsFirstBy}
 use Rattle.std.specs.Str.Lines.{lines}
 use Rattle.utf16_units.specs.Delimited.{Lacks}
-use Rattle.utf16_str.specs.Splits.{lines_left}
+use Rattle.utf16_str.specs.Substrings.{lines_left}
 use Rattle.utf16_str.specs.WStr.{wstr_text}
 use Rattle.utf16_str.proofs.LineLemmas.{lines-first, lines-last, lines-nil, strip-or}
 use Rattle.utf16_str.proofs.SplitLemmas.{progress-part}

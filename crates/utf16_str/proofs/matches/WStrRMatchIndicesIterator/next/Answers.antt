@@ -2,7 +2,7 @@ use Rattle.std.proofs.Common.{true, ◌≡◌, ◌∙◌, ◌+◌, ◌-◌, ◌+
 use Rattle.utf16_units.specs.Encoding.{size}
 use Rattle.utf16_units.proofs.EncodingLemmas.{size-append}
 use Rattle.utf16_str.specs.Matches.{closing, left_size, left_text, rmatch_offsets}
-use Rattle.utf16_str.specs.Splits.{parts_left}
+use Rattle.utf16_str.specs.Substrings.{parts_left}
 use Rattle.utf16_str.specs.WStr.{wstr_text}
 use Rattle.utf16_str.proofs.AffixLemmas.{IsCutBetween, cut_between}
 use Rattle.utf16_str.proofs.MatchLemmas.{roffsets-step}

@@ -2,7 +2,7 @@ use Rattle.std.proofs.Common.{◌≡◌, ◌≢◌, ◌∙◌, ◌++◌, ◌∷�
 use Rattle.std.proofs.lemmas.Bool.{false≢true}
 use Rattle.utf16_units.specs.Encoding.{size}
 use Rattle.utf16_units.proofs.EncodingLemmas.{size-nil}
-use Rattle.utf16_str.specs.Splits.{rparts_from}
+use Rattle.utf16_str.specs.Substrings.{rparts_from}
 use Rattle.utf16_str.specs.WStr.{wstr_text}
 use Rattle.utf16_str.proofs.AffixLemmas.{cut_between}
 use Rattle.utf16_str.proofs.CutFront.{no_part}

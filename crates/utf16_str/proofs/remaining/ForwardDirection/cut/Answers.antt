@@ -2,7 +2,7 @@ use Rattle.std.proofs.Common.{◌≡◌, ◌≢◌, ◌∙◌, ◌-◌, ◌++◌
 use Rattle.std.proofs.lemmas.Bool.{false≢true}
 use Rattle.utf16_units.specs.Encoding.{size}
 use Rattle.utf16_units.proofs.EncodingLemmas.{size-append, size-nil}
-use Rattle.utf16_str.specs.Splits.{parts_from}
+use Rattle.utf16_str.specs.Substrings.{parts_from}
 use Rattle.utf16_str.specs.WStr.{wstr_text}
 use Rattle.utf16_str.proofs.AffixLemmas.{IsCutBetween, cut_between}
 use Rattle.utf16_str.proofs.CutFront.{no_part, parts-char, parts-cut, parts-none, parts-whole}

@@ -1,6 +1,6 @@
 use Rattle.std.proofs.Common.{false, true, ◌∙◌, ◌∷◌, ◌++◌, [], List, ap, option_map, refl, subst, sym, ℕ}
 use Rattle.std.specs.Iterator.{YieldsLastBy}
-use Rattle.utf16_str.specs.Splits.{parts_left}
+use Rattle.utf16_str.specs.Substrings.{parts_left}
 use Rattle.utf16_str.specs.WStr.{wstr_text}
 use Rattle.utf16_str.proofs.BackNext.{back-none, back-some}
 use Rattle.utf16_str.proofs.split.WStrPartsCharForwardDoubleEndedIterator.next_back.Goals as goal

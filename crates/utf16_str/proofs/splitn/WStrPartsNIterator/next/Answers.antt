@@ -1,7 +1,7 @@
 use Rattle.std.proofs.Common.{◌-◌, ◌∙◌, List, ℕ, ap, arith, option_map, refl, subst, sym}
 use Rattle.std.specs.Iterator.{YieldsFirstBy}
 use Rattle.utf16_str.specs.Matches.{limited}
-use Rattle.utf16_str.specs.Splits.{joined_toward, parts_left}
+use Rattle.utf16_str.specs.Substrings.{joined_toward, parts_left}
 use Rattle.utf16_str.specs.WStr.{wstr_text}
 use Rattle.utf16_str.proofs.CountLemmas.{count-toward}
 use Rattle.utf16_str.proofs.JoinLemmas.{join-toward}

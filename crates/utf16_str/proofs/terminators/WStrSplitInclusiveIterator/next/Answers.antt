@@ -1,7 +1,7 @@
 use Rattle.std.proofs.Common.{false, ◌≡◌, ◌∙◌, [], None, ap, option_map, sym}
 use Rattle.std.proofs.lemmas.Bool.{false≢true}
 use Rattle.utf16_str.specs.Matches.{with_terminators}
-use Rattle.utf16_str.specs.Splits.{parts_left}
+use Rattle.utf16_str.specs.Substrings.{parts_left}
 use Rattle.utf16_str.specs.WStr.{wstr_text}
 use Rattle.utf16_str.proofs.NextLemmas.{mapped-some, with-next}
 use Rattle.utf16_str.proofs.SplitLemmas.{progress-part}

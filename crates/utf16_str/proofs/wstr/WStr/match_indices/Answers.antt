@@ -2,7 +2,7 @@ use Rattle.std.proofs.Common.{◌≡◌, All, ap₂, arith, false, option_map, r
 use Rattle.utf16_units.specs.Encoding.{size}
 use Rattle.utf16_units.proofs.EncodingLemmas.{IsUtf16-from_is_utf16, length-text}
 use Rattle.utf16_str.specs.Matches.{left_size, match_offsets}
-use Rattle.utf16_str.specs.Splits.{parts_left, split_by}
+use Rattle.utf16_str.specs.Substrings.{parts_left, split_by}
 use Rattle.utf16_str.specs.WStr.{wstr_text}
 use Rattle.utf16_str.proofs.JoinLemmas.{join-parts}
 use Rattle.utf16_str.proofs.MatchLemmas.{length-offsets}

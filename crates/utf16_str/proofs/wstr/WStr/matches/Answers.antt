@@ -1,7 +1,7 @@
 use Rattle.std.proofs.Common.{arith, false, sym}
 use Rattle.std.proofs.lemmas.List.{length-map}
 use Rattle.std.proofs.lemmas.List.Elements.{All-map, All-same, All-weaker}
-use Rattle.utf16_str.specs.Splits.{split_by}
+use Rattle.utf16_str.specs.Substrings.{split_by}
 use Rattle.utf16_str.specs.WStr.{wstr_text}
 use Rattle.utf16_str.proofs.JoinLemmas.{join-parts}
 use Rattle.utf16_str.proofs.PartWindows.{yields_parts}

@@ -1,6 +1,6 @@
 use Rattle.std.proofs.Common.{true, All, arith, false, option_map, rules, subst, sym}
 use Rattle.utf16_str.specs.Matches.{left_size}
-use Rattle.utf16_str.specs.Splits.{parts_left, rsplit_by}
+use Rattle.utf16_str.specs.Substrings.{parts_left, rsplit_by}
 use Rattle.utf16_str.specs.WStr.{wstr_text}
 use Rattle.utf16_str.proofs.JoinLemmas.{join-rparts}
 use Rattle.utf16_str.proofs.MatchLemmas.{length-roffsets}

@@ -1,6 +1,6 @@
 use Rattle.std.proofs.Common.{◌↔◌, refl, subst, sym}
 use Rattle.std.specs.Option.{IsNone}
-use Rattle.utf16_str.specs.Splits.{IsAfterLast, LacksPart}
+use Rattle.utf16_str.specs.Substrings.{IsAfterLast, LacksPart}
 use Rattle.utf16_str.specs.WStr.{wstr_text}
 use Rattle.utf16_str.proofs.FirstLemmas.{after_last, lacks_part, lacks_part-not}
 use Rattle.utf16_str.proofs.wstr.WStr.rsplit_once.Goals as goal

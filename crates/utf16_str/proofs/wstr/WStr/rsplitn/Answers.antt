@@ -1,5 +1,5 @@
 use Rattle.std.proofs.Common.{true, option_map, ◌≡◌, sym, false, rules, ◌∙◌, ap}
-use Rattle.utf16_str.specs.Splits.{rjoined_with, parts_left, rsplit_by}
+use Rattle.utf16_str.specs.Substrings.{rjoined_with, parts_left, rsplit_by}
 use Rattle.utf16_str.specs.WStr.{wstr_text}
 use Rattle.utf16_str.proofs.MatchLemmas.{length-limited}
 use Rattle.utf16_str.proofs.SplitLemmas.{text_runs}

@@ -1,5 +1,5 @@
 use Rattle.std.proofs.Common.{◌≡◌, arith, false, option_map, rules, subst, sym}
-use Rattle.utf16_str.specs.Splits.{EachLacks, joined_with, parts_left, split_by}
+use Rattle.utf16_str.specs.Substrings.{EachLacks, joined_with, parts_left, split_by}
 use Rattle.utf16_str.specs.WStr.{wstr_text}
 use Rattle.utf16_str.proofs.CountLemmas.{each_lacks}
 use Rattle.utf16_str.proofs.JoinLemmas.{join-parts}

@@ -1,5 +1,5 @@
 use Rattle.std.proofs.Common.{◌∷◌, ◌∙◌, ap, ap₂, rules, sym}
-use Rattle.utf16_str.specs.Splits.{words_by}
+use Rattle.utf16_str.specs.Substrings.{words_by}
 use Rattle.utf16_str.specs.WStr.{wstr_text}
 use Rattle.utf16_str.proofs.PredicateCuts.{cut-end}
 use Rattle.utf16_str.proofs.WordLemmas.{first-cut, first-none, first-only, first-some}

@@ -1,5 +1,5 @@
 use Rattle.std.proofs.Common.{◌≡◌, ap, arith, false, option_map, rules, sym, ◌∙◌}
-use Rattle.utf16_str.specs.Splits.{joined_with, parts_left, split_by}
+use Rattle.utf16_str.specs.Substrings.{joined_with, parts_left, split_by}
 use Rattle.utf16_str.specs.WStr.{wstr_text}
 use Rattle.utf16_str.proofs.MatchLemmas.{length-with}
 use Rattle.utf16_str.proofs.SplitLemmas.{text_runs}

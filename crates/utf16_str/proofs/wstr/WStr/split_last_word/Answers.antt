@@ -1,6 +1,6 @@
 use Rattle.std.proofs.Common.{[], ◌∷◌, ◌++◌, ◌∙◌, ap, ap₂, rules, sym}
 use Rattle.utf16_units.proofs.BoundaryLemmas.{IsBoundary-start}
-use Rattle.utf16_str.specs.Splits.{words_by}
+use Rattle.utf16_str.specs.Substrings.{words_by}
 use Rattle.utf16_str.specs.WStr.{wstr_text}
 use Rattle.utf16_str.proofs.PredicateCuts.{cut-start}
 use Rattle.utf16_str.proofs.WordLemmas.{last-cut, last-none, last-only, last-some}

@@ -4,7 +4,7 @@ use Rattle.utf16_units.specs.Boundary.{OccursIn, text_to}
 use Rattle.utf16_units.proofs.EncodingLemmas.{IsUtf16-from_Encodes}
 use Rattle.utf16_bytes.specs.Occurrence.{IsFirst}
 use Rattle.utf16_str.specs.Found.{has_part}
-use Rattle.utf16_str.specs.Splits.{IsBeforeFirst, LacksPart}
+use Rattle.utf16_str.specs.Substrings.{IsBeforeFirst, LacksPart}
 use Rattle.utf16_str.specs.WStr.{wstr_text}
 use Rattle.utf16_str.proofs.FirstLemmas.{before_first, lacks_part, lacks_part-not}
 use Rattle.utf16_str.proofs.FoundLemmas.{around_part, found_is, has-there, without_part}

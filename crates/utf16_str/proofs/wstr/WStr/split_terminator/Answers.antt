@@ -1,6 +1,6 @@
 use Rattle.std.proofs.Common.{◌≡◌, arith, false, option_map, rules, All, subst, sym}
 use Rattle.utf16_str.specs.Matches.{without_empty_last}
-use Rattle.utf16_str.specs.Splits.{parts_left, split_by}
+use Rattle.utf16_str.specs.Substrings.{parts_left, split_by}
 use Rattle.utf16_str.specs.WStr.{wstr_text}
 use Rattle.utf16_str.proofs.MatchLemmas.{length-without}
 use Rattle.utf16_str.proofs.SplitLemmas.{text_runs}
