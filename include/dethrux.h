@@ -148,8 +148,9 @@
 /** @} */
 
 /**
- * The most bytes that dethrux_to_utf8_partial and dethrux_to_wtf8_partial leave unread with
- * DETHRUX_INCOMPLETE, and that a decoder or an encoder keeps.
+ * The most bytes that dethrux_to_utf8_partial, dethrux_from_utf8_partial and
+ * dethrux_to_wtf8_partial leave unread with DETHRUX_INCOMPLETE, and that a decoder or an encoder
+ * keeps.
  *
  * @ingroup dethrux_streams
  */
@@ -506,6 +507,24 @@ DETHRUX_NODISCARD dethrux_progress dethrux_from_utf8(
  * @ingroup dethrux_lossy
  */
 DETHRUX_NODISCARD dethrux_progress dethrux_from_utf8_lossy(
+    dethrux_byte_order byte_order, const void *utf8, size_t len, void *to, size_t capacity);
+
+/**
+ * Converts the next chunk of a stream to UTF-16, without an encoder.
+ *
+ * This is like dethrux_from_utf8_lossy, but does not read an incomplete character at the end. The
+ * stream may be cut anywhere; no state is kept. However the stream is cut, the same bytes are
+ * written in all.
+ *
+ * @param capacity DETHRUX_UTF16_MAX(len) suffices; a loop needs 4
+ * @return how far the call came, with one of these statuses:
+ * - DETHRUX_DONE: all of the chunk was read
+ * - DETHRUX_INCOMPLETE: at most DETHRUX_PENDING_MAX bytes follow `read`: put them before the next
+ *   chunk, and at the end of the stream pass them to dethrux_from_utf8_lossy
+ * - DETHRUX_NO_SPACE: the next character does not fit: call again with the rest
+ * @ingroup dethrux_streams
+ */
+DETHRUX_NODISCARD dethrux_progress dethrux_from_utf8_partial(
     dethrux_byte_order byte_order, const void *utf8, size_t len, void *to, size_t capacity);
 
 /**

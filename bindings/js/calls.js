@@ -19,6 +19,7 @@ export const CALLS = {
     to_utf8_partial: ["utf16ToUtf8", "progress"],
     from_utf8: ["bytesToUtf16", "progress"],
     from_utf8_lossy: ["bytesToUtf16", "progress"],
+    from_utf8_partial: ["bytesToUtf16", "progress"],
     inspect: ["utf16", "inspection"],
     to_utf32: ["utf16ToUtf32", "progress"],
     to_utf32_lossy: ["utf16ToUtf32", "progress"],

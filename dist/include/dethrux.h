@@ -148,8 +148,9 @@
 /** @} */
 
 /**
- * The most bytes that dethrux_to_utf8_partial and dethrux_to_wtf8_partial leave unread with
- * DETHRUX_INCOMPLETE, and that a decoder or an encoder keeps.
+ * The most bytes that dethrux_to_utf8_partial, dethrux_from_utf8_partial and
+ * dethrux_to_wtf8_partial leave unread with DETHRUX_INCOMPLETE, and that a decoder or an encoder
+ * keeps.
  *
  * @ingroup dethrux_streams
  */
@@ -506,6 +507,24 @@ DETHRUX_NODISCARD dethrux_progress dethrux_from_utf8(
  * @ingroup dethrux_lossy
  */
 DETHRUX_NODISCARD dethrux_progress dethrux_from_utf8_lossy(
+    dethrux_byte_order byte_order, const void *utf8, size_t len, void *to, size_t capacity);
+
+/**
+ * Converts the next chunk of a stream to UTF-16, without an encoder.
+ *
+ * This is like dethrux_from_utf8_lossy, but does not read an incomplete character at the end. The
+ * stream may be cut anywhere; no state is kept. However the stream is cut, the same bytes are
+ * written in all.
+ *
+ * @param capacity DETHRUX_UTF16_MAX(len) suffices; a loop needs 4
+ * @return how far the call came, with one of these statuses:
+ * - DETHRUX_DONE: all of the chunk was read
+ * - DETHRUX_INCOMPLETE: at most DETHRUX_PENDING_MAX bytes follow `read`: put them before the next
+ *   chunk, and at the end of the stream pass them to dethrux_from_utf8_lossy
+ * - DETHRUX_NO_SPACE: the next character does not fit: call again with the rest
+ * @ingroup dethrux_streams
+ */
+DETHRUX_NODISCARD dethrux_progress dethrux_from_utf8_partial(
     dethrux_byte_order byte_order, const void *utf8, size_t len, void *to, size_t capacity);
 
 /**
@@ -1120,6 +1139,10 @@ DETHRUX_CALL(
     void *to, size_t capacity), (byte_order, utf8, len, to, capacity), DETHRUX_READS(utf8, len);
     DETHRUX_WRITES(to, capacity), DETHRUX_WROTE(to, result.written))
 DETHRUX_CALL(
+    dethrux_progress, from_utf8_partial, (dethrux_byte_order byte_order, const void *utf8,
+    size_t len, void *to, size_t capacity), (byte_order, utf8, len, to, capacity),
+    DETHRUX_READS(utf8, len); DETHRUX_WRITES(to, capacity), DETHRUX_WROTE(to, result.written))
+DETHRUX_CALL(
     dethrux_inspection, inspect, (dethrux_byte_order byte_order, const void *utf16, size_t len),
     (byte_order, utf16, len), DETHRUX_READS(utf16, len), (void)0)
 DETHRUX_CALL(
@@ -1410,6 +1433,19 @@ DETHRUX_U16_RESULT dethrux_progress dethrux_u16_from_utf8(
 DETHRUX_U16_RESULT dethrux_progress dethrux_u16_from_utf8_lossy(
     const void *utf8, size_t len, dethrux_unit *to, size_t capacity) {
     dethrux_progress found = dethrux_from_utf8_lossy(
+        DETHRUX_NATIVE_ENDIAN, utf8, len, DETHRUX_U16_BYTES(to), capacity * 2);
+    found.written /= 2;
+    return found;
+}
+
+/**
+ * Does what dethrux_from_utf8_partial does, on code units.
+ *
+ * @param capacity `len` suffices; a loop needs 2
+ */
+DETHRUX_U16_RESULT dethrux_progress dethrux_u16_from_utf8_partial(
+    const void *utf8, size_t len, dethrux_unit *to, size_t capacity) {
+    dethrux_progress found = dethrux_from_utf8_partial(
         DETHRUX_NATIVE_ENDIAN, utf8, len, DETHRUX_U16_BYTES(to), capacity * 2);
     found.written /= 2;
     return found;

@@ -271,6 +271,10 @@ export interface Dethrux {
     fromUtf8Lossy: ToUtf16<Uint8Array>;
     /** Does what `fromUtf8Lossy` does, into an array of the caller. */
     fromUtf8LossyInto: ToUtf16Into<Uint8Array>;
+    /** Converts the next chunk of a stream to UTF-16, without an encoder. */
+    fromUtf8Partial: ToUtf16<Uint8Array>;
+    /** Does what `fromUtf8Partial` does, into an array of the caller. */
+    fromUtf8PartialInto: ToUtf16Into<Uint8Array>;
     /**
      * Returns the length of the longest well-formed prefix, the number of its characters, and the
      * smallest repertoire that has them.

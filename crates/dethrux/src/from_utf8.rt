@@ -1,6 +1,6 @@
 //! From UTF-8 to UTF-16, and before it the length and how often it replaces.
 
-ghost use Rattle.std.specs.Prelude.{◌≡◌, ◌≢◌, ◌↔◌, ◌≤◌, ◌-◌, ◌*◌, drop, length, take};
+ghost use Rattle.std.specs.Prelude.{◌≡◌, ◌≢◌, ◌↔◌, [], ◌<◌, ◌≤◌, ◌+◌, ◌-◌, ◌*◌, drop, length, take};
 ghost use Rattle.std.specs.List.{flat_map};
 ghost use Rattle.std.specs.Str.{IsUtf8, chars};
 ghost use Rattle.std.specs.Str.Lossy.{utf8_valid_len};
@@ -10,13 +10,16 @@ ghost use Rattle.utf16_transcode.specs.Replaced.{ill_formed_utf8_count};
 ghost use Rattle.utf16_transcode.specs.WholeText.{WritesWhole};
 ghost use Rattle.utf16_transcode.specs.Stops.{StopsLossyWhole};
 ghost use Rattle.utf16_transcode.specs.Transcoded.{Writes};
+ghost use Rattle.utf16_transcode.specs.Utf8Stream.{DecodesUtf8To, StopsLossyUtf8};
+ghost use Rattle.utf8_bytes.specs.Split.{decided_text};
 ghost use Rattle.dethrux.specs.Numbers.{AreNumbers, is_big, stop_of};
 ghost use Rattle.utf16_transcode.specs.declared.progress.Stop.TheVariants.{Done, NoSpace};
 
 use crate::byte_order::in_order;
 use crate::results::{Progress, progress_of};
 use utf16_transcode::{
-    from_utf8, from_utf8_len, from_utf8_lossy, from_utf8_lossy_len, from_utf8_replacements,
+    from_utf8, from_utf8_len, from_utf8_lossy, from_utf8_lossy_len, from_utf8_partial,
+    from_utf8_replacements,
 };
 
 /// Converts UTF-8 to UTF-16, up to the first ill-formed sequence or as far as whole characters fit.
@@ -51,6 +54,22 @@ pub extern "C" fn dethrux_from_utf8_lossy(byte_order: u32, utf8: &[u8], to: &mut
     ensures numbers { AreNumbers result.status result.error_len }
 {
     progress_of(in_order!(byte_order, from_utf8_lossy(utf8, to)))
+}
+
+/// Converts the next chunk of a stream of UTF-8 like `dethrux_from_utf8_lossy`, but does not read
+/// an incomplete character at the end, which more bytes may complete: in that case the status is 2.
+#[unsafe(no_mangle)]
+pub extern "C" fn dethrux_from_utf8_partial(byte_order: u32, utf8: &[u8], to: &mut [u8]) -> Progress
+    ensures decodes { DecodesUtf8To (is_big byte_order) utf8.now to.new result.read
+        result.written }
+    ensures stop { StopsLossyUtf8 (is_big byte_order) (drop result.read utf8.now)
+        (length to.new - result.written) (stop_of result) }
+    ensures succeeds { 2 * length utf8.now ≤ length to.new → stop_of result ≢ NoSpace }
+    ensures filled { stop_of result ≡ NoSpace → length to.new < result.written + 4 }
+    ensures advances { 4 ≤ length to.new → decided_text utf8.now ≢ [] → 0 < result.read }
+    ensures numbers { AreNumbers result.status result.error_len }
+{
+    progress_of(in_order!(byte_order, from_utf8_partial(utf8, to)))
 }
 
 /// Returns the length in bytes of the UTF-16 of the longest well-formed prefix of UTF-8, in either

@@ -99,13 +99,13 @@ __all__ += [
     "from_utf8_lossy_len", "to_utf8_replacements", "from_utf8_replacements", "to_utf8",
     "to_utf8_into", "to_utf8_lossy", "to_utf8_lossy_into", "to_utf8_partial",
     "to_utf8_partial_into", "from_utf8", "from_utf8_into", "from_utf8_lossy",
-    "from_utf8_lossy_into", "inspect", "to_utf32", "to_utf32_into", "to_utf32_lossy",
-    "to_utf32_lossy_into", "to_utf32_lossy_len", "validate_utf32", "from_utf32", "from_utf32_into",
-    "from_utf32_lossy", "from_utf32_lossy_into", "from_utf32_lossy_len", "to_latin1",
-    "to_latin1_into", "from_latin1", "from_latin1_into", "to_wtf8", "to_wtf8_into", "to_wtf8_len",
-    "to_wtf8_partial", "to_wtf8_partial_into", "from_wtf8", "from_wtf8_into", "from_wtf8_len",
-    "from_wtf8_partial", "from_wtf8_partial_into", "is_char_boundary", "floor_char_boundary",
-    "nul_offset"]
+    "from_utf8_lossy_into", "from_utf8_partial", "from_utf8_partial_into", "inspect", "to_utf32",
+    "to_utf32_into", "to_utf32_lossy", "to_utf32_lossy_into", "to_utf32_lossy_len",
+    "validate_utf32", "from_utf32", "from_utf32_into", "from_utf32_lossy", "from_utf32_lossy_into",
+    "from_utf32_lossy_len", "to_latin1", "to_latin1_into", "from_latin1", "from_latin1_into",
+    "to_wtf8", "to_wtf8_into", "to_wtf8_len", "to_wtf8_partial", "to_wtf8_partial_into",
+    "from_wtf8", "from_wtf8_into", "from_wtf8_len", "from_wtf8_partial", "from_wtf8_partial_into",
+    "is_char_boundary", "floor_char_boundary", "nul_offset"]
 def validate(utf16: ReadableBuffer, byteorder: ByteOrder) -> Validity: ...
 def count_chars(utf16: ReadableBuffer, byteorder: ByteOrder) -> int: ...
 def is_ascii(utf16: ReadableBuffer, byteorder: ByteOrder) -> bool: ...
@@ -133,6 +133,10 @@ def from_utf8_into(
 def from_utf8_lossy(
     utf8: ReadableBuffer, byteorder: ByteOrder, capacity: Optional[int] = None) -> Progress: ...
 def from_utf8_lossy_into(
+    utf8: ReadableBuffer, byteorder: ByteOrder, buffer: WritableBuffer) -> ProgressInto: ...
+def from_utf8_partial(
+    utf8: ReadableBuffer, byteorder: ByteOrder, capacity: Optional[int] = None) -> Progress: ...
+def from_utf8_partial_into(
     utf8: ReadableBuffer, byteorder: ByteOrder, buffer: WritableBuffer) -> ProgressInto: ...
 def inspect(utf16: ReadableBuffer, byteorder: ByteOrder) -> Inspection: ...
 def to_utf32(

@@ -6,6 +6,7 @@ calls! {
         to_utf8_partial(utf16: u8) -> utf8: u8;
         from_utf8(utf8: u8) -> utf16: u8;
         from_utf8_lossy(utf8: u8) -> utf16: u8;
+        from_utf8_partial(utf8: u8) -> utf16: u8;
         to_utf32(utf16: u8) -> utf32: u32;
         to_utf32_lossy(utf16: u8) -> utf32: u32;
         from_utf32(utf32: u32) -> utf16: u8;

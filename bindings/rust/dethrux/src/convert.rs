@@ -81,6 +81,14 @@ safe! {
     /// Converts UTF-8 to UTF-16 and replaces each ill-formed sequence, as `String::from_utf8_lossy`
     /// does, by U+FFFD: [`Status::Done`] or [`Status::NoSpace`].
     fn from_utf8_lossy(order: ByteOrder, utf8: &[u8], to: &mut [u8]) -> Progress;
+
+    /// Converts the next chunk of a stream like [`from_utf8_lossy`], but does not read an
+    /// incomplete character at the end: [`Status::Done`], [`Status::Incomplete`] or
+    /// [`Status::NoSpace`]. No state is kept: put the 1 to 3 bytes that were not read before the
+    /// next chunk. [`Encoder`] does that.
+    ///
+    /// [`Encoder`]: crate::Encoder
+    fn from_utf8_partial(order: ByteOrder, utf8: &[u8], to: &mut [u8]) -> Progress;
 }
 
 /// Returns a capacity in bytes that suffices for the UTF-8 of every input of `len` bytes of UTF-16,
