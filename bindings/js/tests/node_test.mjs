@@ -5,7 +5,6 @@
 // The tests that a browser cannot make, and why.
 const ONLY_IN_NODE = {
     "calls.test.mjs": {
-        "the table has the calls of the header, in its order": "it reads a file of the tree",
         "each function is in the types, and no others": "it reads a file of the package",
         "the version is that of the tree": "it reads files of the tree and of the package",
         "a relative URL, and an engine without getBuiltinModule": "it gives Node what a page has",
