@@ -71,16 +71,3 @@ fn strings_may_go_to_other_threads() {
     is_send_and_sync::<WStr<LittleEndian>>();
     is_send_and_sync::<WString<BigEndian>>();
 }
-
-/// The lines of ordinary Rust in `docs/DIFFERENCES.md`.
-#[test]
-fn lines_of_the_page() {
-    let mut s: WString<LE> = WString::from("hi");
-    s.push('!');
-    let part: &WStr<LE> = &s[2..6];
-    let text: String = s.to_utf8();
-    assert_eq!(
-        (part.to_utf8(), text),
-        ("i!".to_string(), "hi!".to_string())
-    );
-}
