@@ -48,8 +48,8 @@ pub extern "C" fn dethrux_wtf8_encoder_finish(
     byte_order: u32,
     to: &mut [u8],
 ) -> Progress
-    ensures wrote { Writes (TranscodesFromWtf8 (is_big byte_order)) (wtf8_pending encoder.old) to.new
-        result.read result.written }
+    ensures wrote { Writes (TranscodesFromWtf8 (is_big byte_order)) (wtf8_pending encoder.old)
+        to.new result.read result.written }
     ensures stop { StopsFromWtf8 (is_big byte_order) (wtf8_pending encoder.old) result.read
         (length to.new - result.written) (stop_of result) }
     ensures ended { stop_of result ≢ NoSpace → wtf8_pending encoder.new ≡ [] }

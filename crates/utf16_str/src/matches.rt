@@ -25,7 +25,8 @@ impl<'a, E: Utf16Order, P: Pattern<E>> Model for WStrMatchIndices<'a, E, P> {
     ghost Value = { List (ℕ × List ℕ) };
 
     ghost view = { λ it. match_offsets (P.part it.left.pattern) it.offset
-        (parts_left false (P.part it.left.pattern) it.left.begun (option_map wstr_text it.left.rest)) };
+        (parts_left false (P.part it.left.pattern) it.left.begun
+        (option_map wstr_text it.left.rest)) };
 
     ghost invariant = { λ it. it.offset + left_size (option_map wstr_text it.left.rest) < 2 ^ 64 };
 }
@@ -89,7 +90,8 @@ impl<'a, E: Utf16Order, P: Pattern<E>> Model for WStrRMatchIndices<'a, E, P> {
 
     ghost view = { λ it. rmatch_offsets (P.part it.left.pattern)
         (left_size (option_map wstr_text it.left.rest))
-        (parts_left true (P.part it.left.pattern) it.left.begun (option_map wstr_text it.left.rest)) };
+        (parts_left true (P.part it.left.pattern) it.left.begun
+        (option_map wstr_text it.left.rest)) };
 }
 
 impl<'a, E: Utf16Order, P: Pattern<E>> Iterator for WStrRMatchIndices<'a, E, P> {

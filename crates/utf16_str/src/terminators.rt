@@ -54,7 +54,8 @@ impl<'a, E: Utf16Order, P: Pattern<E>> Model for WStrSplitInclusive<'a, E, P> {
     ghost Value = { List (List ℕ) };
 
     ghost view = { λ it. with_terminators (P.part it.left.pattern)
-        (parts_left false (P.part it.left.pattern) it.left.begun (option_map wstr_text it.left.rest)) };
+        (parts_left false (P.part it.left.pattern) it.left.begun
+        (option_map wstr_text it.left.rest)) };
 }
 
 impl<'a, E: Utf16Order, P: Pattern<E>> Iterator for WStrSplitInclusive<'a, E, P> {
