@@ -988,7 +988,7 @@
 	mov	x26, x28
 	mov	x28, x6
 	mov	x20, x5
-	bl	"utf16_to_utf8::eights::write_eights::<#8b18edd9dd9aa8df>"
+	bl	"utf16_to_utf8::vectors::write_vectors::<#8b18edd9dd9aa8df>"
 	mov	x6, x28
 	mov	x28, x26
 	add	x5, x0, x20
@@ -1252,7 +1252,7 @@
 	mov	x27, x6
 	mov	x20, x28
 	mov	x28, x5
-	bl	"utf16_to_utf8::eights::write_eights::<#8b18edd9dd9aa8df>"
+	bl	"utf16_to_utf8::vectors::write_vectors::<#8b18edd9dd9aa8df>"
 	mov	x5, x28
 	mov	x28, x20
 	add	x6, x1, x27
@@ -1488,10 +1488,10 @@
 	.byte	32
 	.byte	64
 	.byte	128
-	.section	".text.utf16_to_utf8::eights::write_eights::<#8b18edd9dd9aa8df>","ax",@progbits
+	.section	".text.utf16_to_utf8::vectors::write_vectors::<#8b18edd9dd9aa8df>","ax",@progbits
 	.p2align	2
-	.type	"utf16_to_utf8::eights::write_eights::<#8b18edd9dd9aa8df>",@function
-"utf16_to_utf8::eights::write_eights::<#8b18edd9dd9aa8df>":
+	.type	"utf16_to_utf8::vectors::write_vectors::<#8b18edd9dd9aa8df>",@function
+"utf16_to_utf8::vectors::write_vectors::<#8b18edd9dd9aa8df>":
 	.cfi_startproc
 	lsr	x9, x1, #1
 	movi	v0.2d, #0000000000000000
@@ -2108,7 +2108,7 @@
 	add	x1, x10, x9
 	ret
 .Lfunc_end6:
-	.size	"utf16_to_utf8::eights::write_eights::<#8b18edd9dd9aa8df>", .Lfunc_end6-"utf16_to_utf8::eights::write_eights::<#8b18edd9dd9aa8df>"
+	.size	"utf16_to_utf8::vectors::write_vectors::<#8b18edd9dd9aa8df>", .Lfunc_end6-"utf16_to_utf8::vectors::write_vectors::<#8b18edd9dd9aa8df>"
 	.cfi_endproc
 
 	.section	".text.utf16_transcode::transcoding::transcode_many::<#b8dc3d53e12e85b3>","ax",@progbits
@@ -4205,7 +4205,7 @@
 	sub	x1, x21, x23
 	add	x2, x8, x24
 	mov	x25, x4
-	bl	"utf16_to_utf8::eights::write_eights::<#8b18edd9dd9aa8df>"
+	bl	"utf16_to_utf8::vectors::write_vectors::<#8b18edd9dd9aa8df>"
 	mov	x4, x25
 	add	x23, x0, x23
 	add	x24, x1, x24
@@ -4984,7 +4984,7 @@
 	cmp	x1, #7
 	b.ls	.LBB17_6
 	mov	x3, x21
-	bl	"utf16_to_utf8::eights::write_eights::<#8b18edd9dd9aa8df>"
+	bl	"utf16_to_utf8::vectors::write_vectors::<#8b18edd9dd9aa8df>"
 	mov	x0, x1
 	.cfi_def_cfa wsp, 96
 	ldp	x20, x19, [sp, #80]
@@ -5005,7 +5005,7 @@
 	sub	x3, x21, x22
 	add	x0, x20, x8
 	add	x2, x19, x22
-	bl	"utf16_to_utf8::eights::write_eights::<#8b18edd9dd9aa8df>"
+	bl	"utf16_to_utf8::vectors::write_vectors::<#8b18edd9dd9aa8df>"
 	add	x0, x1, x22
 	.cfi_def_cfa wsp, 96
 	ldp	x20, x19, [sp, #80]
@@ -5757,7 +5757,7 @@
 	mov	x26, x28
 	mov	x28, x6
 	mov	x20, x5
-	bl	"utf16_to_utf8::eights::write_eights::<#418c2b53cf60437c>"
+	bl	"utf16_to_utf8::vectors::write_vectors::<#418c2b53cf60437c>"
 	mov	x6, x28
 	mov	x28, x26
 	add	x5, x0, x20
@@ -6018,7 +6018,7 @@
 	mov	x27, x6
 	mov	x20, x28
 	mov	x28, x5
-	bl	"utf16_to_utf8::eights::write_eights::<#418c2b53cf60437c>"
+	bl	"utf16_to_utf8::vectors::write_vectors::<#418c2b53cf60437c>"
 	mov	x5, x28
 	mov	x28, x20
 	add	x6, x1, x27
@@ -6252,10 +6252,10 @@
 	.byte	32
 	.byte	64
 	.byte	128
-	.section	".text.utf16_to_utf8::eights::write_eights::<#418c2b53cf60437c>","ax",@progbits
+	.section	".text.utf16_to_utf8::vectors::write_vectors::<#418c2b53cf60437c>","ax",@progbits
 	.p2align	2
-	.type	"utf16_to_utf8::eights::write_eights::<#418c2b53cf60437c>",@function
-"utf16_to_utf8::eights::write_eights::<#418c2b53cf60437c>":
+	.type	"utf16_to_utf8::vectors::write_vectors::<#418c2b53cf60437c>",@function
+"utf16_to_utf8::vectors::write_vectors::<#418c2b53cf60437c>":
 	.cfi_startproc
 	lsr	x9, x1, #1
 	movi	v0.2d, #0000000000000000
@@ -6870,7 +6870,7 @@
 	add	x1, x10, x9
 	ret
 .Lfunc_end23:
-	.size	"utf16_to_utf8::eights::write_eights::<#418c2b53cf60437c>", .Lfunc_end23-"utf16_to_utf8::eights::write_eights::<#418c2b53cf60437c>"
+	.size	"utf16_to_utf8::vectors::write_vectors::<#418c2b53cf60437c>", .Lfunc_end23-"utf16_to_utf8::vectors::write_vectors::<#418c2b53cf60437c>"
 	.cfi_endproc
 
 	.section	".text.utf16_transcode::transcoding::transcode_many::<#556930da7d070edc>","ax",@progbits
@@ -8246,7 +8246,7 @@
 	sub	x1, x21, x23
 	add	x2, x8, x24
 	mov	x25, x4
-	bl	"utf16_to_utf8::eights::write_eights::<#418c2b53cf60437c>"
+	bl	"utf16_to_utf8::vectors::write_vectors::<#418c2b53cf60437c>"
 	mov	x4, x25
 	add	x23, x0, x23
 	add	x24, x1, x24
@@ -9022,7 +9022,7 @@
 	cmp	x1, #7
 	b.ls	.LBB29_6
 	mov	x3, x21
-	bl	"utf16_to_utf8::eights::write_eights::<#418c2b53cf60437c>"
+	bl	"utf16_to_utf8::vectors::write_vectors::<#418c2b53cf60437c>"
 	mov	x0, x1
 	.cfi_def_cfa wsp, 96
 	ldp	x20, x19, [sp, #80]
@@ -9043,7 +9043,7 @@
 	sub	x3, x21, x22
 	add	x0, x20, x8
 	add	x2, x19, x22
-	bl	"utf16_to_utf8::eights::write_eights::<#418c2b53cf60437c>"
+	bl	"utf16_to_utf8::vectors::write_vectors::<#418c2b53cf60437c>"
 	add	x0, x1, x22
 	.cfi_def_cfa wsp, 96
 	ldp	x20, x19, [sp, #80]

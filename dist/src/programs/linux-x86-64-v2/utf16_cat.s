@@ -2429,7 +2429,7 @@
 	subq	%rbp, %rcx
 	movq	%rdx, 152(%rsp)
 	movq	%rax, %rdx
-	callq	"utf16_to_utf8::eights::write_eights::<#8b18edd9dd9aa8df>"
+	callq	"utf16_to_utf8::vectors::write_vectors::<#8b18edd9dd9aa8df>"
 	movq	%rdx, %rcx
 	movq	152(%rsp), %rdx
 	addq	%rax, %r12
@@ -2734,7 +2734,7 @@
 	movq	%r11, %rcx
 	subq	%r12, %rcx
 	movq	%r9, 152(%rsp)
-	callq	"utf16_to_utf8::eights::write_eights::<#8b18edd9dd9aa8df>"
+	callq	"utf16_to_utf8::vectors::write_vectors::<#8b18edd9dd9aa8df>"
 	movq	152(%rsp), %r9
 	movq	104(%rsp), %r10
 	addq	%rax, %r9
@@ -3274,10 +3274,10 @@
 	.zero	1
 	.zero	1
 	.zero	1
-	.section	".text.utf16_to_utf8::eights::write_eights::<#8b18edd9dd9aa8df>","ax",@progbits
+	.section	".text.utf16_to_utf8::vectors::write_vectors::<#8b18edd9dd9aa8df>","ax",@progbits
 	.p2align	4
-	.type	"utf16_to_utf8::eights::write_eights::<#8b18edd9dd9aa8df>",@function
-"utf16_to_utf8::eights::write_eights::<#8b18edd9dd9aa8df>":
+	.type	"utf16_to_utf8::vectors::write_vectors::<#8b18edd9dd9aa8df>",@function
+"utf16_to_utf8::vectors::write_vectors::<#8b18edd9dd9aa8df>":
 	.cfi_startproc
 	pushq	%rbp
 	.cfi_def_cfa_offset 16
@@ -3874,7 +3874,7 @@
 	movq	%xmm1, 16(%r8,%rsi)
 	jmp	.LBB7_42
 .Lfunc_end7:
-	.size	"utf16_to_utf8::eights::write_eights::<#8b18edd9dd9aa8df>", .Lfunc_end7-"utf16_to_utf8::eights::write_eights::<#8b18edd9dd9aa8df>"
+	.size	"utf16_to_utf8::vectors::write_vectors::<#8b18edd9dd9aa8df>", .Lfunc_end7-"utf16_to_utf8::vectors::write_vectors::<#8b18edd9dd9aa8df>"
 	.cfi_endproc
 
 	.section	.rodata.cst16,"aM",@progbits,16
@@ -6589,7 +6589,7 @@
 	leaq	(%r12,%rbp), %rdi
 	addq	%r13, %rdx
 	subq	%r13, %rcx
-	callq	"utf16_to_utf8::eights::write_eights::<#8b18edd9dd9aa8df>"
+	callq	"utf16_to_utf8::vectors::write_vectors::<#8b18edd9dd9aa8df>"
 	addq	%rax, %rbp
 	addq	%rdx, %r13
 .LBB15_22:
@@ -7479,7 +7479,7 @@
 	cmpq	$7, %r14
 	jbe	.LBB18_8
 	movq	%r12, %rcx
-	callq	"utf16_to_utf8::eights::write_eights::<#8b18edd9dd9aa8df>"
+	callq	"utf16_to_utf8::vectors::write_vectors::<#8b18edd9dd9aa8df>"
 	movq	%rdx, %rax
 	jmp	.LBB18_7
 .LBB18_5:
@@ -7488,7 +7488,7 @@
 	movq	%r14, %rsi
 	movq	%rbx, %rdx
 	movq	%r12, %rcx
-	callq	"utf16_to_utf8::eights::write_eights::<#8b18edd9dd9aa8df>"
+	callq	"utf16_to_utf8::vectors::write_vectors::<#8b18edd9dd9aa8df>"
 	movq	%rdx, %rax
 .LBB18_6:
 	addq	%r13, %rax
@@ -8291,7 +8291,7 @@
 	subq	%r12, %rcx
 	movq	%rdx, 144(%rsp)
 	movq	%rax, %rdx
-	callq	"utf16_to_utf8::eights::write_eights::<#418c2b53cf60437c>"
+	callq	"utf16_to_utf8::vectors::write_vectors::<#418c2b53cf60437c>"
 	movq	%rdx, %rcx
 	movq	144(%rsp), %rdx
 	addq	%rax, %r15
@@ -8658,7 +8658,7 @@
 	movq	64(%rsp), %rcx
 	subq	%r15, %rcx
 	movq	%r9, 40(%rsp)
-	callq	"utf16_to_utf8::eights::write_eights::<#418c2b53cf60437c>"
+	callq	"utf16_to_utf8::vectors::write_vectors::<#418c2b53cf60437c>"
 	movq	40(%rsp), %r9
 	movq	96(%rsp), %r11
 	addq	%rax, %r9
@@ -9117,10 +9117,10 @@
 	.zero	1
 	.zero	1
 	.zero	1
-	.section	".text.utf16_to_utf8::eights::write_eights::<#418c2b53cf60437c>","ax",@progbits
+	.section	".text.utf16_to_utf8::vectors::write_vectors::<#418c2b53cf60437c>","ax",@progbits
 	.p2align	4
-	.type	"utf16_to_utf8::eights::write_eights::<#418c2b53cf60437c>",@function
-"utf16_to_utf8::eights::write_eights::<#418c2b53cf60437c>":
+	.type	"utf16_to_utf8::vectors::write_vectors::<#418c2b53cf60437c>",@function
+"utf16_to_utf8::vectors::write_vectors::<#418c2b53cf60437c>":
 	.cfi_startproc
 	pushq	%rbp
 	.cfi_def_cfa_offset 16
@@ -9715,7 +9715,7 @@
 	movq	%xmm1, 16(%r8,%rsi)
 	jmp	.LBB24_42
 .Lfunc_end24:
-	.size	"utf16_to_utf8::eights::write_eights::<#418c2b53cf60437c>", .Lfunc_end24-"utf16_to_utf8::eights::write_eights::<#418c2b53cf60437c>"
+	.size	"utf16_to_utf8::vectors::write_vectors::<#418c2b53cf60437c>", .Lfunc_end24-"utf16_to_utf8::vectors::write_vectors::<#418c2b53cf60437c>"
 	.cfi_endproc
 
 	.section	.rodata.cst16,"aM",@progbits,16
@@ -11351,7 +11351,7 @@
 	leaq	(%r12,%rbp), %rdi
 	addq	%r13, %rdx
 	subq	%r13, %rcx
-	callq	"utf16_to_utf8::eights::write_eights::<#418c2b53cf60437c>"
+	callq	"utf16_to_utf8::vectors::write_vectors::<#418c2b53cf60437c>"
 	addq	%rax, %rbp
 	addq	%rdx, %r13
 .LBB27_22:
@@ -12150,7 +12150,7 @@
 	cmpq	$7, %r14
 	jbe	.LBB30_8
 	movq	%r12, %rcx
-	callq	"utf16_to_utf8::eights::write_eights::<#418c2b53cf60437c>"
+	callq	"utf16_to_utf8::vectors::write_vectors::<#418c2b53cf60437c>"
 	movq	%rdx, %rax
 	jmp	.LBB30_7
 .LBB30_5:
@@ -12159,7 +12159,7 @@
 	movq	%r14, %rsi
 	movq	%rbx, %rdx
 	movq	%r12, %rcx
-	callq	"utf16_to_utf8::eights::write_eights::<#418c2b53cf60437c>"
+	callq	"utf16_to_utf8::vectors::write_vectors::<#418c2b53cf60437c>"
 	movq	%rdx, %rax
 .LBB30_6:
 	addq	%r13, %rax

@@ -2424,7 +2424,7 @@
 	subq	%rbp, %rcx
 	movq	%rdx, 152(%rsp)
 	movq	%rax, %rdx
-	callq	"utf16_to_utf8::eights::write_eights::<#8b18edd9dd9aa8df>"
+	callq	"utf16_to_utf8::vectors::write_vectors::<#8b18edd9dd9aa8df>"
 	movq	%rdx, %rcx
 	movq	152(%rsp), %rdx
 	addq	%rax, %r12
@@ -2726,7 +2726,7 @@
 	movq	%r11, %rcx
 	subq	%r12, %rcx
 	movq	%r9, 152(%rsp)
-	callq	"utf16_to_utf8::eights::write_eights::<#8b18edd9dd9aa8df>"
+	callq	"utf16_to_utf8::vectors::write_vectors::<#8b18edd9dd9aa8df>"
 	movq	152(%rsp), %r9
 	movq	104(%rsp), %r10
 	addq	%rax, %r9
@@ -3261,10 +3261,10 @@
 .LCPI7_33:
 	.short	255
 	.short	255
-	.section	".text.utf16_to_utf8::eights::write_eights::<#8b18edd9dd9aa8df>","ax",@progbits
+	.section	".text.utf16_to_utf8::vectors::write_vectors::<#8b18edd9dd9aa8df>","ax",@progbits
 	.p2align	4
-	.type	"utf16_to_utf8::eights::write_eights::<#8b18edd9dd9aa8df>",@function
-"utf16_to_utf8::eights::write_eights::<#8b18edd9dd9aa8df>":
+	.type	"utf16_to_utf8::vectors::write_vectors::<#8b18edd9dd9aa8df>",@function
+"utf16_to_utf8::vectors::write_vectors::<#8b18edd9dd9aa8df>":
 	.cfi_startproc
 	pushq	%rbp
 	.cfi_def_cfa_offset 16
@@ -3780,7 +3780,7 @@
 	vmovq	%xmm0, 16(%r8,%rsi)
 	jmp	.LBB7_42
 .Lfunc_end7:
-	.size	"utf16_to_utf8::eights::write_eights::<#8b18edd9dd9aa8df>", .Lfunc_end7-"utf16_to_utf8::eights::write_eights::<#8b18edd9dd9aa8df>"
+	.size	"utf16_to_utf8::vectors::write_vectors::<#8b18edd9dd9aa8df>", .Lfunc_end7-"utf16_to_utf8::vectors::write_vectors::<#8b18edd9dd9aa8df>"
 	.cfi_endproc
 
 	.section	.rodata.cst16,"aM",@progbits,16
@@ -6570,7 +6570,7 @@
 	leaq	(%r12,%rbp), %rdi
 	addq	%r13, %rdx
 	subq	%r13, %rcx
-	callq	"utf16_to_utf8::eights::write_eights::<#8b18edd9dd9aa8df>"
+	callq	"utf16_to_utf8::vectors::write_vectors::<#8b18edd9dd9aa8df>"
 	addq	%rax, %rbp
 	addq	%rdx, %r13
 .LBB15_22:
@@ -7387,7 +7387,7 @@
 	cmpq	$7, %r14
 	jbe	.LBB18_8
 	movq	%r12, %rcx
-	callq	"utf16_to_utf8::eights::write_eights::<#8b18edd9dd9aa8df>"
+	callq	"utf16_to_utf8::vectors::write_vectors::<#8b18edd9dd9aa8df>"
 	movq	%rdx, %rax
 	jmp	.LBB18_7
 .LBB18_5:
@@ -7396,7 +7396,7 @@
 	movq	%r14, %rsi
 	movq	%rbx, %rdx
 	movq	%r12, %rcx
-	callq	"utf16_to_utf8::eights::write_eights::<#8b18edd9dd9aa8df>"
+	callq	"utf16_to_utf8::vectors::write_vectors::<#8b18edd9dd9aa8df>"
 	movq	%rdx, %rax
 .LBB18_6:
 	addq	%r13, %rax
@@ -8390,7 +8390,7 @@
 	subq	%r15, %rcx
 	movq	%rdx, 144(%rsp)
 	movq	%rax, %rdx
-	callq	"utf16_to_utf8::eights::write_eights::<#418c2b53cf60437c>"
+	callq	"utf16_to_utf8::vectors::write_vectors::<#418c2b53cf60437c>"
 	movq	%rdx, %rcx
 	movq	144(%rsp), %rdx
 	addq	%rax, %r12
@@ -8755,7 +8755,7 @@
 	movq	64(%rsp), %rcx
 	subq	%r12, %rcx
 	movq	%r9, 40(%rsp)
-	callq	"utf16_to_utf8::eights::write_eights::<#418c2b53cf60437c>"
+	callq	"utf16_to_utf8::vectors::write_vectors::<#418c2b53cf60437c>"
 	movq	40(%rsp), %r9
 	movq	96(%rsp), %r11
 	addq	%rax, %r9
@@ -9210,10 +9210,10 @@
 .LCPI24_32:
 	.short	255
 	.short	255
-	.section	".text.utf16_to_utf8::eights::write_eights::<#418c2b53cf60437c>","ax",@progbits
+	.section	".text.utf16_to_utf8::vectors::write_vectors::<#418c2b53cf60437c>","ax",@progbits
 	.p2align	4
-	.type	"utf16_to_utf8::eights::write_eights::<#418c2b53cf60437c>",@function
-"utf16_to_utf8::eights::write_eights::<#418c2b53cf60437c>":
+	.type	"utf16_to_utf8::vectors::write_vectors::<#418c2b53cf60437c>",@function
+"utf16_to_utf8::vectors::write_vectors::<#418c2b53cf60437c>":
 	.cfi_startproc
 	pushq	%rbp
 	.cfi_def_cfa_offset 16
@@ -9727,7 +9727,7 @@
 	vmovq	%xmm0, 16(%r8,%rsi)
 	jmp	.LBB24_42
 .Lfunc_end24:
-	.size	"utf16_to_utf8::eights::write_eights::<#418c2b53cf60437c>", .Lfunc_end24-"utf16_to_utf8::eights::write_eights::<#418c2b53cf60437c>"
+	.size	"utf16_to_utf8::vectors::write_vectors::<#418c2b53cf60437c>", .Lfunc_end24-"utf16_to_utf8::vectors::write_vectors::<#418c2b53cf60437c>"
 	.cfi_endproc
 
 	.section	.rodata.cst16,"aM",@progbits,16
@@ -11353,7 +11353,7 @@
 	leaq	(%r12,%rbp), %rdi
 	addq	%r13, %rdx
 	subq	%r13, %rcx
-	callq	"utf16_to_utf8::eights::write_eights::<#418c2b53cf60437c>"
+	callq	"utf16_to_utf8::vectors::write_vectors::<#418c2b53cf60437c>"
 	addq	%rax, %rbp
 	addq	%rdx, %r13
 .LBB27_22:
@@ -12142,7 +12142,7 @@
 	cmpq	$7, %r14
 	jbe	.LBB30_8
 	movq	%r12, %rcx
-	callq	"utf16_to_utf8::eights::write_eights::<#418c2b53cf60437c>"
+	callq	"utf16_to_utf8::vectors::write_vectors::<#418c2b53cf60437c>"
 	movq	%rdx, %rax
 	jmp	.LBB30_7
 .LBB30_5:
@@ -12151,7 +12151,7 @@
 	movq	%r14, %rsi
 	movq	%rbx, %rdx
 	movq	%r12, %rcx
-	callq	"utf16_to_utf8::eights::write_eights::<#418c2b53cf60437c>"
+	callq	"utf16_to_utf8::vectors::write_vectors::<#418c2b53cf60437c>"
 	movq	%rdx, %rax
 .LBB30_6:
 	addq	%r13, %rax
