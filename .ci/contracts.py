@@ -23,6 +23,7 @@ CLAUSE = re.compile(
 )
 PUBLIC_MODULE = re.compile(r"^pub mod (\w+);", re.M)
 REEXPORT = re.compile(r"^pub use ([^;]*);", re.M)
+ALIAS = re.compile(r"^pub type (\w+)[^=]* = ([^;]*);", re.M)
 DOC = re.compile(r" *///(?: (.*))?$")
 USE = re.compile(r"^ *(?:ghost |pub )?use Rattle\.(\w+)\.specs\.(\w+)(?:\.\{(.*)\})?;?$", re.M)
 WORD = re.compile(r"[^\W\d][\w-]*")
@@ -83,6 +84,9 @@ class Crate:
         self.reexported = {*WORD.findall(re.sub(r"\w+::", "", " ".join(REEXPORT.findall(library))))}
         for path in self.sources:
             self.add_items(path)
+            # Another crate reaches by an alias what it stands for.
+            for alias, kind in ALIAS.findall(read(path)):
+                self.reexported |= {*WORD.findall(kind)} if alias in self.reexported else set()
         self.add_members()
         proofs = files_below(f"crates/{name}/proofs", ".antt")
         self.names = set()
