@@ -15,6 +15,11 @@ starts() {
     grep -qE '^(\| )?[a-z0-9_:]+ ascii [0-9]+ LE [0-9]+ [0-9]+ [0-9]+$' "$room/times"
 }
 
+# Tests that real.sh keeps the calls of BEFORE that library.rs names.
+keeps_calls() { diff <(sed -n 's/.*"dethrux_\(\w*\)".*/\1/p' bench/library.rs) "$room/kept"; }
+
+sed -n 's/.*dethrux_{\(.*\)}_v2; do/\1/p' bench/real.sh | tr , '\n' > "$room/kept"
+check 'bench/real.sh' keeps_calls
 tar --exclude=out -cf - crates crates.txt | tar -C "$room" -xf -
 check 'bench/walks.rt.txt' starts
 for source in walks texts library plain real_programs; do

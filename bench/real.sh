@@ -27,7 +27,7 @@ build() {
 libraries=()
 if [ -n "$before" ]; then
     build "$before"
-    for name in dethrux_{validate,to_utf8,from_utf8}_v2; do
+    for name in dethrux_{validate,count_chars,is_ascii,to_utf8,from_utf8}_v2; do
         libraries+=(--redefine-sym "$name=before_$name" --keep-global-symbol "before_$name")
     done
     objcopy "${libraries[@]}" "$dist/linux-x86-64-v2.o" "$room/before.o"
