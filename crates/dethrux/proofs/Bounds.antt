@@ -11,13 +11,13 @@ use Rattle.std.specs.Str.Lossy.{utf8_valid_len}
 use Rattle.utf16_transcode.specs.Decodes.{utf16_split}
 use Rattle.utf16_transcode.specs.StreamSplit.{StreamSplit, IsSplitInChunks, decided}
 use Rattle.utf16_transcode.specs.WholeText.{WritesWhole}
-use Rattle.utf16_transcode.specs.Stops.{StopsDecoding, StopsLossyAs, StopsLossyWhole, TextDoesNotFit}
+use Rattle.utf16_transcode.specs.Stops.{StopsPartial, StopsLossy, TextDoesNotFit, Stops, IsIllFormedUtf16}
 use Rattle.utf16_transcode.specs.Transcoded.{DecodesAsTo, TranscodesToUtf8, Writes}
 use Rattle.utf16_transcode.specs.declared.progress.Stop.{Stop}
 use Rattle.utf16_transcode.specs.declared.progress.Stop.TheVariants.{Incomplete, Done, IllFormed, NoSpace}
 use Rattle.utf16_transcode.proofs.DecodesSteps.{written_for, written_for-append}
 use Rattle.utf16_transcode.proofs.DecodeLossyLemmas.{DecodesTo-front, stops_lossy}
-use Rattle.utf16_transcode.specs.FromUtf8.{StopsEncoding, TranscodesToUtf16, text_of_utf8}
+use Rattle.utf16_transcode.specs.FromUtf8.{TranscodesToUtf16, text_of_utf8, IsIllFormedUtf8}
 use Rattle.utf16_transcode.specs.Utf8Stream.{utf8_split}
 use Rattle.utf16_transcode.proofs.DecodesUtf8.{DecodesUtf8To-text, stops_text}
 use Rattle.utf16_transcode.proofs.FeedsUtf8.{flat_size}
@@ -107,7 +107,7 @@ whole_is_longer text into input to read written shows next =
 
 -- so it comes to its end
 pub whole_is_done : (text : List ℕ → List ℕ) (into : ℕ → List ℕ) (input to : List ℕ) (read written : ℕ) (stop : Stop)
-    → WritesWhole text into input to read written → StopsLossyWhole text into (drop read input) (length to - written) stop
+    → WritesWhole text into input to read written → StopsLossy text into (drop read input) (length to - written) stop
     → length (flat_map into (text input)) ≤ length to → stop ≡ Done
 whole_is_done text into input to read written Done shows stops fits = refl
 whole_is_done text into input to read written (IllFormed len) shows stops fits = absurd stops
@@ -145,28 +145,28 @@ module _ (parts : StreamSplit) (into : ℕ → List ℕ) (input to : List ℕ) (
       ∙ ap (λ n. n + length (flat_map into (decided parts (drop read input)))) (length-take-le written to decodes.fits)
 
   -- it does not stop for lack of space if all that is certain fits
-  pub decided_fits : (stop : Stop) → StopsLossyAs parts into (drop read input) (length to - written) stop → length (flat_map into (decided parts input)) ≤ length to
+  pub decided_fits : (stop : Stop) → StopsPartial parts into (drop read input) (length to - written) stop → length (flat_map into (decided parts input)) ≤ length to
       → stop ≢ NoSpace
   decided_fits stop here fits full =
-      let next = subst (StopsLossyAs parts into (drop read input) (length to - written)) full here in
+      let next = subst (StopsPartial parts into (drop read input) (length to - written)) full here in
       let rest = ap (λ t. length (flat_map into t)) next.begins ∙ length-append (into next.char) (flat_map into next.more) in
       omega (arith, next.too_long, decided_long)
 
   module _ (short : (c : ℕ) → length (into c) ≤ 4) where
     -- if it does, fewer bytes are left than a character may take
-    pub decided_filled : (stop : Stop) → StopsLossyAs parts into (drop read input) (length to - written) stop → stop ≡ NoSpace → length to < written + 4
+    pub decided_filled : (stop : Stop) → StopsPartial parts into (drop read input) (length to - written) stop → stop ≡ NoSpace → length to < written + 4
     decided_filled stop here full =
-        let next = subst (StopsLossyAs parts into (drop read input) (length to - written)) full here in
+        let next = subst (StopsPartial parts into (drop read input) (length to - written)) full here in
         omega (arith, next.too_long, short next.char)
 
     -- with space for a character, and bytes of which something is certain, the call reads something
     pub decided_advances : IsSplitInChunks parts → 4 ≤ length to → decided parts input ≢ [] → (stop : Stop)
-        → StopsLossyAs parts into (drop read input) (length to - written) stop → 0 < read
+        → StopsPartial parts into (drop read input) (length to - written) stop → 0 < read
     decided_advances split room some stop here = ⊎_elim (λ (none : read < 1). absurd (unread (omega arith) stop here)) (λ (read_some : 1 ≤ read). omega arith) (cases_lt read 1) where
       undecided : read ≡ 0 → parts.tail (drop read input) ≡ drop read input → ⊥
       undecided none left = some (ap (λ n. decided parts (drop n input)) (sym none) ∙ ap (map parts.shown) (split.undecided (drop read input) left))
 
-      unread : read ≡ 0 → (stop : Stop) → StopsLossyAs parts into (drop read input) (length to - written) stop → ⊥
+      unread : read ≡ 0 → (stop : Stop) → StopsPartial parts into (drop read input) (length to - written) stop → ⊥
       unread none Done here = undecided none (ap parts.tail here ∙ split.nothing ∙ sym here)
       unread none (IllFormed len) here = absurd here
       unread none Incomplete here = undecided none here.1
@@ -178,7 +178,7 @@ module _ (parts : StreamSplit) (into : ℕ → List ℕ) (input to : List ℕ) (
 -- ---- lemmas for the calls
 
 module _ (big : Bool) (input to : List ℕ) (read written : ℕ) where
-  pub to_utf8_fits : (stop : Stop) → AreBytes input → Writes (TranscodesToUtf8 big) input to read written → StopsDecoding big input read (length to - written) stop
+  pub to_utf8_fits : (stop : Stop) → AreBytes input → Writes (TranscodesToUtf8 big) input to read written → Stops (char_bytes big) encode_utf8 (IsIllFormedUtf16 big) input read (length to - written) stop
       → length input / 2 * 3 ≤ length to → stop ≢ NoSpace
   to_utf8_fits stop are wrote here fits full =
       let decodes = DecodesTo-front big input to read written wrote.within wrote.fits wrote.gives in
@@ -186,7 +186,7 @@ module _ (big : Bool) (input to : List ℕ) (read written : ℕ) where
       decided_fits (utf16_split big) encode_utf8 input to read written decodes stop
       (stops_lossy big input read (length to - written) stop (λ len fault. (let same = sym fault ∙ full in cc)) here) (omega arith) full
 
-  pub from_utf8_fits : (stop : Stop) → Writes (TranscodesToUtf16 big) input to read written → StopsEncoding big input read (length to - written) stop
+  pub from_utf8_fits : (stop : Stop) → Writes (TranscodesToUtf16 big) input to read written → Stops encode_utf8 (char_bytes big) IsIllFormedUtf8 input read (length to - written) stop
       → 2 * length input ≤ length to → stop ≢ NoSpace
   from_utf8_fits stop wrote here fits full =
       let most = (shown_within input).2 in

@@ -1,9 +1,11 @@
 //! A decoder for C, whose state is in memory that the caller owns.
 
 ghost use Rattle.std.specs.Prelude.{◌≡◌, ◌≢◌, ◌↔◌, ◌+◌, ◌-◌, ◌*◌, ◌/◌, ◌<◌, ◌≤◌, [], ◌++◌, All, drop, length, take, encode_utf8_all};
+ghost use Rattle.std.specs.Char.{encode_utf8};
 ghost use Rattle.utf16_units.specs.Split.{decided_text, whole_lossy_chars};
-ghost use Rattle.utf16_transcode.specs.Stream.{Feeds, StopsFeeding, stream_pending};
+ghost use Rattle.utf16_transcode.specs.Stream.{Feeds, stream_pending, StopsFeeding};
 ghost use Rattle.utf16_transcode.specs.declared.progress.Stop.TheVariants.{Done, NoSpace};
+ghost use Rattle.utf16_transcode.specs.Decodes.{utf16_split};
 ghost use Rattle.dethrux.specs.Numbers.{AreNumbers, is_big, stop_of};
 
 use crate::byte_order::in_order;
@@ -24,7 +26,7 @@ pub extern "C" fn dethrux_decoder_feed(
 ) -> Progress
     ensures feeds { Feeds (is_big byte_order) (stream_pending decoder.old) chunk.now
         (stream_pending decoder.new) to.new result.read result.written }
-    ensures stop { StopsFeeding (is_big byte_order) (stream_pending decoder.old) chunk.now
+    ensures stop { StopsFeeding (utf16_split (is_big byte_order)) encode_utf8 (stream_pending decoder.old) chunk.now
         (stream_pending decoder.new) result.read (length to.new - result.written) (stop_of result) }
     ensures done { (stop_of result ≡ Done) ↔ (length (encode_utf8_all (decided_text (is_big
         byte_order) (stream_pending decoder.old ++ chunk.now))) ≤ length to.new) }

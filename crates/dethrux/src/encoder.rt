@@ -1,10 +1,10 @@
 //! An encoder of UTF-8 in UTF-16 for C, whose state is in memory that the caller owns.
 
 ghost use Rattle.std.specs.Prelude.{◌≡◌, ◌≢◌, ◌↔◌, ◌+◌, ◌-◌, ◌*◌, ◌<◌, ◌≤◌, [], ◌++◌, drop, length, take};
-ghost use Rattle.utf16_units.specs.Encoding.{encode, size};
+ghost use Rattle.utf16_units.specs.Encoding.{encode, size, char_bytes};
 ghost use Rattle.utf8_bytes.specs.Split.{IsTail, decided_text, whole_lossy_chars};
-ghost use Rattle.utf16_transcode.specs.Stream.{stream_pending};
-ghost use Rattle.utf16_transcode.specs.Utf8Stream.{FeedsUtf8, StopsFeedingUtf8};
+ghost use Rattle.utf16_transcode.specs.Stream.{stream_pending, StopsFeeding};
+ghost use Rattle.utf16_transcode.specs.Utf8Stream.{FeedsUtf8, utf8_split};
 ghost use Rattle.utf16_transcode.specs.declared.progress.Stop.TheVariants.{Done, NoSpace};
 ghost use Rattle.dethrux.specs.Numbers.{AreNumbers, is_big, stop_of};
 
@@ -27,7 +27,7 @@ pub extern "C" fn dethrux_encoder_feed(
 ) -> Progress
     ensures feeds { FeedsUtf8 (is_big byte_order) (stream_pending encoder.old) chunk.now
         (stream_pending encoder.new) to.new result.read result.written }
-    ensures stop { StopsFeedingUtf8 (is_big byte_order) (stream_pending encoder.old) chunk.now
+    ensures stop { StopsFeeding utf8_split (char_bytes (is_big byte_order)) (stream_pending encoder.old) chunk.now
         (stream_pending encoder.new) result.read (length to.new - result.written) (stop_of result) }
     ensures done { (stop_of result ≡ Done)
         ↔ (size (decided_text (stream_pending encoder.old ++ chunk.now)) ≤ length to.new) }

@@ -4,13 +4,14 @@ ghost use Rattle.std.specs.Prelude.{◌≡◌, ◌≢◌, ◌↔◌, [], ◌<◌
 ghost use Rattle.std.specs.List.{flat_map};
 ghost use Rattle.std.specs.Str.{IsUtf8, chars};
 ghost use Rattle.std.specs.Str.Lossy.{utf8_valid_len};
+ghost use Rattle.std.specs.Char.{encode_utf8};
 ghost use Rattle.utf16_units.specs.Encoding.{char_bytes, size};
-ghost use Rattle.utf16_transcode.specs.FromUtf8.{TranscodesToUtf16, StopsEncoding, text_of_utf8};
+ghost use Rattle.utf16_transcode.specs.FromUtf8.{TranscodesToUtf16, text_of_utf8, IsIllFormedUtf8};
 ghost use Rattle.utf16_transcode.specs.Replaced.{ill_formed_utf8_count};
 ghost use Rattle.utf16_transcode.specs.WholeText.{WritesWhole};
-ghost use Rattle.utf16_transcode.specs.Stops.{StopsLossyWhole};
+ghost use Rattle.utf16_transcode.specs.Stops.{StopsLossy, Stops, StopsPartial};
 ghost use Rattle.utf16_transcode.specs.Transcoded.{Writes};
-ghost use Rattle.utf16_transcode.specs.Utf8Stream.{DecodesUtf8To, StopsLossyUtf8};
+ghost use Rattle.utf16_transcode.specs.Utf8Stream.{DecodesUtf8To, utf8_split};
 ghost use Rattle.utf8_bytes.specs.Split.{decided_text};
 ghost use Rattle.dethrux.specs.Numbers.{AreNumbers, is_big, stop_of};
 ghost use Rattle.utf16_transcode.specs.declared.progress.Stop.TheVariants.{Done, NoSpace};
@@ -30,7 +31,7 @@ use utf16_transcode::{
 pub extern "C" fn dethrux_from_utf8(byte_order: u32, utf8: &[u8], to: &mut [u8]) -> Progress
     ensures wrote { Writes (TranscodesToUtf16 (is_big byte_order)) utf8.now to.new result.read
         result.written }
-    ensures stop { StopsEncoding (is_big byte_order) utf8.now result.read
+    ensures stop { Stops encode_utf8 (char_bytes (is_big byte_order)) IsIllFormedUtf8 utf8.now result.read
         (length to.new - result.written) (stop_of result) }
     ensures succeeds { 2 * length utf8.now ≤ length to.new → stop_of result ≢ NoSpace }
     ensures numbers { AreNumbers result.status result.error_len }
@@ -46,7 +47,7 @@ pub extern "C" fn dethrux_from_utf8(byte_order: u32, utf8: &[u8], to: &mut [u8])
 pub extern "C" fn dethrux_from_utf8_lossy(byte_order: u32, utf8: &[u8], to: &mut [u8]) -> Progress
     ensures shown { WritesWhole text_of_utf8 (char_bytes (is_big byte_order)) utf8.now to.new
         result.read result.written }
-    ensures stop { StopsLossyWhole text_of_utf8 (char_bytes (is_big byte_order))
+    ensures stop { StopsLossy text_of_utf8 (char_bytes (is_big byte_order))
         (drop result.read utf8.now) (length to.new - result.written) (stop_of result) }
     ensures between { take result.written to.new ≡ flat_map (char_bytes (is_big byte_order))
         (text_of_utf8 (take result.read utf8.now)) }
@@ -62,7 +63,7 @@ pub extern "C" fn dethrux_from_utf8_lossy(byte_order: u32, utf8: &[u8], to: &mut
 pub extern "C" fn dethrux_from_utf8_partial(byte_order: u32, utf8: &[u8], to: &mut [u8]) -> Progress
     ensures decodes { DecodesUtf8To (is_big byte_order) utf8.now to.new result.read
         result.written }
-    ensures stop { StopsLossyUtf8 (is_big byte_order) (drop result.read utf8.now)
+    ensures stop { StopsPartial utf8_split (char_bytes (is_big byte_order)) (drop result.read utf8.now)
         (length to.new - result.written) (stop_of result) }
     ensures succeeds { 2 * length utf8.now ≤ length to.new → stop_of result ≢ NoSpace }
     ensures filled { stop_of result ≡ NoSpace → length to.new < result.written + 4 }

@@ -2,14 +2,15 @@
 
 ghost use Rattle.std.specs.Prelude.{◌≡◌, ◌≢◌, ◌↔◌, [], ◌<◌, ◌≤◌, ◌+◌, ◌-◌, ◌*◌, ◌/◌, drop, encode_utf8_all, length};
 ghost use Rattle.std.specs.Char.{encode_utf8};
-ghost use Rattle.utf16_units.specs.Encoding.{IsUtf16};
+ghost use Rattle.utf16_units.specs.Encoding.{IsUtf16, char_bytes};
 ghost use Rattle.utf16_units.specs.Split.{decided_text, lossy_text};
 ghost use Rattle.utf16_transcode.specs.Replaced.{ill_formed_count};
 ghost use Rattle.utf16_transcode.specs.WholeText.{WritesWhole};
-ghost use Rattle.utf16_transcode.specs.Stops.{StopsDecoding, StopsLossy, StopsLossyWhole};
+ghost use Rattle.utf16_transcode.specs.Stops.{StopsLossy, Stops, StopsPartial, IsIllFormedUtf16};
 ghost use Rattle.utf16_transcode.specs.Transcoded.{DecodesTo, TranscodesToUtf8, Writes};
 ghost use Rattle.dethrux.specs.Numbers.{AreNumbers, is_big, stop_of};
 ghost use Rattle.utf16_transcode.specs.declared.progress.Stop.TheVariants.{Done, NoSpace};
+ghost use Rattle.utf16_transcode.specs.Decodes.{utf16_split};
 
 use crate::byte_order::in_order;
 use crate::results::{Progress, progress_of};
@@ -46,7 +47,7 @@ pub extern "C" fn dethrux_to_utf8_replacements(byte_order: u32, utf16: &[u8]) ->
 pub extern "C" fn dethrux_to_utf8(byte_order: u32, utf16: &[u8], to: &mut [u8]) -> Progress
     ensures wrote { Writes (TranscodesToUtf8 (is_big byte_order)) utf16.now to.new result.read
         result.written }
-    ensures stop { StopsDecoding (is_big byte_order) utf16.now result.read
+    ensures stop { Stops (char_bytes (is_big byte_order)) encode_utf8 (IsIllFormedUtf16 (is_big byte_order)) utf16.now result.read
         (length to.new - result.written) (stop_of result) }
     ensures succeeds { length utf16.now / 2 * 3 ≤ length to.new → stop_of result ≢ NoSpace }
     ensures numbers { AreNumbers result.status result.error_len }
@@ -62,7 +63,7 @@ pub extern "C" fn dethrux_to_utf8(byte_order: u32, utf16: &[u8], to: &mut [u8]) 
 pub extern "C" fn dethrux_to_utf8_lossy(byte_order: u32, utf16: &[u8], to: &mut [u8]) -> Progress
     ensures shown { WritesWhole (lossy_text (is_big byte_order)) encode_utf8 utf16.now to.new
         result.read result.written }
-    ensures stop { StopsLossyWhole (lossy_text (is_big byte_order))
+    ensures stop { StopsLossy (lossy_text (is_big byte_order))
         encode_utf8 (drop result.read utf16.now) (length to.new - result.written) (stop_of result) }
     ensures between { stop_of result ≡ NoSpace
         → DecodesTo (is_big byte_order) utf16.now to.new result.read result.written }
@@ -77,7 +78,7 @@ pub extern "C" fn dethrux_to_utf8_lossy(byte_order: u32, utf16: &[u8], to: &mut 
 #[unsafe(no_mangle)]
 pub extern "C" fn dethrux_to_utf8_partial(byte_order: u32, utf16: &[u8], to: &mut [u8]) -> Progress
     ensures decodes { DecodesTo (is_big byte_order) utf16.now to.new result.read result.written }
-    ensures stop { StopsLossy (is_big byte_order) (drop result.read utf16.now)
+    ensures stop { StopsPartial (utf16_split (is_big byte_order)) encode_utf8 (drop result.read utf16.now)
         (length to.new - result.written) (stop_of result) }
     ensures succeeds { length utf16.now / 2 * 3 ≤ length to.new → stop_of result ≢ NoSpace }
     ensures filled { stop_of result ≡ NoSpace → length to.new < result.written + 4 }

@@ -4,10 +4,10 @@ ghost use Rattle.std.specs.Prelude.{◌≡◌, ◌≢◌, ◌↔◌, ◌+◌, �
 ghost use Rattle.utf16_units.specs.Encoding.{char_bytes, size};
 ghost use Rattle.utf16_units.specs.Split.{lossy_text};
 ghost use Rattle.utf16_transcode.specs.WholeText.{WritesWhole};
-ghost use Rattle.utf16_transcode.specs.Stops.{StopsLossyWhole};
+ghost use Rattle.utf16_transcode.specs.Stops.{StopsLossy, Stops, IsIllFormedUtf16};
 ghost use Rattle.utf16_transcode.specs.Transcoded.{Writes};
 ghost use Rattle.utf16_transcode.specs.declared.progress.Stop.TheVariants.{Done, NoSpace};
-ghost use Rattle.utf16_fixed.specs.Stops32.{DecodesToUtf32, StopsFromUtf32, StopsToUtf32};
+ghost use Rattle.utf16_fixed.specs.Stops32.{DecodesToUtf32, IsIllFormedUtf32};
 ghost use Rattle.utf16_fixed.specs.Utf32.{IsUtf32, IsUtf32ValidUpTo, ShowsInUtf16, TranscodesFromUtf32, TranscodesToUtf32, lossy_utf32, utf32_units};
 ghost use Rattle.dethrux.specs.Numbers.{AreNumbers, is_big, stop_of};
 
@@ -26,7 +26,7 @@ use utf16_fixed::{
 pub extern "C" fn dethrux_to_utf32(byte_order: u32, utf16: &[u8], to: &mut [u32]) -> Progress
     ensures wrote { Writes (TranscodesToUtf32 (is_big byte_order)) utf16.now to.new result.read
         result.written }
-    ensures stop { StopsToUtf32 (is_big byte_order) utf16.now result.read
+    ensures stop { Stops (char_bytes (is_big byte_order)) utf32_units (IsIllFormedUtf16 (is_big byte_order)) utf16.now result.read
         (length to.new - result.written) (stop_of result) }
     ensures succeeds { length utf16.now / 2 ≤ length to.new → stop_of result ≢ NoSpace }
     ensures numbers { AreNumbers result.status result.error_len }
@@ -41,7 +41,7 @@ pub extern "C" fn dethrux_to_utf32(byte_order: u32, utf16: &[u8], to: &mut [u32]
 pub extern "C" fn dethrux_to_utf32_lossy(byte_order: u32, utf16: &[u8], to: &mut [u32]) -> Progress
     ensures shown { WritesWhole (lossy_text (is_big byte_order)) utf32_units utf16.now to.new
         result.read result.written }
-    ensures stop { StopsLossyWhole (lossy_text (is_big byte_order))
+    ensures stop { StopsLossy (lossy_text (is_big byte_order))
         utf32_units (drop result.read utf16.now) (length to.new - result.written) (stop_of result) }
     ensures between { stop_of result ≡ NoSpace
         → DecodesToUtf32 (is_big byte_order) utf16.now to.new result.read result.written }
@@ -92,7 +92,7 @@ pub extern "C" fn dethrux_validate_utf32(utf32: &[u32]) -> Validity
 pub extern "C" fn dethrux_from_utf32(byte_order: u32, utf32: &[u32], to: &mut [u8]) -> Progress
     ensures wrote { Writes (TranscodesFromUtf32 (is_big byte_order)) utf32.now to.new result.read
         result.written }
-    ensures stop { StopsFromUtf32 (is_big byte_order) utf32.now result.read
+    ensures stop { Stops utf32_units (char_bytes (is_big byte_order)) IsIllFormedUtf32 utf32.now result.read
         (length to.new - result.written) (stop_of result) }
     ensures succeeds { 4 * length utf32.now ≤ length to.new → stop_of result ≢ NoSpace }
     ensures numbers { AreNumbers result.status result.error_len }
@@ -111,7 +111,7 @@ pub extern "C" fn dethrux_from_utf32_lossy(
 ) -> Progress
     ensures wrote { Writes (ShowsInUtf16 (is_big byte_order)) utf32.now to.new result.read
         result.written }
-    ensures stop { StopsLossyWhole lossy_utf32 (char_bytes (is_big byte_order))
+    ensures stop { StopsLossy lossy_utf32 (char_bytes (is_big byte_order))
         (drop result.read utf32.now) (length to.new - result.written) (stop_of result) }
     ensures succeeds { 4 * length utf32.now ≤ length to.new → stop_of result ≡ Done }
     ensures numbers { AreNumbers result.status result.error_len }

@@ -4,11 +4,12 @@ ghost use Rattle.std.specs.Prelude.{◌≡◌, ◌≢◌, ◌↔◌, ◌+◌, �
 ghost use Rattle.std.specs.List.{flat_map};
 ghost use Rattle.utf16_transcode.specs.StreamSplit.{decided};
 ghost use Rattle.utf16_transcode.specs.WholeText.{WritesWhole};
-ghost use Rattle.utf16_transcode.specs.Stream.{FeedsAs, StopsFeedingAs, stream_pending};
+ghost use Rattle.utf16_transcode.specs.Stream.{FeedsAs, StopsFeeding, stream_pending};
 ghost use Rattle.utf16_transcode.specs.Transcoded.{Writes};
 ghost use Rattle.utf16_transcode.specs.declared.progress.Stop.TheVariants.{Done, Incomplete, NoSpace};
+ghost use Rattle.utf16_transcode.specs.Stops.{StopsPartial};
 ghost use Rattle.utf16_wtf8.specs.FromWtf8.{HasUtf16Len, IsWrittenIfItFits, LeavesLeading, StopsFromWtf8, StopsFromWtf8Partial, TranscodesFromWtf8};
-ghost use Rattle.utf16_wtf8.specs.ToWtf8.{DecodesToWtf8, StopsBeforeTail, StopsToWtf8, points_of, tail_points, wtf8_split};
+ghost use Rattle.utf16_wtf8.specs.ToWtf8.{DecodesToWtf8, StopsToWtf8, points_of, tail_points, wtf8_split};
 ghost use Rattle.utf16_wtf8.specs.Wtf8.{generalized_utf8};
 ghost use Rattle.dethrux.specs.Numbers.{AreNumbers, is_big, stop_of};
 
@@ -57,7 +58,7 @@ pub extern "C" fn dethrux_to_wtf8_len(byte_order: u32, utf16: &[u8]) -> usize
 pub extern "C" fn dethrux_to_wtf8_partial(byte_order: u32, utf16: &[u8], to: &mut [u8]) -> Progress
     ensures decodes { DecodesToWtf8 (is_big byte_order) utf16.now to.new result.read
         result.written }
-    ensures stop { StopsBeforeTail (is_big byte_order) (drop result.read utf16.now)
+    ensures stop { StopsPartial (wtf8_split (is_big byte_order)) generalized_utf8 (drop result.read utf16.now)
         (length to.new - result.written) (stop_of result) }
     ensures succeeds { length utf16.now / 2 * 3 ≤ length to.new → stop_of result ≢ NoSpace }
     ensures filled { stop_of result ≡ NoSpace → length to.new < result.written + 4 }
@@ -80,7 +81,7 @@ pub extern "C" fn dethrux_wtf8_decoder_feed(
     ensures feeds { FeedsAs (wtf8_split (is_big byte_order)) generalized_utf8
         (stream_pending decoder.old) chunk.now (stream_pending decoder.new) to.new result.read
         result.written }
-    ensures stop { StopsFeedingAs (wtf8_split (is_big byte_order)) generalized_utf8
+    ensures stop { StopsFeeding (wtf8_split (is_big byte_order)) generalized_utf8
         (stream_pending decoder.old) chunk.now (stream_pending decoder.new) result.read
         (length to.new - result.written) (stop_of result) }
     ensures done { (stop_of result ≡ Done) ↔ (length (flat_map generalized_utf8 (decided (wtf8_split

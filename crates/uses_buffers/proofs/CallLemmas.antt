@@ -6,7 +6,7 @@ use Rattle.std.proofs.lemmas.List.Sums.{sum_by-cons}
 use Rattle.std.specs.List.{flat_map}
 use Rattle.utf16_transcode.specs.Decodes.{DecodesAs}
 use Rattle.utf16_transcode.specs.StreamSplit.{StreamSplit, IsSplitInChunks, decided}
-use Rattle.utf16_transcode.specs.Stream.{FeedsAs, StopsFeedingAs}
+use Rattle.utf16_transcode.specs.Stream.{FeedsAs, StopsFeeding}
 use Rattle.utf16_transcode.specs.declared.progress.Stop.{Stop}
 use Rattle.utf16_transcode.specs.declared.progress.Stop.TheVariants.{Incomplete, Done, IllFormed, NoSpace}
 use Rattle.utf16_units.proofs.IllFormedLemmas.{rest_from}
@@ -81,7 +81,7 @@ module _ (parts : StreamSplit) (into : ℕ → List ℕ) (split : IsSplitInChunk
         omega arith
 
   -- all of the chunk was taken
-  pub feed_end : (room : ℕ) (stop : Stop) → stop ≢ NoSpace → StopsFeedingAs parts into pending chunk left read room stop
+  pub feed_end : (room : ℕ) (stop : Stop) → stop ≢ NoSpace → StopsFeeding parts into pending chunk left read room stop
       → (next ≡ old ++ flat_map into (decided parts bytes)) × (left ≡ parts.tail bytes)
   feed_end room Done other done = (
     Decodes-last parts into bytes (pending ++ chunk) old all next before (grown ∙ ap (λ t. all ++ t) (fed_text parts into split pending chunk left to read written room feeds done)),
@@ -146,7 +146,7 @@ module _ (parts : StreamSplit) (into : ℕ → List ℕ) (split : IsSplitInChunk
   pub stream_calls : (bytes : List ℕ) (feeds : List Feed) (last : Feed) → FeedsAll parts into bytes feeds last
       → (flat_map feed_output feeds ++ feed_output last) ++ flat_map into (parts.at_end last.pending) ≡ flat_map into (parts.whole bytes)
   stream_calls bytes feeds last run =
-      let done = subst (StopsFeedingAs parts into run.pending (take last.offered run.left) last.pending last.read (length last.to - last.written)) run.done run.fed.1 in
+      let done = subst (StopsFeeding parts into run.pending (take last.offered run.left) last.pending last.read (length last.to - last.written)) run.done run.fed.1 in
       let tail : parts.tail last.pending ≡ last.pending = ap parts.tail done.1 ∙ tail_again parts into split (run.pending ++ take last.offered run.left) ∙ sym done.1 in
       let none : last.pending ++ drop last.read run.left ≡ last.pending =
       ap (λ b. last.pending ++ b) (drop_all last.read run.left (omega (arith, run.all))) ∙ append-nil last.pending in

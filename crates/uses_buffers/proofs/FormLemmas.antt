@@ -5,7 +5,7 @@ use Rattle.std.proofs.lemmas.List.{drop-drop}
 use Rattle.std.specs.List.{flat_map}
 use Rattle.utf16_transcode.specs.Decodes.{DecodesAs}
 use Rattle.utf16_transcode.specs.StreamSplit.{StreamSplit, IsSplitInChunks, decided}
-use Rattle.utf16_transcode.specs.Stops.{NextDoesNotFit, Stops, StopsLossyAs, StopsLossyWhole}
+use Rattle.utf16_transcode.specs.Stops.{NextDoesNotFit, Stops, StopsPartial, StopsLossy}
 use Rattle.utf16_transcode.specs.Transcoded.{SameText, Joins}
 use Rattle.utf16_transcode.specs.declared.progress.Stop.{Stop}
 use Rattle.utf16_transcode.specs.declared.progress.Stop.TheVariants.{Incomplete, Done, IllFormed, NoSpace}
@@ -71,11 +71,11 @@ pub lossy_joined : (text : List ℕ → List ℕ) (into : ℕ → List ℕ) → 
 lossy_joined text into input out more at read left room stop first second = record {
   within = both_within input at read first.within second.within;
   writes = both_shown text into input out more at read first.writes second.writes;
-  stops = subst (λ r. StopsLossyWhole text into r room stop) (drop-drop read at input) second.stops;
+  stops = subst (λ r. StopsLossy text into r room stop) (drop-drop read at input) second.stops;
 }
 
 -- nothing is left if a lossy call did not stop for lack of space
-pub nothing_left : (text : List ℕ → List ℕ) (into : ℕ → List ℕ) (rest : List ℕ) (left : ℕ) (stop : Stop) → ¬ (stop ≡ NoSpace) → StopsLossyWhole text into rest left stop → rest ≡ []
+pub nothing_left : (text : List ℕ → List ℕ) (into : ℕ → List ℕ) (rest : List ℕ) (left : ℕ) (stop : Stop) → ¬ (stop ≡ NoSpace) → StopsLossy text into rest left stop → rest ≡ []
 nothing_left text into rest left Done other here = here
 nothing_left text into rest left (IllFormed len) other here = absurd here
 nothing_left text into rest left Incomplete other here = absurd here
@@ -107,7 +107,7 @@ module _ (parts : StreamSplit) (into : ℕ → List ℕ) where
         writes =
             Decodes-then parts into input (drop at input) (drop (at + read) input) [] out (out ++ more) first.writes
             (subst (λ r. DecodesAs parts into (drop at input) r out (out ++ more)) same (decodes_onto (drop at input) (drop read (drop at input)) out more second.writes));
-        stops = subst (λ r. StopsLossyAs parts into r room stop) same second.stops;
+        stops = subst (λ r. StopsPartial parts into r room stop) same second.stops;
       }
 
   pub partial_nothing : (input out : List ℕ) → DecodesAs parts into input input [] out → out ≡ []
@@ -123,7 +123,7 @@ module _ (parts : StreamSplit) (into : ℕ → List ℕ) where
       let tail = tail_left rest done.left stop done.ends done.call.stops in
       (Decodes-end parts into input rest [] out done.call.writes (split.undecided rest tail), sym tail ∙ sym done.call.writes.tail) where
         -- a call that stopped for a reason other than space left the tail
-        tail_left : (rest : List ℕ) (left : ℕ) (stop : Stop) → ¬ (stop ≡ NoSpace) → StopsLossyAs parts into rest left stop → parts.tail rest ≡ rest
+        tail_left : (rest : List ℕ) (left : ℕ) (stop : Stop) → ¬ (stop ≡ NoSpace) → StopsPartial parts into rest left stop → parts.tail rest ≡ rest
         tail_left rest left Done other here = ap parts.tail here ∙ split.nothing ∙ sym here
         tail_left rest left (IllFormed len) other here = absurd here
         tail_left rest left Incomplete other here = here.1

@@ -6,7 +6,7 @@ use Rattle.utf16_units.specs.Encoding.{IsUtf16, char_bytes, encode}
 use Rattle.utf16_units.specs.IllFormed.{IsIllFormedAt}
 use Rattle.utf16_units.specs.Split.{lossy_text}
 use Rattle.utf16_units.proofs.EncodingLemmas.{Encodes-unique, IsUtf16-from_Encodes, encode-nil}
-use Rattle.utf16_transcode.specs.Stops.{IsIllFormedUtf16, StopsLossyWhole}
+use Rattle.utf16_transcode.specs.Stops.{IsIllFormedUtf16, StopsLossy}
 use Rattle.utf16_transcode.specs.declared.progress.Stop.{Stop}
 use Rattle.utf16_transcode.proofs.ToUtf8Lemmas.{faults_there}
 use Rattle.utf16_transcode.proofs.ToUtf8Parts.{nil_text}
@@ -76,7 +76,7 @@ pub from_utf32_lossy_joined : (big : Bool) → Joined (from_utf32_lossy big)
 from_utf32_lossy_joined big input out more at read left room stop first second = record {
   within = both_within input at read first.within second.within;
   writes = both_given (ShowsInUtf16 big) (shown_joins big) input out more at read first.writes second.writes;
-  stops = subst (λ r. StopsLossyWhole lossy_utf32 (char_bytes big) r room stop) (drop-drop read at input) second.stops;
+  stops = subst (λ r. StopsLossy lossy_utf32 (char_bytes big) r room stop) (drop-drop read at input) second.stops;
 }
 
 pub from_utf32_lossy_nothing : (big : Bool) (input out : List ℕ) → ShowsInUtf16 big (take 0 input) out → out ≡ []

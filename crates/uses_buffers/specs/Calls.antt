@@ -3,8 +3,8 @@ use Rattle.std.specs.Prelude.{◌≡◌, ◌≢◌, ℕ, ◌+◌, ◌-◌, ◌�
 use Rattle.std.specs.List.{flat_map}
 use Rattle.utf16_transcode.specs.StreamSplit.{StreamSplit}
 use Rattle.utf16_transcode.specs.WholeText.{WritesWhole}
-use Rattle.utf16_transcode.specs.Stops.{Stops, StopsLossyAs, StopsLossyWhole}
-use Rattle.utf16_transcode.specs.Stream.{FeedsAs, StopsFeedingAs}
+use Rattle.utf16_transcode.specs.Stops.{Stops, StopsPartial, StopsLossy}
+use Rattle.utf16_transcode.specs.Stream.{FeedsAs, StopsFeeding}
 use Rattle.utf16_transcode.specs.Transcoded.{DecodesAsTo, SameText, Writes}
 use Rattle.utf16_transcode.specs.declared.progress.Stop.{Stop}
 use Rattle.utf16_transcode.specs.declared.progress.Stop.TheVariants.{Incomplete, Done, IllFormed, NoSpace}
@@ -44,13 +44,13 @@ all_output calls last = flat_map output calls ++ output last
 abbrev pub IsLossyCall : (List ℕ → List ℕ) → (ℕ → List ℕ) → List ℕ → Call → Type 0
 IsLossyCall text into input call =
     WritesWhole text into input call.to call.read call.written
-    × StopsLossyWhole text into (drop call.read input) (length call.to - call.written) call.stop
+    × StopsLossy text into (drop call.read input) (length call.to - call.written) call.stop
 
 -- what `transcode_partial` promises
 abbrev pub IsPartialCall : StreamSplit → (ℕ → List ℕ) → List ℕ → Call → Type 0
 IsPartialCall parts into input call =
     DecodesAsTo parts into input call.to call.read call.written
-    × StopsLossyAs parts into (drop call.read input) (length call.to - call.written) call.stop
+    × StopsPartial parts into (drop call.read input) (length call.to - call.written) call.stop
 
 -- what `transcode` promises
 module _ (from into : ℕ → List ℕ) (IsValid : List ℕ → Type 0) (other : List ℕ → List ℕ) (IsIllFormedOf : List ℕ → ℕ → Option ℕ → Type 0) where
@@ -98,7 +98,7 @@ module _ (parts : StreamSplit) (into : ℕ → List ℕ) where
   abbrev pub IsFeed : List ℕ → List ℕ → Feed → Type 0
   IsFeed pending bytes feed =
       FeedsAs parts into pending (take feed.offered bytes) feed.pending feed.to feed.read feed.written
-      × StopsFeedingAs parts into pending (take feed.offered bytes) feed.pending feed.read (length feed.to - feed.written) feed.stop
+      × StopsFeeding parts into pending (take feed.offered bytes) feed.pending feed.read (length feed.to - feed.written) feed.stop
 
   -- calls one after another, each given a chunk at the start of what the call before left
   abbrev pub Feeding : List ℕ → List ℕ → List Feed → List ℕ → List ℕ → Type 0

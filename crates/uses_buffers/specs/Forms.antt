@@ -6,7 +6,7 @@ use Rattle.utf16_units.specs.Encoding.{Encodes, char_bytes}
 use Rattle.utf16_units.specs.Split.{lossy_text}
 use Rattle.utf16_transcode.specs.Decodes.{DecodesAs}
 use Rattle.utf16_transcode.specs.StreamSplit.{StreamSplit}
-use Rattle.utf16_transcode.specs.Stops.{IsIllFormedUtf16, Stops, StopsLossyAs, StopsLossyWhole}
+use Rattle.utf16_transcode.specs.Stops.{IsIllFormedUtf16, StopsPartial, StopsLossy, Stops}
 use Rattle.utf16_transcode.specs.declared.progress.Stop.{Stop}
 use Rattle.utf16_transcode.specs.declared.progress.Stop.TheVariants.{Incomplete, Done, IllFormed, NoSpace}
 use Rattle.utf16_fixed.specs.Stops32.{IsIllFormedUtf32}
@@ -32,7 +32,7 @@ abbrev pub lossy : (List ℕ → List ℕ) → (ℕ → List ℕ) → Conversion
 lossy text into = record {
   no_space = NoSpace;
   Writes = λ input out n. flat_map into (text input) ≡ out ++ flat_map into (text (drop n input));
-  Stops = λ input n left stop. StopsLossyWhole text into (drop n input) left stop;
+  Stops = λ input n left stop. StopsLossy text into (drop n input) left stop;
 }
 
 -- a conversion of what is certain of any input
@@ -40,7 +40,7 @@ abbrev pub partial : StreamSplit → (ℕ → List ℕ) → Conversion ℕ ℕ S
 partial parts into = record {
   no_space = NoSpace;
   Writes = λ input out n. DecodesAs parts into input (drop n input) [] out;
-  Stops = λ input n left stop. StopsLossyAs parts into (drop n input) left stop;
+  Stops = λ input n left stop. StopsPartial parts into (drop n input) left stop;
 }
 
 -- `to_utf32`
@@ -60,7 +60,7 @@ abbrev pub from_utf32_lossy : Bool → Conversion ℕ ℕ Stop
 from_utf32_lossy big = record {
   no_space = NoSpace;
   Writes = λ utf32 out n. ShowsInUtf16 big (take n utf32) out;
-  Stops = λ utf32 n left stop. StopsLossyWhole lossy_utf32 (char_bytes big) (drop n utf32) left stop;
+  Stops = λ utf32 n left stop. StopsLossy lossy_utf32 (char_bytes big) (drop n utf32) left stop;
 }
 
 -- `to_latin1`

@@ -3,11 +3,12 @@
 
 ghost use Rattle.std.specs.Prelude.{◌≡◌, ◌≢◌, ◌<◌, ◌≤◌, IfOk, length, take};
 ghost use Rattle.std.specs.Vec.{vec_items};
-ghost use Rattle.utf16_units.specs.Encoding.{encode};
+ghost use Rattle.utf16_units.specs.Encoding.{encode, char_bytes};
 ghost use Rattle.utf16_units.specs.Split.{lossy_text};
 ghost use Rattle.utf16_transcode.specs.declared.progress.Stop.TheVariants.{NoSpace};
-ghost use Rattle.utf16_fixed.specs.Stops32.{StopsFromUtf32, StopsToUtf32};
-ghost use Rattle.utf16_fixed.specs.Utf32.{TranscodesFromUtf32, TranscodesToUtf32, lossy_utf32};
+ghost use Rattle.utf16_transcode.specs.Stops.{Stops, IsIllFormedUtf16};
+ghost use Rattle.utf16_fixed.specs.Utf32.{TranscodesFromUtf32, TranscodesToUtf32, lossy_utf32, utf32_units};
+ghost use Rattle.utf16_fixed.specs.Stops32.{IsIllFormedUtf32};
 ghost use Rattle.uses_buffers.specs.Forms as forms;
 
 use crate::buffer_call::{BufferCall, call_through};
@@ -60,7 +61,7 @@ pub fn to_utf32_through<E: Utf16Order, A: Allocator>(
     ensures within { IfOk result (λ done. done.1 ≤ length utf16.now) }
     ensures text { IfOk result (λ done.
         TranscodesToUtf32 E.BIG (take done.1 utf16.now) (vec_items done.0)) }
-    ensures stop { IfOk result (λ done. StopsToUtf32 E.BIG utf16.now done.1 0 done.2) }
+    ensures stop { IfOk result (λ done. Stops (char_bytes E.BIG) utf32_units (IsIllFormedUtf16 E.BIG) utf16.now done.1 0 done.2) }
     ensures whole { IfOk result (λ done. done.2 ≢ NoSpace) }
 {
     call_through::<ToUtf32<E>, A>(alloc, utf16, buffer)
@@ -150,7 +151,7 @@ pub fn from_utf32_through<E: Utf16Order, A: Allocator>(
     ensures within { IfOk result (λ done. done.1 ≤ length utf32.now) }
     ensures text { IfOk result (λ done.
         TranscodesFromUtf32 E.BIG (take done.1 utf32.now) (vec_items done.0)) }
-    ensures stop { IfOk result (λ done. StopsFromUtf32 E.BIG utf32.now done.1 0 done.2) }
+    ensures stop { IfOk result (λ done. Stops utf32_units (char_bytes E.BIG) IsIllFormedUtf32 utf32.now done.1 0 done.2) }
     ensures whole { IfOk result (λ done. done.2 ≢ NoSpace) }
 {
     call_through::<FromUtf32<E>, A>(alloc, utf32, buffer)

@@ -14,7 +14,7 @@ use Rattle.utf16_transcode.proofs.ToUtf8Parts.{whole_lossy_chars-append}
 use Rattle.utf16_units.proofs.SplitLemmas.{Split-computed}
 use Rattle.utf16_units.proofs.UnitLemmas.{length-unit_bytes}
 use Rattle.utf16_transcode.specs.WholeText.{WritesWhole}
-use Rattle.utf16_transcode.specs.Stops.{StopsLossyWhole}
+use Rattle.utf16_transcode.specs.Stops.{StopsLossy}
 use Rattle.utf16_transcode.specs.declared.progress.Stop.{Stop}
 use Rattle.utf16_transcode.specs.declared.progress.Stop.TheVariants.{Incomplete, Done, IllFormed, NoSpace}
 use Rattle.utf16_fixed.specs.Utf32.{utf32_units}
@@ -49,7 +49,7 @@ lossy_text-most big raw are =
 
 -- that many code units suffice
 pub to_utf32_lossy_fits : (big : Bool) (raw to : List ℕ) (read written : ℕ) (stop : Stop) → AreBytes raw → WritesWhole (lossy_text big) utf32_units raw to read written
-    → StopsLossyWhole (lossy_text big) utf32_units (drop read raw) (length to - written) stop → (length raw + 1) / 2 ≤ length to → stop ≡ Done
+    → StopsLossy (lossy_text big) utf32_units (drop read raw) (length to - written) stop → (length raw + 1) / 2 ≤ length to → stop ≡ Done
 to_utf32_lossy_fits big raw to read written Done are shows here room = refl
 to_utf32_lossy_fits big raw to read written (IllFormed len) are shows here room = absurd here
 to_utf32_lossy_fits big raw to read written Incomplete are shows here room = absurd here

@@ -14,17 +14,18 @@ use Rattle.utf16_units.proofs.SplitIllFormed.{AreBytes-drop, lone_item, split_it
 use Rattle.utf16_units.proofs.SplitJoin.{split_items-text, split_tail-text}
 use Rattle.utf16_transcode.specs.Decodes.{utf16_split}
 use Rattle.utf16_transcode.specs.StreamSplit.{decided}
-use Rattle.utf16_transcode.specs.Stops.{IsIllFormedUtf16, TextDoesNotFit}
+use Rattle.utf16_transcode.specs.Stops.{IsIllFormedUtf16, TextDoesNotFit, Stops, StopsPartial}
 use Rattle.utf16_transcode.specs.Transcoded.{Writes}
 use Rattle.utf16_transcode.specs.declared.progress.Stop.{Stop}
 use Rattle.utf16_transcode.specs.declared.progress.Stop.TheVariants.{Incomplete, Done, IllFormed, NoSpace}
 use Rattle.utf16_transcode.proofs.DecodesSteps.{Decodes-then}
 use Rattle.utf16_units.proofs.IllFormedLemmas.{rest_from}
+use Rattle.utf16_units.specs.Encoding.{char_bytes}
 use Rattle.utf16_transcode.proofs.StreamSteps.{rest_after}
 use Rattle.utf16_transcode.proofs.DecodeLossyLemmas.{ill_formed_there, some_left, stops_lossy}
 use Rattle.utf16_transcode.proofs.ToUtf8Lemmas.{faults_there}
 use Rattle.utf16_transcode.proofs.ToUtf8Parts.{tail_text}
-use Rattle.utf16_fixed.specs.Stops32.{DecodesToUtf32, StopsLossyToUtf32, StopsToUtf32}
+use Rattle.utf16_fixed.specs.Stops32.{DecodesToUtf32}
 use Rattle.utf16_fixed.specs.Utf32.{TranscodesToUtf32, utf32_units}
 
 -- a text is its own code units
@@ -52,8 +53,8 @@ full_before : (into : ℕ → List ℕ) (text : List ℕ) (k left : ℕ) → Tex
 full_before into text k left next full = record { char = next.char; more = next.more; begins = next.begins; too_long = full }
 
 -- why a call stopped, if not at an ill-formed sequence
-pub stops_lossy_to_utf32 : (big : Bool) (raw : List ℕ) (n left : ℕ) (stop : Stop) → ((len : ℕ) → ¬ (stop ≡ IllFormed len)) → StopsToUtf32 big raw n left stop
-    → StopsLossyToUtf32 big (drop n raw) left stop
+pub stops_lossy_to_utf32 : (big : Bool) (raw : List ℕ) (n left : ℕ) (stop : Stop) → ((len : ℕ) → ¬ (stop ≡ IllFormed len)) → Stops (char_bytes big) utf32_units (IsIllFormedUtf16 big) raw n left stop
+    → StopsPartial (utf16_split big) utf32_units (drop n raw) left stop
 stops_lossy_to_utf32 big raw n left Done other here = stops_lossy big raw n left Done other here
 stops_lossy_to_utf32 big raw n left (IllFormed len) other here = absurd (other len refl)
 stops_lossy_to_utf32 big raw n left Incomplete other here = stops_lossy big raw n left Incomplete other here

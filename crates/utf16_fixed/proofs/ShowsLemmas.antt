@@ -9,15 +9,15 @@ use Rattle.utf16_units.specs.Encoding.{char_bytes, encode}
 use Rattle.utf16_units.specs.Unit.{unit_bytes}
 use Rattle.utf16_units.proofs.CharLemmas.{char_size_cases, length-char_bytes, one_unit_bytes}
 use Rattle.utf16_units.proofs.EncodingLemmas.{encode-append, encode-nil, encode-one, length-encode}
-use Rattle.utf16_transcode.specs.Stops.{StopsLossyWhole, TextDoesNotFit}
+use Rattle.utf16_transcode.specs.Stops.{StopsLossy, TextDoesNotFit, Stops}
 use Rattle.utf16_transcode.specs.Transcoded.{Joins, Writes}
 use Rattle.utf16_units.proofs.IllFormedLemmas.{rest_from}
 use Rattle.utf16_transcode.proofs.StreamSteps.{rest_after}
 use Rattle.utf16_transcode.proofs.TranscodedLemmas.{Writes-then, put_end-long}
 use Rattle.utf16_transcode.specs.declared.progress.Stop.{Stop}
 use Rattle.utf16_transcode.specs.declared.progress.Stop.TheVariants.{Incomplete, Done, IllFormed, NoSpace}
-use Rattle.utf16_fixed.specs.Stops32.{IsIllFormedUtf32, StopsFromUtf32}
-use Rattle.utf16_fixed.specs.Utf32.{IsUtf32, ShowsInUtf16, TranscodesFromUtf32, lossy_unit, lossy_utf32}
+use Rattle.utf16_fixed.specs.Stops32.{IsIllFormedUtf32}
+use Rattle.utf16_fixed.specs.Utf32.{IsUtf32, ShowsInUtf16, TranscodesFromUtf32, lossy_unit, lossy_utf32, utf32_units}
 use Rattle.utf16_fixed.proofs.PartLemmas.{Writes-rest}
 use Rattle.utf16_fixed.proofs.ValidLemmas.{other_after}
 use Rattle.utf16_fixed.proofs.TextLemmas.{size-most}
@@ -70,8 +70,8 @@ other_does_not_fit big (u ∷ rest) left some other few = record {
 }
 
 -- why a call stopped, if not at an ill-formed code unit
-pub stops_lossy_from_utf32 : (big : Bool) (units : List ℕ) (n left : ℕ) (stop : Stop) → ((len : ℕ) → ¬ (stop ≡ IllFormed len)) → StopsFromUtf32 big units n left stop
-    → StopsLossyWhole lossy_utf32 (char_bytes big) (drop n units) left stop
+pub stops_lossy_from_utf32 : (big : Bool) (units : List ℕ) (n left : ℕ) (stop : Stop) → ((len : ℕ) → ¬ (stop ≡ IllFormed len)) → Stops utf32_units (char_bytes big) IsIllFormedUtf32 units n left stop
+    → StopsLossy lossy_utf32 (char_bytes big) (drop n units) left stop
 stops_lossy_from_utf32 big units n left Done other here = drop_all n units (omega (arith, here))
 stops_lossy_from_utf32 big units n left (IllFormed len) other here = absurd (other len refl)
 stops_lossy_from_utf32 big units n left Incomplete other here = absurd here
@@ -84,7 +84,7 @@ stops_lossy_from_utf32 big units n left NoSpace other here = record {
 
 -- four bytes for every code unit suffice
 pub from_utf32_lossy_fits : (big : Bool) (units to : List ℕ) (read written : ℕ) (stop : Stop) → Writes (ShowsInUtf16 big) units to read written
-    → StopsLossyWhole lossy_utf32 (char_bytes big) (drop read units) (length to - written) stop → 4 * length units ≤ length to → stop ≡ Done
+    → StopsLossy lossy_utf32 (char_bytes big) (drop read units) (length to - written) stop → 4 * length units ≤ length to → stop ≡ Done
 from_utf32_lossy_fits big units to read written Done wrote here room = refl
 from_utf32_lossy_fits big units to read written (IllFormed len) wrote here room = absurd here
 from_utf32_lossy_fits big units to read written Incomplete wrote here room = absurd here
@@ -114,12 +114,12 @@ module _ (big : Bool) (units old part : List ℕ) (read at n w : ℕ) (before : 
   shown_rest = Writes-rest (shown_joins big) units old part read at n w before (shown_text big (rest_from units read) part n w front) long
 
   -- why it stopped, if not at an ill-formed code unit
-  pub stops_shown : (stop : Stop) → ((len : ℕ) → ¬ (stop ≡ IllFormed len)) → StopsFromUtf32 big (rest_from units read) n (length part - w) stop
-      → StopsLossyWhole lossy_utf32 (char_bytes big) (drop (read + n) units) (length new - (at + w)) stop
+  pub stops_shown : (stop : Stop) → ((len : ℕ) → ¬ (stop ≡ IllFormed len)) → Stops utf32_units (char_bytes big) IsIllFormedUtf32 (rest_from units read) n (length part - w) stop
+      → StopsLossy lossy_utf32 (char_bytes big) (drop (read + n) units) (length new - (at + w)) stop
   stops_shown stop other here =
       let left : length part - w ≡ length new - (at + w) = omega (arith, long, put_end-long at old part before.fits long) in
-      subst (λ k. StopsLossyWhole lossy_utf32 (char_bytes big) (drop (read + n) units) k stop) left
-      (subst (λ rest. StopsLossyWhole lossy_utf32 (char_bytes big) rest (length part - w) stop) (rest_after units read n ∙ take_rest units (read + n))
+      subst (λ k. StopsLossy lossy_utf32 (char_bytes big) (drop (read + n) units) k stop) left
+      (subst (λ rest. StopsLossy lossy_utf32 (char_bytes big) rest (length part - w) stop) (rest_after units read n ∙ take_rest units (read + n))
       (stops_lossy_from_utf32 big (rest_from units read) n (length part - w) stop other here))
 
   module _ (len : ℕ) (found : IsIllFormedUtf32 (rest_from units read) n (Some len)) where

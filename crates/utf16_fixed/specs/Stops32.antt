@@ -2,25 +2,14 @@
 -- UTF-16, code units of UTF-32.
 use Rattle.std.specs.Prelude.{◌≡◌, ℕ, Bool, List, Option, None, Some, slice_index}
 use Rattle.std.specs.Char.{IsScalar}
-use Rattle.utf16_units.specs.Encoding.{char_bytes}
 use Rattle.utf16_transcode.specs.Decodes.{utf16_split}
-use Rattle.utf16_transcode.specs.Stops.{IsIllFormedUtf16, Stops, StopsLossyAs}
 use Rattle.utf16_transcode.specs.Transcoded.{DecodesAsTo}
-use Rattle.utf16_transcode.specs.declared.progress.Stop.{Stop}
 use Rattle.utf16_fixed.specs.Utf32.{IsUtf32ValidUpTo, utf32_units}
-
--- from UTF-16 to UTF-32
-abbrev pub StopsToUtf32 : Bool → List ℕ → ℕ → ℕ → Stop → Type 0
-StopsToUtf32 big = Stops (char_bytes big) utf32_units (IsIllFormedUtf16 big)
 
 -- UTF-16 of which the first bytes were decoded, and what is shown for them is at the start of the
 -- buffer in UTF-32
 abbrev pub DecodesToUtf32 : Bool → List ℕ → List ℕ → ℕ → ℕ → Type 0
 DecodesToUtf32 big = DecodesAsTo (utf16_split big) utf32_units
-
--- the reasons for a call that replaces unpaired surrogates and leaves a tail
-abbrev pub StopsLossyToUtf32 : Bool → List ℕ → ℕ → Stop → Type 0
-StopsLossyToUtf32 big = StopsLossyAs (utf16_split big) utf32_units
 
 -- the code unit after the longest valid prefix is not a scalar value; nothing is incomplete in
 -- UTF-32
@@ -32,7 +21,3 @@ IsIllFormedUtf32 units valid_up_to (Some len) = (len ≡ 1) × IsUtf32ValidUpTo 
 abbrev pub IsIllFormedUtf32At : List ℕ → Option ℕ → Type 0
 IsIllFormedUtf32At rest None = ⊥
 IsIllFormedUtf32At rest (Some len) = (len ≡ 1) × ¬ IsScalar (slice_index rest 0)
-
--- from UTF-32 to UTF-16
-abbrev pub StopsFromUtf32 : Bool → List ℕ → ℕ → ℕ → Stop → Type 0
-StopsFromUtf32 big = Stops utf32_units (char_bytes big) IsIllFormedUtf32

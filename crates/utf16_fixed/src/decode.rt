@@ -6,10 +6,9 @@
 ghost use Rattle.std.specs.Prelude.{◌≡◌, ◌≢◌, ◌-◌, ◌*◌, ◌/◌, ◌<◌, ◌≤◌, IfErr, IfOk, length};
 ghost use Rattle.utf16_units.specs.Encoding.{char_bytes};
 ghost use Rattle.utf16_units.specs.IllFormed.{IsIllFormedAt};
-ghost use Rattle.utf16_transcode.specs.Stops.{StopsHere};
+ghost use Rattle.utf16_transcode.specs.Stops.{StopsHere, Stops, IsIllFormedUtf16};
 ghost use Rattle.utf16_transcode.specs.Transcoded.{WritesAt, Writes};
 ghost use Rattle.utf16_transcode.specs.declared.progress.Stop.TheVariants.{NoSpace};
-ghost use Rattle.utf16_fixed.specs.Stops32.{StopsToUtf32};
 ghost use Rattle.utf16_fixed.specs.Utf32.{TranscodesToUtf32, utf32_units};
 
 use crate::pairs::write_pairs;
@@ -30,7 +29,7 @@ use utf16_units::{Moved, Utf16Order, first_char_len};
 /// Linear time in the number of bytes read.
 pub fn to_utf32<E: Utf16Order>(raw: &[u8], to: &mut [u32]) -> Progress
     ensures wrote { Writes (TranscodesToUtf32 E.BIG) raw.now to.new result.read result.written }
-    ensures stop { StopsToUtf32 E.BIG raw.now result.read (length to.new - result.written)
+    ensures stop { Stops (char_bytes E.BIG) utf32_units (IsIllFormedUtf16 E.BIG) raw.now result.read (length to.new - result.written)
         result.stop }
     ensures succeeds { length raw.now / 2 ≤ length to.new → result.stop ≢ NoSpace }
 {

@@ -4,9 +4,10 @@
 ghost use Rattle.std.specs.Prelude.{◌≡◌, ◌+◌, ◌-◌, ◌/◌, ◌≤◌, drop, length};
 ghost use Rattle.utf16_units.specs.Split.{lossy_text};
 ghost use Rattle.utf16_transcode.specs.WholeText.{WritesWhole};
-ghost use Rattle.utf16_transcode.specs.Stops.{StopsLossyWhole};
+ghost use Rattle.utf16_transcode.specs.Stops.{StopsLossy, StopsPartial};
 ghost use Rattle.utf16_transcode.specs.declared.progress.Stop.TheVariants.{Done, NoSpace};
-ghost use Rattle.utf16_fixed.specs.Stops32.{DecodesToUtf32, StopsLossyToUtf32};
+ghost use Rattle.utf16_transcode.specs.Decodes.{utf16_split};
+ghost use Rattle.utf16_fixed.specs.Stops32.{DecodesToUtf32};
 ghost use Rattle.utf16_fixed.specs.Utf32.{utf32_units};
 
 use crate::decode::to_utf32;
@@ -28,7 +29,7 @@ use utf16_units::{Utf16Order, validate_raw_utf16};
 pub fn to_utf32_lossy<E: Utf16Order>(raw: &[u8], to: &mut [u32]) -> Progress
     ensures shown { WritesWhole (lossy_text E.BIG) utf32_units raw.now to.new result.read
         result.written }
-    ensures stop { StopsLossyWhole (lossy_text E.BIG) utf32_units (drop result.read raw.now)
+    ensures stop { StopsLossy (lossy_text E.BIG) utf32_units (drop result.read raw.now)
         (length to.new - result.written) result.stop }
     ensures between { result.stop ≡ NoSpace
         → DecodesToUtf32 E.BIG raw.now to.new result.read result.written }
@@ -57,7 +58,7 @@ pub fn to_utf32_lossy<E: Utf16Order>(raw: &[u8], to: &mut [u32]) -> Progress
 // each unpaired surrogate. An incomplete character at the end is not read.
 fn write_decided<E: Utf16Order>(raw: &[u8], to: &mut [u32]) -> Progress
     ensures decodes { DecodesToUtf32 E.BIG raw.now to.new result.read result.written }
-    ensures stop { StopsLossyToUtf32 E.BIG (drop result.read raw.now)
+    ensures stop { StopsPartial (utf16_split E.BIG) utf32_units (drop result.read raw.now)
         (length to.new - result.written) result.stop }
 {
     let mut read = 0;

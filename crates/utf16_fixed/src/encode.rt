@@ -5,10 +5,10 @@
 
 ghost use Rattle.std.specs.Prelude.{◌≡◌, ◌≢◌, ◌-◌, ◌*◌, ◌<◌, ◌≤◌, IfErr, IfOk, length};
 ghost use Rattle.utf16_units.specs.Encoding.{char_bytes};
-ghost use Rattle.utf16_transcode.specs.Stops.{StopsHere};
+ghost use Rattle.utf16_transcode.specs.Stops.{StopsHere, Stops};
 ghost use Rattle.utf16_transcode.specs.Transcoded.{WritesAt, Writes};
 ghost use Rattle.utf16_transcode.specs.declared.progress.Stop.TheVariants.{NoSpace};
-ghost use Rattle.utf16_fixed.specs.Stops32.{IsIllFormedUtf32At, StopsFromUtf32};
+ghost use Rattle.utf16_fixed.specs.Stops32.{IsIllFormedUtf32At, IsIllFormedUtf32};
 ghost use Rattle.utf16_fixed.specs.Utf32.{TranscodesFromUtf32, utf32_units};
 
 use crate::basic::write_basic;
@@ -29,7 +29,7 @@ use utf16_units::{Moved, Utf16CharExt, Utf16Order};
 /// Linear time in the number of code units read.
 pub fn from_utf32<E: Utf16Order>(utf32: &[u32], to: &mut [u8]) -> Progress
     ensures wrote { Writes (TranscodesFromUtf32 E.BIG) utf32.now to.new result.read result.written }
-    ensures stop { StopsFromUtf32 E.BIG utf32.now result.read (length to.new - result.written)
+    ensures stop { Stops utf32_units (char_bytes E.BIG) IsIllFormedUtf32 utf32.now result.read (length to.new - result.written)
         result.stop }
     ensures succeeds { 4 * length utf32.now ≤ length to.new → result.stop ≢ NoSpace }
 {

@@ -3,7 +3,7 @@
 
 ghost use Rattle.std.specs.Prelude.{◌≡◌, ◌-◌, ◌*◌, ◌≤◌, count_by, drop, length};
 ghost use Rattle.utf16_units.specs.Encoding.{char_bytes, size};
-ghost use Rattle.utf16_transcode.specs.Stops.{StopsLossyWhole};
+ghost use Rattle.utf16_transcode.specs.Stops.{StopsLossy};
 ghost use Rattle.utf16_transcode.specs.Transcoded.{Writes};
 ghost use Rattle.utf16_transcode.specs.declared.progress.Stop.TheVariants.{Done};
 ghost use Rattle.utf16_fixed.specs.Utf32.{ShowsInUtf16, above, lossy_utf32};
@@ -26,7 +26,7 @@ use utf16_units::Utf16Order;
 /// Linear time in the number of code units read.
 pub fn from_utf32_lossy<E: Utf16Order>(utf32: &[u32], to: &mut [u8]) -> Progress
     ensures wrote { Writes (ShowsInUtf16 E.BIG) utf32.now to.new result.read result.written }
-    ensures stop { StopsLossyWhole lossy_utf32 (char_bytes E.BIG) (drop result.read utf32.now)
+    ensures stop { StopsLossy lossy_utf32 (char_bytes E.BIG) (drop result.read utf32.now)
         (length to.new - result.written) result.stop }
     ensures succeeds { 4 * length utf32.now ≤ length to.new → result.stop ≡ Done }
 {

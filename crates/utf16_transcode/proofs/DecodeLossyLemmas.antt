@@ -22,7 +22,7 @@ use Rattle.utf16_units.proofs.SplitIllFormed.{lone_item, split_items-fault, spli
 use Rattle.utf16_units.proofs.SplitJoin.{split_items-text, split_tail-text}
 use Rattle.utf16_transcode.specs.Decodes.{Decodes, utf16_split}
 use Rattle.utf16_transcode.specs.Transcoded.{DecodesTo, TranscodesToUtf8}
-use Rattle.utf16_transcode.specs.Stops.{IsIllFormedUtf16, StopsDecoding, StopsLossy, TextDoesNotFit}
+use Rattle.utf16_transcode.specs.Stops.{IsIllFormedUtf16, TextDoesNotFit, Stops, StopsPartial}
 use Rattle.utf16_transcode.specs.declared.progress.Stop.{Stop}
 use Rattle.utf16_transcode.specs.declared.progress.Stop.TheVariants.{Incomplete, Done, IllFormed, NoSpace}
 use Rattle.utf16_transcode.proofs.DecodesLemmas.{cut_off_decides, cut_off_leaves, split_tail-again}
@@ -52,8 +52,8 @@ pub DecodesTo-front : (big : Bool) (raw to : List ℕ) (n w : ℕ) → n ≤ len
 DecodesTo-front big raw to n w within fits is = record { within = within; fits = fits; decodes = Decodes-text big raw n [] (take w to) is }
 
 -- why a call stopped, if not at an ill-formed sequence
-pub stops_lossy : (big : Bool) (raw : List ℕ) (n left : ℕ) (stop : Stop) → ((len : ℕ) → ¬ (stop ≡ IllFormed len)) → StopsDecoding big raw n left stop
-    → StopsLossy big (drop n raw) left stop
+pub stops_lossy : (big : Bool) (raw : List ℕ) (n left : ℕ) (stop : Stop) → ((len : ℕ) → ¬ (stop ≡ IllFormed len)) → Stops (char_bytes big) encode_utf8 (IsIllFormedUtf16 big) raw n left stop
+    → StopsPartial (utf16_split big) encode_utf8 (drop n raw) left stop
 stops_lossy big raw n left Done no_fault here = drop_all n raw (omega arith)
 stops_lossy big raw n left (IllFormed len) no_fault here = absurd (no_fault len refl)
 stops_lossy big raw n left Incomplete no_fault here = (

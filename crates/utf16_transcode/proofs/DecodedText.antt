@@ -11,7 +11,7 @@ use Rattle.utf8_bytes.specs.Split.{AreItems, IsItem, IsSubpart, Item, good, ill,
 use Rattle.utf8_bytes.proofs.PartLemmas.{subpart_len}
 use Rattle.utf8_bytes.proofs.SplitLemmas.{Split-computed}
 use Rattle.utf16_transcode.specs.WholeText.{WritesWhole}
-use Rattle.utf16_transcode.specs.Stops.{StopsLossyWhole}
+use Rattle.utf16_transcode.specs.Stops.{StopsLossy}
 use Rattle.utf16_transcode.specs.declared.progress.Stop.{Stop}
 use Rattle.utf16_transcode.specs.declared.progress.Stop.TheVariants.{Incomplete, Done, IllFormed, NoSpace}
 use Rattle.utf16_transcode.specs.FromUtf8.{text_of_utf8}
@@ -68,7 +68,7 @@ between big utf8 to read written d =
 
 -- the same for a lossy call, which stopped at the end or for lack of space
 pub between-lossy : (big : Bool) (utf8 to : List ℕ) (read written left : ℕ) (stop : Stop) → WritesWhole text_of_utf8 (char_bytes big) utf8 to read written
-    → StopsLossyWhole text_of_utf8 (char_bytes big) (drop read utf8) left stop → (stop ≡ NoSpace → DecodesUtf8To big utf8 to read written)
+    → StopsLossy text_of_utf8 (char_bytes big) (drop read utf8) left stop → (stop ≡ NoSpace → DecodesUtf8To big utf8 to read written)
     → take written to ≡ flat_map (char_bytes big) (text_of_utf8 (take read utf8))
 between-lossy big utf8 to read written left Done shows here full =
     sym (append-nil (take written to))

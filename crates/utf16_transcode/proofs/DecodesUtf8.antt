@@ -16,13 +16,13 @@ use Rattle.utf8_bytes.proofs.SplitUnique.{Split-unique}
 use Rattle.utf8_bytes.proofs.TextLemmas.{lossy_chars-good, split_items-text, split_tail-text}
 use Rattle.utf8_bytes.proofs.ValidLemmas.{none_at}
 use Rattle.utf16_transcode.specs.Decodes.{DecodesAs}
-use Rattle.utf16_transcode.specs.Stops.{TextDoesNotFit}
+use Rattle.utf16_transcode.specs.Stops.{TextDoesNotFit, Stops, StopsPartial}
 use Rattle.utf16_transcode.specs.Transcoded.{Writes}
 use Rattle.utf16_transcode.specs.declared.progress.Stop.{Stop}
 use Rattle.utf16_transcode.specs.declared.progress.Stop.TheVariants.{Incomplete, Done, IllFormed, NoSpace}
 use Rattle.utf16_transcode.proofs.DecodesSteps.{Decodes-none, Decodes-then}
-use Rattle.utf16_transcode.specs.FromUtf8.{StopsEncoding, TranscodesToUtf16}
-use Rattle.utf16_transcode.specs.Utf8Stream.{DecodesUtf8To, FirstItem, StopsLossyUtf8, utf8_split}
+use Rattle.utf16_transcode.specs.FromUtf8.{TranscodesToUtf16, IsIllFormedUtf8}
+use Rattle.utf16_transcode.specs.Utf8Stream.{DecodesUtf8To, FirstItem, utf8_split}
 use Rattle.utf16_transcode.proofs.FromUtf8Lemmas.{chars-char}
 
 -- a text in UTF-16, character by character
@@ -76,8 +76,8 @@ DecodesUtf8To-text big utf8 to n w wrote =
     }
 
 -- why the call that writes a text stopped, if not at an ill-formed sequence
-pub stops_text : (big : Bool) (utf8 : List ℕ) (n left : ℕ) (stop : Stop) → ((len : ℕ) → ¬ (stop ≡ IllFormed len)) → StopsEncoding big utf8 n left stop
-    → StopsLossyUtf8 big (drop n utf8) left stop
+pub stops_text : (big : Bool) (utf8 : List ℕ) (n left : ℕ) (stop : Stop) → ((len : ℕ) → ¬ (stop ≡ IllFormed len)) → Stops encode_utf8 (char_bytes big) IsIllFormedUtf8 utf8 n left stop
+    → StopsPartial utf8_split (char_bytes big) (drop n utf8) left stop
 stops_text big utf8 n left Done no_fault here = drop_all n utf8 (omega arith)
 stops_text big utf8 n left (IllFormed len) no_fault here = absurd (no_fault len refl)
 stops_text big utf8 n left Incomplete no_fault here = (

@@ -15,8 +15,9 @@ use Rattle.utf8_bytes.proofs.TableLemmas.{tail_nil}
 use Rattle.utf16_transcode.specs.StreamSplit.{IsSplitInChunks}
 use Rattle.utf16_transcode.specs.declared.progress.Stop.{Stop}
 use Rattle.utf16_transcode.specs.declared.progress.Stop.TheVariants.{Incomplete, Done, IllFormed, NoSpace}
-use Rattle.utf16_transcode.specs.Utf8Stream.{FeedsUtf8, StopsFeedingUtf8, utf8_split}
+use Rattle.utf16_transcode.specs.Utf8Stream.{FeedsUtf8, utf8_split}
 use Rattle.utf16_transcode.proofs.DecodesUtf8.{flat_encode, length-split_tail, taken_bytes, undecided_items}
+use Rattle.utf16_transcode.specs.Stream.{StopsFeeding}
 
 -- a stream of UTF-8 may come in chunks
 no_tail : split_tail [] ≡ []
@@ -76,7 +77,7 @@ enough_after_any pending piece room fits = omega (arith, (shown_within (pending 
 -- whatever the reason that a call stopped, what it leaves pending of a tail is a tail: all of the
 -- tail is in the first item
 pub leaves_tail : (big : Bool) (pending piece left to : List ℕ) (read written room : ℕ) (stop : Stop) → IsTail pending → FeedsUtf8 big pending piece left to read written
-    → StopsFeedingUtf8 big pending piece left read room stop → IsTail left
+    → StopsFeeding utf8_split (char_bytes big) pending piece left read room stop → IsTail left
 leaves_tail big pending piece left to read written room Done tail feeds here = pending_is_tail left (pending ++ piece) here.1
 leaves_tail big pending piece left to read written room (IllFormed len) tail feeds here = absurd here
 leaves_tail big pending piece left to read written room Incomplete tail feeds here = absurd here

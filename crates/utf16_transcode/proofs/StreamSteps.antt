@@ -10,8 +10,8 @@ use Rattle.utf16_transcode.specs.Decodes.{DecodesAs}
 use Rattle.utf16_transcode.specs.StreamSplit.{StreamSplit, IsSplitInChunks, decided}
 use Rattle.utf16_transcode.proofs.DecodesSteps.{Decodes-end, Decodes-more, Decodes-none, Decodes-then, tail_again, written_for, written_for-append}
 use Rattle.utf16_transcode.specs.Transcoded.{DecodesAsTo}
-use Rattle.utf16_transcode.specs.Stops.{StopsLossyAs, TextDoesNotFit}
-use Rattle.utf16_transcode.specs.Stream.{FeedsAs, StopsFeedingAs}
+use Rattle.utf16_transcode.specs.Stops.{StopsPartial, TextDoesNotFit}
+use Rattle.utf16_transcode.specs.Stream.{FeedsAs, StopsFeeding}
 use Rattle.utf16_transcode.specs.declared.progress.Stop.{Stop}
 use Rattle.utf16_transcode.specs.declared.progress.Stop.TheVariants.{Incomplete, Done, IllFormed, NoSpace}
 use Rattle.utf16_transcode.proofs.TranscodedLemmas.{put_end-long, take-end}
@@ -84,11 +84,11 @@ module _ (parts : StreamSplit) (into : ℕ → List ℕ) (split : IsSplitInChunk
   left_over = let all = new_long in omega (arith, long)
 
   -- why it stopped there, if it stopped for lack of space or no bytes follow
-  pub stops_window : (stop : Stop) → (stop ≡ NoSpace) ⊎ (next ≡ []) → StopsLossyAs parts into (drop n window) (length part - w) stop
-      → StopsLossyAs parts into (drop (read + n) input) (length new - (at + w)) stop
+  pub stops_window : (stop : Stop) → (stop ≡ NoSpace) ⊎ (next ≡ []) → StopsPartial parts into (drop n window) (length part - w) stop
+      → StopsPartial parts into (drop (read + n) input) (length new - (at + w)) stop
   stops_window stop (inr none) here =
-      subst (λ r. StopsLossyAs parts into r (length new - (at + w)) stop) (sym (append-nil (drop n window)) ∙ ap (λ b. drop n window ++ b) (sym none) ∙ left)
-      (subst (λ k. StopsLossyAs parts into (drop n window) k stop) left_over here)
+      subst (λ r. StopsPartial parts into r (length new - (at + w)) stop) (sym (append-nil (drop n window)) ∙ ap (λ b. drop n window ++ b) (sym none) ∙ left)
+      (subst (λ k. StopsPartial parts into (drop n window) k stop) left_over here)
   stops_window NoSpace (inl full) here = record {
     char = here.char;
     more = here.more ++ decided parts (parts.tail (drop n window) ++ next);
@@ -117,8 +117,8 @@ module _ (parts : StreamSplit) (into : ℕ → List ℕ) (split : IsSplitInChunk
       subst (λ k. DecodesAsTo parts into input (put_mid at (length old - at) old part) read k) (omega (arith, nothing))
       (subst (λ k. DecodesAsTo parts into input (put_mid at (length old - at) old part) k (at + w)) (omega (arith, none)) DecodesTo-rest)
 
-  pub stops_rest : (stop : Stop) → StopsLossyAs parts into (drop n (rest_from input read)) (length part - w) stop
-      → StopsLossyAs parts into (drop (read + n) input) (length (put_mid at (length old - at) old part) - (at + w)) stop
+  pub stops_rest : (stop : Stop) → StopsPartial parts into (drop n (rest_from input read)) (length part - w) stop
+      → StopsPartial parts into (drop (read + n) input) (length (put_mid at (length old - at) old part) - (at + w)) stop
   stops_rest stop = stops_window parts into split input old part (rest_from input read) [] read at n w before joined front long stop (inr refl)
 
 -- the four bytes at the chunk boundary
@@ -139,7 +139,7 @@ module _ (pending piece window : List ℕ) (read : ℕ) (within : read ≤ lengt
 
   -- if none of them is decoded, they are the last ones, or there is no space
   pub start_stops : (parts : StreamSplit) (into : ℕ → List ℕ) → IsSplitInChunks parts → (n room : ℕ) (stop : Stop) → n ≡ 0
-      → StopsLossyAs parts into (drop n window) room stop → (stop ≡ NoSpace) ⊎ (after_seam ≡ [])
+      → StopsPartial parts into (drop n window) room stop → (stop ≡ NoSpace) ⊎ (after_seam ≡ [])
   start_stops parts into split n room Done zero here = inr (few_after (omega (arith, zero, ap length here, length-drop n window)))
   start_stops parts into split n room (IllFormed len) zero here = absurd here
   start_stops parts into split n room Incomplete zero here =
@@ -156,7 +156,7 @@ piece_joined pending piece read past =
 
 -- if a call did not stop for lack of space, the rest is pending
 pub rest_undecided : (parts : StreamSplit) (into : ℕ → List ℕ) → IsSplitInChunks parts → (rest : List ℕ) (room : ℕ) (stop : Stop) → ¬ (stop ≡ NoSpace)
-    → StopsLossyAs parts into rest room stop → parts.tail rest ≡ rest
+    → StopsPartial parts into rest room stop → parts.tail rest ≡ rest
 rest_undecided parts into split rest room Done some here = ap parts.tail here ∙ split.nothing ∙ sym here
 rest_undecided parts into split rest room (IllFormed len) some here = absurd here
 rest_undecided parts into split rest room Incomplete some here = here.1
@@ -205,7 +205,7 @@ module _ (parts : StreamSplit) (into : ℕ → List ℕ) (split : IsSplitInChunk
             decodes = subst (λ r. DecodesAs parts into all r [] (take written to)) (sym rest_is) front.decodes;
           }
 
-      pub stops_full : StopsFeedingAs parts into pending piece left read (length to - written) NoSpace
+      pub stops_full : StopsFeeding parts into pending piece left read (length to - written) NoSpace
       stops_full = (
         ⊎_elim
             (λ (before : at < length pending). inl (omega (arith, read_is, before)))
@@ -247,7 +247,7 @@ module _ (parts : StreamSplit) (into : ℕ → List ℕ) (split : IsSplitInChunk
 
 -- if all of a chunk was taken, all that is certain was written
 pub fed_text : (parts : StreamSplit) (into : ℕ → List ℕ) (split : IsSplitInChunks parts) (pending piece left to : List ℕ) (read written room : ℕ)
-    → FeedsAs parts into pending piece left to read written → StopsFeedingAs parts into pending piece left read room Done
+    → FeedsAs parts into pending piece left to read written → StopsFeeding parts into pending piece left read room Done
     → take written to ≡ flat_map into (decided parts (pending ++ piece))
 fed_text parts into split pending piece left to read written room feeds done =
     let undecided = ap parts.tail done.1 ∙ tail_again parts into split (pending ++ piece) ∙ sym done.1 in

@@ -6,7 +6,7 @@ use Rattle.std.specs.List.{flat_map}
 use Rattle.utf16_transcode.specs.Decodes.{DecodesAs}
 use Rattle.utf16_transcode.specs.StreamSplit.{StreamSplit, IsSplitInChunks, decided}
 use Rattle.utf16_transcode.specs.WholeText.{WritesWhole}
-use Rattle.utf16_transcode.specs.Stops.{StopsLossyAs, StopsLossyWhole, TextDoesNotFit}
+use Rattle.utf16_transcode.specs.Stops.{StopsPartial, StopsLossy, TextDoesNotFit}
 use Rattle.utf16_transcode.specs.Transcoded.{DecodesAsTo}
 use Rattle.utf16_transcode.specs.declared.progress.Stop.{Stop}
 use Rattle.utf16_transcode.specs.declared.progress.Stop.TheVariants.{Incomplete, Done, IllFormed, NoSpace}
@@ -48,8 +48,8 @@ module _ (parts : StreamSplit) (into : ℕ → List ℕ) (split : IsSplitInChunk
     }
 
   -- why it stopped, if not before a tail
-  pub stops_whole : (bytes : List ℕ) (left : ℕ) (stop : Stop) → ¬ (stop ≡ Incomplete) → StopsLossyAs parts into bytes left stop
-      → StopsLossyWhole parts.whole into bytes left stop
+  pub stops_whole : (bytes : List ℕ) (left : ℕ) (stop : Stop) → ¬ (stop ≡ Incomplete) → StopsPartial parts into bytes left stop
+      → StopsLossy parts.whole into bytes left stop
   stops_whole bytes left Done other here = here
   stops_whole bytes left (IllFormed len) other here = here
   stops_whole bytes left Incomplete other here = absurd (other refl)

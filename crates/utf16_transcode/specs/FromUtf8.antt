@@ -1,11 +1,8 @@
 -- UTF-8 to UTF-16: what is written for any bytes, and why a call stopped.
 use Rattle.std.specs.Prelude.{◌≡◌, ℕ, Bool, List, Option, drop}
-use Rattle.std.specs.Char.{encode_utf8}
 use Rattle.std.specs.Str.{IsUtf8, IsValidUpTo, StartsWithNoChar, chars}
 use Rattle.std.specs.Str.Lossy.{utf8_error_len, utf8_lossy}
-use Rattle.utf16_units.specs.Encoding.{char_bytes, encode}
-use Rattle.utf16_transcode.specs.Stops.{Stops}
-use Rattle.utf16_transcode.specs.declared.progress.Stop.{Stop}
+use Rattle.utf16_units.specs.Encoding.{encode}
 
 -- bytes of UTF-8 and the UTF-16 of the same text
 abbrev pub TranscodesToUtf16 : Bool → List ℕ → List ℕ → Type 0
@@ -23,7 +20,3 @@ IsIllFormedUtf8At rest error_len = StartsWithNoChar rest × (error_len ≡ utf8_
 -- the longest valid prefix of bytes that are not UTF-8, and Rust's `error_len` for what follows it
 abbrev pub IsIllFormedUtf8 : List ℕ → ℕ → Option ℕ → Type 0
 IsIllFormedUtf8 bytes valid_up_to error_len = IsValidUpTo bytes valid_up_to × (error_len ≡ utf8_error_len (drop valid_up_to bytes))
-
--- why a call stopped, for UTF-8
-abbrev pub StopsEncoding : Bool → List ℕ → ℕ → ℕ → Stop → Type 0
-StopsEncoding big = Stops encode_utf8 (char_bytes big) IsIllFormedUtf8

@@ -1,9 +1,10 @@
--- Why a call stopped. `left` is the number of bytes of the buffer after the written ones.
+-- Why a call stopped: `Stops` for a strict call, `StopsLossy` for one that replaces what is
+-- ill-formed, `StopsPartial` for one that also leaves what more bytes could change, and
+-- `StopsFeeding` (in `Stream`) for a chunk of a stream. A character has the bytes `from` in the
+-- input and `into` in the buffer, of which `left` bytes come after the written ones.
 use Rattle.std.specs.Prelude.{◌≡◌, ◌≢◌, ℕ, ◌<◌, ◌≤◌, Bool, List, [], ◌∷◌, ◌++◌, Option, None, Some, length, take, drop}
-use Rattle.std.specs.Char.{IsScalar, encode_utf8}
-use Rattle.utf16_units.specs.Encoding.{char_bytes}
+use Rattle.std.specs.Char.{IsScalar}
 use Rattle.utf16_units.specs.IllFormed.{IsIllFormed, IsUtf16ValidUpTo}
-use Rattle.utf16_transcode.specs.Decodes.{utf16_split}
 use Rattle.utf16_transcode.specs.StreamSplit.{StreamSplit, decided}
 use Rattle.utf16_transcode.specs.declared.progress.Stop.{Stop}
 use Rattle.utf16_transcode.specs.declared.progress.Stop.TheVariants.{Incomplete, Done, IllFormed, NoSpace}
@@ -38,10 +39,6 @@ module _ (from into : ℕ → List ℕ) (IsIllFormedHere : List ℕ → Option �
 abbrev pub IsIllFormedUtf16 : Bool → List ℕ → ℕ → Option ℕ → Type 0
 IsIllFormedUtf16 big raw valid_up_to error_len = IsUtf16ValidUpTo big raw valid_up_to × IsIllFormed big raw error_len
 
--- the reasons for UTF-16
-abbrev pub StopsDecoding : Bool → List ℕ → ℕ → ℕ → Stop → Type 0
-StopsDecoding big = Stops (char_bytes big) encode_utf8 (IsIllFormedUtf16 big)
-
 -- the text begins with a character that does not fit
 pub record TextDoesNotFit (into : ℕ → List ℕ) (text : List ℕ) (left : ℕ) : Type 0 where
   pub char : ℕ
@@ -49,24 +46,19 @@ pub record TextDoesNotFit (into : ℕ → List ℕ) (text : List ℕ) (left : �
   pub begins : text ≡ char ∷ more
   pub too_long : left < length (into char)
 
--- for a lossy call: no bytes are left, or more bytes could change what is left, or the next
--- character does not fit
-abbrev pub StopsLossyAs : StreamSplit → (ℕ → List ℕ) → List ℕ → ℕ → Stop → Type 0
-StopsLossyAs parts into rest left Done = rest ≡ []
-StopsLossyAs parts into rest left (IllFormed len) = ⊥
-StopsLossyAs parts into rest left Incomplete = (rest ≢ []) × (parts.tail rest ≡ rest)
-StopsLossyAs parts into rest left NoSpace = TextDoesNotFit into (decided parts rest) left
+-- no bytes are left, or more bytes could change what is left, or the next character does not fit
+abbrev pub StopsPartial : StreamSplit → (ℕ → List ℕ) → List ℕ → ℕ → Stop → Type 0
+StopsPartial parts into rest left Done = rest ≡ []
+StopsPartial parts into rest left (IllFormed len) = ⊥
+StopsPartial parts into rest left Incomplete = (rest ≢ []) × (parts.tail rest ≡ rest)
+StopsPartial parts into rest left NoSpace = TextDoesNotFit into (decided parts rest) left
 
--- the reasons for UTF-16, lossy
-abbrev pub StopsLossy : Bool → List ℕ → ℕ → Stop → Type 0
-StopsLossy big = StopsLossyAs (utf16_split big) encode_utf8
-
--- the reasons for a call that writes the whole text, including the text of a tail
-abbrev pub StopsLossyWhole : (List ℕ → List ℕ) → (ℕ → List ℕ) → List ℕ → ℕ → Stop → Type 0
-StopsLossyWhole text into rest left Done = rest ≡ []
-StopsLossyWhole text into rest left (IllFormed len) = ⊥
-StopsLossyWhole text into rest left Incomplete = ⊥
-StopsLossyWhole text into rest left NoSpace = TextDoesNotFit into (text rest) left
+-- all was read, or the next character of the whole text does not fit
+abbrev pub StopsLossy : (List ℕ → List ℕ) → (ℕ → List ℕ) → List ℕ → ℕ → Stop → Type 0
+StopsLossy text into rest left Done = rest ≡ []
+StopsLossy text into rest left (IllFormed len) = ⊥
+StopsLossy text into rest left Incomplete = ⊥
+StopsLossy text into rest left NoSpace = TextDoesNotFit into (text rest) left
 
 -- the first n bytes are the bytes of a character
 pub record BeginsWith (from : ℕ → List ℕ) (bytes : List ℕ) (char n : ℕ) : Type 0 where

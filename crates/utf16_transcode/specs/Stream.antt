@@ -23,16 +23,13 @@ pub record FeedsAs (parts : StreamSplit) (into : ℕ → List ℕ) (pending piec
 -- why it stopped: all was taken and the tail of the split is pending; or the next character does
 -- not fit, and only the decoded bytes were taken, first the pending ones and then those of the
 -- chunk
-abbrev pub StopsFeedingAs : StreamSplit → (ℕ → List ℕ) → List ℕ → List ℕ → List ℕ → ℕ → ℕ → Stop → Type 0
-StopsFeedingAs parts into pending piece left read room Done = (read ≡ length piece) × (left ≡ parts.tail (pending ++ piece))
-StopsFeedingAs parts into pending piece left read room (IllFormed len) = ⊥
-StopsFeedingAs parts into pending piece left read room Incomplete = ⊥
-StopsFeedingAs parts into pending piece left read room NoSpace =
+abbrev pub StopsFeeding : StreamSplit → (ℕ → List ℕ) → List ℕ → List ℕ → List ℕ → ℕ → ℕ → Stop → Type 0
+StopsFeeding parts into pending piece left read room Done = (read ≡ length piece) × (left ≡ parts.tail (pending ++ piece))
+StopsFeeding parts into pending piece left read room (IllFormed len) = ⊥
+StopsFeeding parts into pending piece left read room Incomplete = ⊥
+StopsFeeding parts into pending piece left read room NoSpace =
     ((read ≡ 0) ⊎ (left ≡ [])) × TextDoesNotFit into (decided parts (left ++ drop read piece)) room
 
 -- a step for UTF-16
 abbrev pub Feeds : Bool → List ℕ → List ℕ → List ℕ → List ℕ → ℕ → ℕ → Type 0
 Feeds big = FeedsAs (utf16_split big) encode_utf8
-
-abbrev pub StopsFeeding : Bool → List ℕ → List ℕ → List ℕ → ℕ → ℕ → Stop → Type 0
-StopsFeeding big = StopsFeedingAs (utf16_split big) encode_utf8

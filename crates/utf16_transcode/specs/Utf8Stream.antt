@@ -4,10 +4,8 @@ use Rattle.std.specs.Prelude.{◌≡◌, ℕ, ◌<◌, ◌≤◌, Bool, List, []
 use Rattle.utf16_units.specs.Encoding.{char_bytes}
 use Rattle.utf8_bytes.specs.Split.{Item, lossy_char, split_items, split_tail, whole_lossy_chars}
 use Rattle.utf16_transcode.specs.StreamSplit.{StreamSplit}
-use Rattle.utf16_transcode.specs.Stops.{StopsLossyAs}
-use Rattle.utf16_transcode.specs.Stream.{FeedsAs, StopsFeedingAs}
+use Rattle.utf16_transcode.specs.Stream.{FeedsAs}
 use Rattle.utf16_transcode.specs.Transcoded.{DecodesAsTo}
-use Rattle.utf16_transcode.specs.declared.progress.Stop.{Stop}
 use Rattle.utf16_transcode.specs.FromUtf8.{text_of_utf8}
 
 -- UTF-8 as characters and ill-formed subparts, with U+FFFD for each of these and for a tail
@@ -35,16 +33,7 @@ pub record FirstItem (bytes : List ℕ) (char n : ℕ) : Type 0 where
   pub items : split_items bytes ≡ item ∷ split_items (drop n bytes)
   pub tail : split_tail bytes ≡ split_tail (drop n bytes)
 
--- for a lossy call: nothing is left, or more bytes could change what is left, or the next character
--- does not fit
-abbrev pub StopsLossyUtf8 : Bool → List ℕ → ℕ → Stop → Type 0
-StopsLossyUtf8 big = StopsLossyAs utf8_split (char_bytes big)
-
 -- the first bytes of a chunk were taken, and the text of what is decoded is at the start of the
 -- buffer in UTF-16
 abbrev pub FeedsUtf8 : Bool → List ℕ → List ℕ → List ℕ → List ℕ → ℕ → ℕ → Type 0
 FeedsUtf8 big = FeedsAs utf8_split (char_bytes big)
-
--- why the call stopped
-abbrev pub StopsFeedingUtf8 : Bool → List ℕ → List ℕ → List ℕ → ℕ → ℕ → Stop → Type 0
-StopsFeedingUtf8 big = StopsFeedingAs utf8_split (char_bytes big)

@@ -11,7 +11,7 @@ ghost use Rattle.utf16_units.specs.Encoding.{char_bytes, IsUtf16, units_of, utf8
 ghost use Rattle.utf16_units.specs.IllFormed.{IsIllFormedAt};
 ghost use Rattle.utf16_units.specs.Unit.{unit_of};
 ghost use Rattle.utf16_transcode.specs.Transcoded.{WritesAt, TranscodesToUtf8, Writes};
-ghost use Rattle.utf16_transcode.specs.Stops.{BeginsWith, IsIllFormedUtf16, StopsDecoding};
+ghost use Rattle.utf16_transcode.specs.Stops.{BeginsWith, IsIllFormedUtf16, Stops};
 
 use crate::direction::Direction;
 use crate::progress::Progress;
@@ -32,7 +32,7 @@ use utf16_units::{Moved, Utf16Order, first_char_len, utf16_len, validate_raw_utf
 #[inline(always)]
 pub fn to_utf8<E: Utf16Order>(raw: &[u8], to: &mut [u8]) -> Progress
     ensures wrote { Writes (TranscodesToUtf8 E.BIG) raw.now to.new result.read result.written }
-    ensures stop { StopsDecoding E.BIG raw.now result.read (length to.new - result.written)
+    ensures stop { Stops (char_bytes E.BIG) encode_utf8 (IsIllFormedUtf16 E.BIG) raw.now result.read (length to.new - result.written)
         result.stop }
 {
     transcode::<ToUtf8<E>>(raw, to)

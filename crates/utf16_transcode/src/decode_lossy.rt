@@ -10,7 +10,7 @@ ghost use Rattle.utf16_units.specs.Split.{lossy_text, split_items};
 ghost use Rattle.std.specs.Char.{encode_utf8};
 ghost use Rattle.utf16_transcode.specs.Decodes.{utf16_split};
 ghost use Rattle.utf16_transcode.specs.WholeText.{WritesWhole};
-ghost use Rattle.utf16_transcode.specs.Stops.{StopsLossy, StopsLossyWhole};
+ghost use Rattle.utf16_transcode.specs.Stops.{StopsLossy, StopsPartial};
 ghost use Rattle.utf16_transcode.specs.Transcoded.{DecodesTo};
 ghost use Rattle.utf16_transcode.specs.declared.progress.Stop.TheVariants.{NoSpace};
 
@@ -37,7 +37,7 @@ const ASCII_LEN: usize = 128;
 /// Linear time in the number of bytes read.
 pub fn to_utf8_partial<E: Utf16Order>(raw: &[u8], to: &mut [u8]) -> Progress
     ensures decodes { DecodesTo E.BIG raw.now to.new result.read result.written }
-    ensures stop { StopsLossy E.BIG (drop result.read raw.now) (length to.new - result.written)
+    ensures stop { StopsPartial (utf16_split E.BIG) encode_utf8 (drop result.read raw.now) (length to.new - result.written)
         result.stop }
 {
     transcode_partial::<ToUtf8<E>>(raw, to)
@@ -53,7 +53,7 @@ pub fn to_utf8_partial<E: Utf16Order>(raw: &[u8], to: &mut [u8]) -> Progress
 pub fn to_utf8_lossy<E: Utf16Order>(raw: &[u8], to: &mut [u8]) -> Progress
     ensures shown { WritesWhole (lossy_text E.BIG) encode_utf8 raw.now to.new result.read
         result.written }
-    ensures stop { StopsLossyWhole (lossy_text E.BIG) encode_utf8 (drop result.read raw.now)
+    ensures stop { StopsLossy (lossy_text E.BIG) encode_utf8 (drop result.read raw.now)
         (length to.new - result.written) result.stop }
     ensures between { result.stop ≡ NoSpace
         → DecodesTo E.BIG raw.now to.new result.read result.written }

@@ -12,9 +12,9 @@ ghost use Rattle.std.specs.Str.{IsUtf8, chars};
 ghost use Rattle.std.specs.Str.Lossy.{second_byte_max, second_byte_min};
 ghost use Rattle.utf16_units.specs.Boundary.{IsBoundary};
 ghost use Rattle.utf16_units.specs.Encoding.{IsUtf16, char_bytes, char_size, encode, text_of};
-ghost use Rattle.utf16_transcode.specs.FromUtf8.{TranscodesToUtf16, IsIllFormedUtf8, IsIllFormedUtf8At, StopsEncoding};
+ghost use Rattle.utf16_transcode.specs.FromUtf8.{TranscodesToUtf16, IsIllFormedUtf8, IsIllFormedUtf8At};
 ghost use Rattle.utf16_transcode.specs.Transcoded.{Writes};
-ghost use Rattle.utf16_transcode.specs.Stops.{BeginsWith};
+ghost use Rattle.utf16_transcode.specs.Stops.{BeginsWith, Stops};
 
 use crate::chars::{char_of_four, char_of_three, char_of_two};
 use crate::direction::{BLOCK_LEN, Direction};
@@ -40,7 +40,7 @@ const SHORT_LEN: usize = 32;
 #[inline(always)]
 pub fn from_utf8<E: Utf16Order>(text: &[u8], to: &mut [u8]) -> Progress
     ensures wrote { Writes (TranscodesToUtf16 E.BIG) text.now to.new result.read result.written }
-    ensures stop { StopsEncoding E.BIG text.now result.read (length to.new - result.written)
+    ensures stop { Stops encode_utf8 (char_bytes E.BIG) IsIllFormedUtf8 text.now result.read (length to.new - result.written)
         result.stop }
 {
     transcode::<FromUtf8<E>>(text, to)

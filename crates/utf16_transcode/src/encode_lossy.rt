@@ -4,9 +4,9 @@ ghost use Rattle.std.specs.Prelude.{◌≡◌, ◌-◌, ◌*◌, ◌<◌, ◌≤
 ghost use Rattle.std.specs.List.{flat_map};
 ghost use Rattle.utf16_units.specs.Encoding.{char_bytes, size};
 ghost use Rattle.utf16_transcode.specs.FromUtf8.{text_of_utf8};
-ghost use Rattle.utf16_transcode.specs.Utf8Stream.{DecodesUtf8To, FirstItem, StopsLossyUtf8, utf8_split};
+ghost use Rattle.utf16_transcode.specs.Utf8Stream.{DecodesUtf8To, FirstItem, utf8_split};
 ghost use Rattle.utf16_transcode.specs.WholeText.{WritesWhole};
-ghost use Rattle.utf16_transcode.specs.Stops.{StopsLossyWhole};
+ghost use Rattle.utf16_transcode.specs.Stops.{StopsLossy, StopsPartial};
 
 use crate::direction::BLOCK_LEN;
 use crate::encode::FromUtf8;
@@ -33,7 +33,7 @@ const REPLACEMENT_LEN: usize = 2;
 /// Linear time in the number of bytes read.
 pub fn from_utf8_partial<E: Utf16Order>(text: &[u8], to: &mut [u8]) -> Progress
     ensures decodes { DecodesUtf8To E.BIG text.now to.new result.read result.written }
-    ensures stop { StopsLossyUtf8 E.BIG (drop result.read text.now)
+    ensures stop { StopsPartial utf8_split (char_bytes E.BIG) (drop result.read text.now)
         (length to.new - result.written) result.stop }
 {
     transcode_partial::<FromUtf8<E>>(text, to)
@@ -96,7 +96,7 @@ fn write_after_ill_formed<E: Utf16Order>(text: &[u8], to: &mut [u8]) -> Moved
 pub fn from_utf8_lossy<E: Utf16Order>(text: &[u8], to: &mut [u8]) -> Progress
     ensures shown { WritesWhole text_of_utf8 (char_bytes E.BIG) text.now to.new result.read
         result.written }
-    ensures stop { StopsLossyWhole text_of_utf8 (char_bytes E.BIG) (drop result.read text.now)
+    ensures stop { StopsLossy text_of_utf8 (char_bytes E.BIG) (drop result.read text.now)
         (length to.new - result.written) result.stop }
     ensures between { take result.written to.new
         ≡ flat_map (char_bytes E.BIG) (text_of_utf8 (take result.read text.now)) }

@@ -1,10 +1,10 @@
 //! A stream of UTF-8 that comes in chunks, cut anywhere.
 
 ghost use Rattle.std.specs.Prelude.{◌≡◌, ◌≢◌, ◌↔◌, ◌+◌, ◌-◌, ◌*◌, ◌<◌, ◌≤◌, [], ◌++◌, length, take, drop};
-ghost use Rattle.utf16_units.specs.Encoding.{encode, size};
+ghost use Rattle.utf16_units.specs.Encoding.{encode, size, char_bytes};
 ghost use Rattle.utf8_bytes.specs.Split.{IsTail, decided_text, whole_lossy_chars};
-ghost use Rattle.utf16_transcode.specs.Utf8Stream.{FeedsUtf8, StopsFeedingUtf8};
-ghost use Rattle.utf16_transcode.specs.Stream.{stream_pending};
+ghost use Rattle.utf16_transcode.specs.Utf8Stream.{FeedsUtf8, utf8_split};
+ghost use Rattle.utf16_transcode.specs.Stream.{stream_pending, StopsFeeding};
 ghost use Rattle.utf16_transcode.specs.declared.progress.Stop.TheVariants.{Done, NoSpace};
 
 use crate::encode::FromUtf8;
@@ -31,7 +31,7 @@ use utf16_units::Utf16Order;
 pub fn feed_utf8<E: Utf16Order>(stream: &mut Stream, piece: &[u8], to: &mut [u8]) -> Progress
     ensures feeds { FeedsUtf8 E.BIG (stream_pending stream.old) piece.now
         (stream_pending stream.new) to.new result.read result.written }
-    ensures stop { StopsFeedingUtf8 E.BIG (stream_pending stream.old) piece.now
+    ensures stop { StopsFeeding utf8_split (char_bytes E.BIG) (stream_pending stream.old) piece.now
         (stream_pending stream.new) result.read (length to.new - result.written)
         result.stop }
     ensures done { (result.stop ≡ Done)

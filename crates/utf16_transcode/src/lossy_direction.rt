@@ -4,7 +4,7 @@
 ghost use Rattle.std.specs.Prelude.{◌≡◌, ◌↔◌, ◌-◌, ◌<◌, ◌≤◌, ◌++◌, ℕ, List, IfSome, None, Some, drop, length, take};
 ghost use Rattle.std.specs.List.{flat_map};
 ghost use Rattle.utf16_transcode.specs.StreamSplit.{StreamSplit, IsSplitInChunks, decided};
-ghost use Rattle.utf16_transcode.specs.Stops.{Stops, StopsLossyAs, TextDoesNotFit};
+ghost use Rattle.utf16_transcode.specs.Stops.{Stops, StopsPartial, TextDoesNotFit};
 ghost use Rattle.utf16_transcode.specs.Transcoded.{DecodesAsTo, SameText, Writes};
 ghost use Rattle.utf16_transcode.specs.declared.progress.Stop.{Stop};
 ghost use Rattle.utf16_transcode.specs.declared.progress.Stop.TheVariants.{IllFormed};
@@ -70,5 +70,5 @@ pub trait LossyDirection {
         ensures stops { (input : List ℕ) (n left : ℕ) (stop : Stop)
             → ((len : ℕ) → ¬ (stop ≡ IllFormed len))
             → Stops Self.Text.from Self.Text.into Self.Text.IsIllFormed input n left stop
-            → StopsLossyAs split into (drop n input) left stop };
+            → StopsPartial split into (drop n input) left stop };
 }

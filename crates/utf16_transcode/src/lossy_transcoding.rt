@@ -2,7 +2,7 @@
 
 ghost use Rattle.std.specs.Prelude.{◌≡◌, ◌-◌, drop, length};
 ghost use Rattle.utf16_transcode.specs.WholeText.{WritesWhole};
-ghost use Rattle.utf16_transcode.specs.Stops.{StopsLossyAs, StopsLossyWhole};
+ghost use Rattle.utf16_transcode.specs.Stops.{StopsPartial, StopsLossy};
 ghost use Rattle.utf16_transcode.specs.Transcoded.{DecodesAsTo};
 ghost use Rattle.utf16_transcode.specs.declared.progress.Stop.TheVariants.{NoSpace};
 
@@ -16,7 +16,7 @@ use crate::transcoding::transcode;
 #[inline(always)]
 pub fn transcode_partial<D: LossyDirection>(input: &[u8], to: &mut [u8]) -> Progress
     ensures decodes { DecodesAsTo D.split D.into input.now to.new result.read result.written }
-    ensures stop { StopsLossyAs D.split D.into (drop result.read input.now)
+    ensures stop { StopsPartial D.split D.into (drop result.read input.now)
         (length to.new - result.written) result.stop }
 {
     D::Text::laws();
@@ -50,7 +50,7 @@ pub fn transcode_partial<D: LossyDirection>(input: &[u8], to: &mut [u8]) -> Prog
 /// each ill-formed sequence and a tail at the end.
 pub fn transcode_lossy<D: LossyDirection>(input: &[u8], to: &mut [u8]) -> Progress
     ensures shown { WritesWhole D.split.whole D.into input.now to.new result.read result.written }
-    ensures stop { StopsLossyWhole D.split.whole D.into (drop result.read input.now)
+    ensures stop { StopsLossy D.split.whole D.into (drop result.read input.now)
         (length to.new - result.written) result.stop }
     ensures between { result.stop ≡ NoSpace
         → DecodesAsTo D.split D.into input.now to.new result.read result.written }

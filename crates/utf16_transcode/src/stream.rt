@@ -3,8 +3,8 @@
 ghost use Rattle.std.specs.Prelude.{◌≡◌, ◌≢◌, ◌↔◌, ◌+◌, ◌-◌, ◌<◌, ◌≤◌, [], ◌∷◌, ◌++◌, length, take, drop};
 ghost use Rattle.std.specs.List.{flat_map};
 ghost use Rattle.utf16_transcode.specs.StreamSplit.{decided};
-ghost use Rattle.utf16_transcode.specs.Stops.{StopsLossyAs};
-ghost use Rattle.utf16_transcode.specs.Stream.{FeedsAs, StopsFeedingAs, stream_pending};
+ghost use Rattle.utf16_transcode.specs.Stops.{StopsPartial};
+ghost use Rattle.utf16_transcode.specs.Stream.{FeedsAs, StopsFeeding, stream_pending};
 ghost use Rattle.utf16_transcode.specs.Transcoded.{DecodesAsTo};
 ghost use Rattle.utf16_transcode.specs.declared.progress.Stop.TheVariants.{Done, NoSpace};
 
@@ -91,7 +91,7 @@ impl Stream {
     pub fn feed<D: LossyDirection>(&mut self, piece: &[u8], to: &mut [u8]) -> Progress
         ensures feeds { FeedsAs D.split D.into (stream_pending self.old) piece.now
             (stream_pending self.new) to.new result.read result.written }
-        ensures stop { StopsFeedingAs D.split D.into (stream_pending self.old) piece.now
+        ensures stop { StopsFeeding D.split D.into (stream_pending self.old) piece.now
             (stream_pending self.new) result.read (length to.new - result.written) result.stop }
         ensures done { (result.stop ≡ Done)
             ↔ (length (flat_map D.into (decided D.split (stream_pending self.old ++ piece.now)))
@@ -166,7 +166,7 @@ fn transcode_joined<D: LossyDirection>(pending: &[u8], piece: &[u8], to: &mut [u
     requires { length pending.now ≤ 3 }
     ensures decodes { DecodesAsTo D.split D.into (pending.now ++ piece.now) to.new result.read
         result.written }
-    ensures stop { StopsLossyAs D.split D.into (drop result.read (pending.now ++ piece.now))
+    ensures stop { StopsPartial D.split D.into (drop result.read (pending.now ++ piece.now))
         (length to.new - result.written) result.stop }
 {
     D::lossy_laws();

@@ -9,7 +9,8 @@ use Rattle.utf16_transcode.specs.WholeText.{WritesWhole}
 use Rattle.utf16_transcode.specs.declared.progress.Stop.{Stop}
 use Rattle.utf16_transcode.specs.declared.progress.Stop.TheVariants.{Incomplete, Done, IllFormed, NoSpace}
 use Rattle.utf16_transcode.proofs.WholeLemmas.{WritesWhole-decoded, stops_whole, whole_tail, whole_text}
-use Rattle.utf16_wtf8.specs.ToWtf8.{DecodesToWtf8, StopsBeforeTail, StopsToWtf8, points_of, tail_points, wtf8_split}
+use Rattle.utf16_transcode.specs.Stops.{StopsPartial}
+use Rattle.utf16_wtf8.specs.ToWtf8.{DecodesToWtf8, StopsToWtf8, points_of, tail_points, wtf8_split}
 use Rattle.utf16_wtf8.specs.Wtf8.{code_points, generalized_utf8}
 use Rattle.utf16_wtf8.proofs.PointLemmas.{points-nil, units-none}
 use Rattle.utf16_wtf8.proofs.ToWtf8Lemmas.{wtf8_chunks}
@@ -57,7 +58,7 @@ module _ (big : Bool) (raw to : List ℕ) (read written : ℕ) (decodes : Decode
     odd_left other = grind (arith, nil_from_length, take_rest, few, size, length-drop)
 
 -- why the call stopped, if not before a tail
-pub stops_certain : (big : Bool) (rest : List ℕ) (left : ℕ) (stop : Stop) → ¬ (stop ≡ Incomplete) → StopsBeforeTail big rest left stop → StopsToWtf8 big rest left stop
+pub stops_certain : (big : Bool) (rest : List ℕ) (left : ℕ) (stop : Stop) → ¬ (stop ≡ Incomplete) → StopsPartial (wtf8_split big) generalized_utf8 rest left stop → StopsToWtf8 big rest left stop
 stops_certain big bytes room Done other here = here
 stops_certain big bytes room (IllFormed len) other here = here
 stops_certain big bytes room Incomplete other here = absurd (other refl)

@@ -8,7 +8,7 @@ use Rattle.std.proofs.lemmas.List.{drop-drop, take_rest}
 use Rattle.std.proofs.lemmas.List.Concat.{flat_map-append}
 use Rattle.std.proofs.lemmas.List.Elements.{All-head, All-nil, All-weaker}
 use Rattle.std.proofs.lemmas.Str.{chars-encodes}
-use Rattle.std.specs.Char.{IsScalar}
+use Rattle.std.specs.Char.{IsScalar, encode_utf8}
 use Rattle.std.specs.Int.{is_in_range}
 use Rattle.std.specs.Char.Utf16.{is_high_surrogate}
 use Rattle.std.specs.Str.{IsUtf8, StartsWithNoChar, chars}
@@ -24,8 +24,9 @@ use Rattle.utf16_transcode.specs.Transcoded.{Writes}
 use Rattle.utf16_transcode.specs.declared.progress.Stop.{Stop}
 use Rattle.utf16_transcode.specs.declared.progress.Stop.TheVariants.{Incomplete, Done, IllFormed, NoSpace}
 use Rattle.utf16_transcode.proofs.TranscodedLemmas.{put_end-long, take-end}
-use Rattle.utf16_transcode.specs.FromUtf8.{IsIllFormedUtf8, StopsEncoding, TranscodesToUtf16}
+use Rattle.utf16_transcode.specs.FromUtf8.{IsIllFormedUtf8, TranscodesToUtf16}
 use Rattle.utf16_transcode.proofs.DecodesUtf8.{flat_encode}
+use Rattle.utf16_transcode.specs.Stops.{Stops}
 use Rattle.utf16_wtf8.specs.FromWtf8.{BeginsWithSurrogate, IsIllFormedAfter, IsIllFormedWtf8, NextPointDoesNotFit, NoPointContinues, ReadsWtf8, StopsAfter, StopsFromWtf8, surrogate_begins, wtf8_error_len}
 use Rattle.utf16_wtf8.specs.Wtf8.{IsCodePoint, SpellsWtf8, ends_leading, generalized_utf8}
 use Rattle.utf16_wtf8.proofs.CodeLemmas.{spelled-nil}
@@ -206,7 +207,7 @@ module _ (big : Bool) (wtf8 to : List ℕ) (start n written left : ℕ) (leading
         here.1 ∙ ap utf8_error_len there ∙ sym (error_len-utf8 (drop (start + n) wtf8) isnt),
       )
 
-  pub stops_text : (stop : Stop) → start ≤ length wtf8 → StopsEncoding big (rest_from wtf8 start) n left stop → StopsFromWtf8 big wtf8 (start + n) left stop
+  pub stops_text : (stop : Stop) → start ≤ length wtf8 → Stops encode_utf8 (char_bytes big) IsIllFormedUtf8 (rest_from wtf8 start) n left stop → StopsFromWtf8 big wtf8 (start + n) left stop
   stops_text Done within here =
       let size = ap length (take_rest wtf8 start) ∙ length-drop start wtf8 in
       omega arith
@@ -229,7 +230,7 @@ module _ (big : Bool) (wtf8 to : List ℕ) (start n written left : ℕ) (leading
 -- the same where a text was written to the end of a buffer
 pub stops_after_text : (big : Bool) (wtf8 old part : List ℕ) (read at n w : ℕ) (leading leads : Bool) → ReadsWtf8 big wtf8 old read at leading
     → ReadsWtf8 big wtf8 (put_mid at (length old - at) old part) (read + n) (at + w) leads → length part ≡ length old - at
-    → surrogate_begins (rest_from wtf8 (read + n)) ≡ false → (stop : Stop) → StopsEncoding big (rest_from wtf8 read) n (length part - w) stop
+    → surrogate_begins (rest_from wtf8 (read + n)) ≡ false → (stop : Stop) → Stops encode_utf8 (char_bytes big) IsIllFormedUtf8 (rest_from wtf8 read) n (length part - w) stop
     → StopsFromWtf8 big wtf8 (read + n) (length (put_mid at (length old - at) old part) - (at + w)) stop
 stops_after_text big wtf8 old part read at n w leading leads before after long isnt stop here =
     let new = put_mid at (length old - at) old part in

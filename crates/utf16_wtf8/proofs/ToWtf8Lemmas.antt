@@ -2,7 +2,7 @@
 use Rattle.std.proofs.Common.{◌≡◌, ℕ, ◌<◌, ◌≤◌, Bool, true, false, List, [], ◌∷◌, ◌++◌, Some, length, map, take, drop, refl, sym, ap, ◌∙◌, ⊎_elim, arith, append-nil, take-append-drop}
 use Rattle.std.proofs.lemmas.Bool.{cases_Bool}
 use Rattle.std.proofs.lemmas.List.Elements.{All-cons, All-nil}
-use Rattle.std.specs.Char.{IsScalar}
+use Rattle.std.specs.Char.{IsScalar, encode_utf8}
 use Rattle.std.specs.Char.Utf16.{is_high_surrogate}
 use Rattle.std.specs.List.{flat_map}
 use Rattle.utf16_units.specs.Encoding.{char_bytes, text_of}
@@ -14,7 +14,7 @@ use Rattle.utf16_units.proofs.RecipeLemmas.{two}
 use Rattle.utf16_units.proofs.SplitIllFormed.{lone_item, split_items-fault, split_tail-fault}
 use Rattle.utf16_units.proofs.SplitJoin.{split_items-text, split_tail-text}
 use Rattle.utf16_transcode.specs.StreamSplit.{IsSplitInChunks}
-use Rattle.utf16_transcode.specs.Stops.{IsIllFormedUtf16, StopsDecoding, TextDoesNotFit}
+use Rattle.utf16_transcode.specs.Stops.{IsIllFormedUtf16, TextDoesNotFit, Stops, StopsPartial}
 use Rattle.utf16_transcode.specs.Transcoded.{TranscodesToUtf8, Writes}
 use Rattle.utf16_transcode.specs.declared.progress.Stop.{Stop}
 use Rattle.utf16_transcode.specs.declared.progress.Stop.TheVariants.{Incomplete, Done, IllFormed, NoSpace}
@@ -22,7 +22,7 @@ use Rattle.utf16_transcode.proofs.DecodeLossyLemmas.{stops_lossy}
 use Rattle.utf16_transcode.proofs.DecodesSteps.{first_fits}
 use Rattle.utf16_transcode.proofs.ToUtf8Lemmas.{faults_there}
 use Rattle.utf16_transcode.proofs.ToUtf8Parts.{utf16_chunks}
-use Rattle.utf16_wtf8.specs.ToWtf8.{DecodesToWtf8, StopsBeforeTail, item_point, tail_points, wtf8_split}
+use Rattle.utf16_wtf8.specs.ToWtf8.{DecodesToWtf8, item_point, tail_points, wtf8_split}
 use Rattle.utf16_wtf8.specs.Wtf8.{generalized_utf8}
 use Rattle.utf16_wtf8.proofs.PointLemmas.{points_of-split}
 
@@ -75,8 +75,8 @@ DecodesToWtf8-text big raw to n w wrote =
     }
 
 -- why a call stopped, if not at an ill-formed sequence
-pub stops_before_tail : (big : Bool) (raw : List ℕ) (n left : ℕ) (stop : Stop) → ((len : ℕ) → ¬ (stop ≡ IllFormed len)) → StopsDecoding big raw n left stop
-    → StopsBeforeTail big (drop n raw) left stop
+pub stops_before_tail : (big : Bool) (raw : List ℕ) (n left : ℕ) (stop : Stop) → ((len : ℕ) → ¬ (stop ≡ IllFormed len)) → Stops (char_bytes big) encode_utf8 (IsIllFormedUtf16 big) raw n left stop
+    → StopsPartial (wtf8_split big) generalized_utf8 (drop n raw) left stop
 stops_before_tail big raw n left Done no_fault here = stops_lossy big raw n left Done no_fault here
 stops_before_tail big raw n left (IllFormed len) no_fault here = absurd (no_fault len refl)
 stops_before_tail big raw n left Incomplete no_fault here = stops_lossy big raw n left Incomplete no_fault here

@@ -4,7 +4,7 @@ use Rattle.utf16_units.specs.Encoding.{units_of}
 use Rattle.utf16_units.specs.Split.{Item, good, lone_lead, lone_trail, split_items, split_tail}
 use Rattle.utf16_units.specs.Unit.{unit_of}
 use Rattle.utf16_transcode.specs.StreamSplit.{StreamSplit}
-use Rattle.utf16_transcode.specs.Stops.{StopsLossyAs, TextDoesNotFit}
+use Rattle.utf16_transcode.specs.Stops.{TextDoesNotFit}
 use Rattle.utf16_transcode.specs.Transcoded.{DecodesAsTo}
 use Rattle.utf16_transcode.specs.declared.progress.Stop.{Stop}
 use Rattle.utf16_transcode.specs.declared.progress.Stop.TheVariants.{Incomplete, Done, IllFormed, NoSpace}
@@ -42,11 +42,6 @@ wtf8_split big = record {
 -- WTF-8
 abbrev pub DecodesToWtf8 : Bool → List ℕ → List ℕ → ℕ → ℕ → Type 0
 DecodesToWtf8 big = DecodesAsTo (wtf8_split big) generalized_utf8
-
--- for a call that leaves a tail: nothing is left, or more bytes could change what is left, or the
--- next code point does not fit
-abbrev pub StopsBeforeTail : Bool → List ℕ → ℕ → Stop → Type 0
-StopsBeforeTail big = StopsLossyAs (wtf8_split big) generalized_utf8
 
 -- for a call that writes all code units: nothing is left, or an odd byte, or the next code point
 -- does not fit

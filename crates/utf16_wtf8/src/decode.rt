@@ -5,7 +5,8 @@ ghost use Rattle.std.specs.List.{flat_map};
 ghost use Rattle.utf16_transcode.specs.WholeText.{WritesWhole};
 ghost use Rattle.utf16_transcode.specs.Stream.{stream_pending};
 ghost use Rattle.utf16_transcode.specs.declared.progress.Stop.TheVariants.{Done, Incomplete, NoSpace};
-ghost use Rattle.utf16_wtf8.specs.ToWtf8.{DecodesToWtf8, StopsBeforeTail, StopsToWtf8, points_of, tail_points};
+ghost use Rattle.utf16_transcode.specs.Stops.{StopsPartial};
+ghost use Rattle.utf16_wtf8.specs.ToWtf8.{DecodesToWtf8, StopsToWtf8, points_of, tail_points, wtf8_split};
 ghost use Rattle.utf16_wtf8.specs.Wtf8.{generalized_utf8};
 
 use crate::direction::ToWtf8;
@@ -22,7 +23,7 @@ use utf16_units::Utf16Order;
 /// Linear time in the number of bytes read.
 pub fn to_wtf8_partial<E: Utf16Order>(raw: &[u8], to: &mut [u8]) -> Progress
     ensures decodes { DecodesToWtf8 E.BIG raw.now to.new result.read result.written }
-    ensures stop { StopsBeforeTail E.BIG (drop result.read raw.now)
+    ensures stop { StopsPartial (wtf8_split E.BIG) generalized_utf8 (drop result.read raw.now)
         (length to.new - result.written) result.stop }
 {
     transcode_partial::<ToWtf8<E>>(raw, to)

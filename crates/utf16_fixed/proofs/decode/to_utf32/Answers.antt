@@ -2,11 +2,10 @@ use Rattle.std.proofs.Common.{◌-◌, length, rules, subst, sym}
 use Rattle.utf16_units.specs.Encoding.{IsUtf16, char_bytes}
 use Rattle.utf16_units.specs.IllFormed.{IsIllFormedAt}
 use Rattle.utf16_units.proofs.EncodingLemmas.{IsUtf16-from_Encodes}
-use Rattle.utf16_transcode.specs.Stops.{IsIllFormedUtf16}
+use Rattle.utf16_transcode.specs.Stops.{IsIllFormedUtf16, Stops}
 use Rattle.utf16_transcode.specs.Transcoded.{Writes}
 use Rattle.utf16_transcode.proofs.ToUtf8Lemmas.{faults_there}
 use Rattle.utf16_transcode.proofs.TranscodedLemmas.{Writes-none, Writes-then, stops_there}
-use Rattle.utf16_fixed.specs.Stops32.{StopsToUtf32}
 use Rattle.utf16_fixed.specs.Utf32.{TranscodesToUtf32, utf32_units}
 use Rattle.utf16_fixed.proofs.RoomLemmas.{to_utf32_fits}
 use Rattle.utf16_fixed.proofs.TextLemmas.{utf32_empty, utf32_joins}
@@ -31,7 +30,7 @@ pub returns-in-Err-clause-wrote : goal.returns-in-Err-clause-wrote
 returns-in-Err-clause-wrote g c = kept g (goal.at.returns-in-Err-clause-wrote g c).In-Err
 
 stops : (g : Over) (c : In-Err g)
-    → StopsToUtf32 g.E.Utf16Order.BIG c.args.raw.now c.write_run-done.result.read
+    → Stops (char_bytes g.E.Utf16Order.BIG) utf32_units (IsIllFormedUtf16 g.E.Utf16Order.BIG) c.args.raw.now c.write_run-done.result.read
     (length c.write_next_char.new.to - c.write_run-done.result.written) c.in-Err.stop
 stops g c =
     let big = g.E.Utf16Order.BIG in
@@ -45,4 +44,4 @@ returns-in-Err-clause-stop g c = stops g (goal.at.returns-in-Err-clause-stop g c
 pub returns-in-Err-clause-succeeds : goal.returns-in-Err-clause-succeeds
 returns-in-Err-clause-succeeds g c room full =
     let at = (goal.at.returns-in-Err-clause-succeeds g c).In-Err in
-    to_utf32_fits g.E.Utf16Order.BIG _ _ _ _ (kept g at) (subst (StopsToUtf32 g.E.Utf16Order.BIG _ _ _) full (stops g at)) room
+    to_utf32_fits g.E.Utf16Order.BIG _ _ _ _ (kept g at) (subst (Stops (char_bytes g.E.Utf16Order.BIG) utf32_units (IsIllFormedUtf16 g.E.Utf16Order.BIG) _ _ _) full (stops g at)) room

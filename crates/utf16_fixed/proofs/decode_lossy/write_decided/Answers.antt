@@ -1,11 +1,12 @@
 use Rattle.std.proofs.Common.{◌+◌, ◌-◌, Some, length, arith, rules, subst}
 use borrow.Rule.Slice.PartMut.{put_mid}
 use Rattle.utf16_units.proofs.IllFormedLemmas.{rest_from}
+use Rattle.utf16_units.specs.Encoding.{char_bytes}
 use Rattle.utf16_transcode.specs.Decodes.{utf16_split}
-use Rattle.utf16_transcode.specs.Stops.{IsIllFormedUtf16}
+use Rattle.utf16_transcode.specs.Stops.{IsIllFormedUtf16, Stops}
 use Rattle.utf16_transcode.proofs.StreamSteps.{DecodesTo-rest, stops_rest}
 use Rattle.utf16_transcode.proofs.ToUtf8Parts.{utf16_chunks}
-use Rattle.utf16_fixed.specs.Stops32.{DecodesToUtf32, StopsToUtf32}
+use Rattle.utf16_fixed.specs.Stops32.{DecodesToUtf32}
 use Rattle.utf16_fixed.specs.Utf32.{utf32_units}
 use Rattle.utf16_fixed.proofs.LossyLemmas.{DecodesToUtf32-lone, DecodesToUtf32-text, found_at, found_within, replacement_is_too_long, stops_lossy_to_utf32}
 use Rattle.utf16_fixed.proofs.decode_lossy.write_decided.Given.{Over}
@@ -40,7 +41,7 @@ returns-then-written-to-clause-decodes g c = after g (goal.at.returns-then-writt
 -- the ill-formed sequence after it
 found : (g : Over) (c : In-IllFormed g) → IsIllFormedUtf16 g.E.Utf16Order.BIG (rest_from c.args.raw.now c.loop-len.read) c.to_utf32-front.result.read (Some c.in-IllFormed.len)
 found g c =
-    subst (StopsToUtf32 g.E.Utf16Order.BIG (rest_from c.args.raw.now c.loop-len.read) c.to_utf32-front.result.read
+    subst (Stops (char_bytes g.E.Utf16Order.BIG) utf32_units (IsIllFormedUtf16 g.E.Utf16Order.BIG) (rest_from c.args.raw.now c.loop-len.read) c.to_utf32-front.result.read
     (length c.to_utf32-front.new.to - c.to_utf32-front.result.written)) c.in-IllFormed.is c.to_utf32-front.ensures.stop
 
 pub returns-then-written-to-clause-stop : goal.returns-then-written-to-clause-stop

@@ -2,7 +2,8 @@ use Rattle.std.proofs.Common.{◌-◌, length, rules, subst, sym}
 use Rattle.utf16_units.specs.Encoding.{char_bytes}
 use Rattle.utf16_transcode.specs.Transcoded.{Writes}
 use Rattle.utf16_transcode.proofs.TranscodedLemmas.{Writes-none, Writes-then, stops_there}
-use Rattle.utf16_fixed.specs.Stops32.{IsIllFormedUtf32, IsIllFormedUtf32At, StopsFromUtf32}
+use Rattle.utf16_transcode.specs.Stops.{Stops}
+use Rattle.utf16_fixed.specs.Stops32.{IsIllFormedUtf32, IsIllFormedUtf32At}
 use Rattle.utf16_fixed.specs.Utf32.{IsUtf32, TranscodesFromUtf32, utf32_units}
 use Rattle.utf16_fixed.proofs.RoomLemmas.{from_utf32_fits}
 use Rattle.utf16_fixed.proofs.ValidLemmas.{ill_formed_there}
@@ -28,7 +29,7 @@ pub returns-in-Err-clause-wrote : goal.returns-in-Err-clause-wrote
 returns-in-Err-clause-wrote g c = kept g (goal.at.returns-in-Err-clause-wrote g c).In-Err
 
 stops : (g : Over) (c : In-Err g)
-    → StopsFromUtf32 g.E.Utf16Order.BIG c.args.utf32.now c.write_run-done.result.read
+    → Stops utf32_units (char_bytes g.E.Utf16Order.BIG) IsIllFormedUtf32 c.args.utf32.now c.write_run-done.result.read
     (length c.write_next_char.new.to - c.write_run-done.result.written) c.in-Err.stop
 stops g c =
     let big = g.E.Utf16Order.BIG in
@@ -42,4 +43,4 @@ returns-in-Err-clause-stop g c = stops g (goal.at.returns-in-Err-clause-stop g c
 pub returns-in-Err-clause-succeeds : goal.returns-in-Err-clause-succeeds
 returns-in-Err-clause-succeeds g c room full =
     let at = (goal.at.returns-in-Err-clause-succeeds g c).In-Err in
-    from_utf32_fits g.E.Utf16Order.BIG _ _ _ _ (kept g at) (subst (StopsFromUtf32 g.E.Utf16Order.BIG _ _ _) full (stops g at)) room
+    from_utf32_fits g.E.Utf16Order.BIG _ _ _ _ (kept g at) (subst (Stops utf32_units (char_bytes g.E.Utf16Order.BIG) IsIllFormedUtf32 _ _ _) full (stops g at)) room

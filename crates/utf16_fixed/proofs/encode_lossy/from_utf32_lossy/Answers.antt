@@ -1,12 +1,15 @@
 use Rattle.std.proofs.Common.{◌+◌, ◌-◌, ◌++◌, ◌∙◌, Some, ap, length, take, rules, subst}
 use borrow.Rule.Slice.PartMut.{put_mid}
 use Rattle.utf16_units.proofs.IllFormedLemmas.{rest_from}
+use Rattle.utf16_units.specs.Encoding.{char_bytes}
 use Rattle.utf16_transcode.proofs.TranscodedLemmas.{Writes-none}
-use Rattle.utf16_fixed.specs.Stops32.{IsIllFormedUtf32, StopsFromUtf32}
+use Rattle.utf16_transcode.specs.Stops.{Stops}
+use Rattle.utf16_fixed.specs.Stops32.{IsIllFormedUtf32}
 use Rattle.utf16_fixed.proofs.ShowsLemmas.{from_utf32_lossy_fits, full_before_other, shown_empty, shown_marked, shown_rest, stops_shown}
 use Rattle.utf16_fixed.proofs.encode_lossy.from_utf32_lossy.Given.{Over}
 use Rattle.utf16_fixed.proofs.encode_lossy.from_utf32_lossy.Goals as goal
 use Rattle.utf16_fixed.proofs.encode_lossy.from_utf32_lossy.Goals.{In-IllFormed}
+use Rattle.utf16_fixed.specs.Utf32.{utf32_units}
 
 pub loop-replacement-init : goal.loop-replacement-init
 loop-replacement-init g c = Writes-none (shown_empty g.E.Utf16Order.BIG) _ _
@@ -28,7 +31,7 @@ returns-then-to-written-lt2-clause-wrote g c =
 found : (g : Over) (c : In-IllFormed g)
     → IsIllFormedUtf32 (rest_from c.args.utf32.now c.loop-replacement.read) c.from_utf32-front.result.read (Some c.in-IllFormed.field-0)
 found g c =
-    subst (StopsFromUtf32 g.E.Utf16Order.BIG (rest_from c.args.utf32.now c.loop-replacement.read) c.from_utf32-front.result.read
+    subst (Stops utf32_units (char_bytes g.E.Utf16Order.BIG) IsIllFormedUtf32 (rest_from c.args.utf32.now c.loop-replacement.read) c.from_utf32-front.result.read
     (length c.from_utf32-front.new.to - c.from_utf32-front.result.written)) c.in-IllFormed.is c.from_utf32-front.ensures.stop
 
 pub returns-then-to-written-lt2-clause-succeeds : goal.returns-then-to-written-lt2-clause-succeeds

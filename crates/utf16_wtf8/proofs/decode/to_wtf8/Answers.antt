@@ -2,7 +2,8 @@ use Rattle.std.proofs.Common.{◌-◌, ◌<◌, ◌≢◌, ◌≡◌, [], drop, 
 use Rattle.std.proofs.lemmas.List.{take_rest}
 use Rattle.utf16_units.specs.Split.{split_tail}
 use Rattle.utf16_transcode.proofs.WholeLemmas.{end_does_not_fit}
-use Rattle.utf16_wtf8.specs.ToWtf8.{DecodesToWtf8, StopsBeforeTail, StopsToWtf8, tail_points, wtf8_split}
+use Rattle.utf16_transcode.specs.Stops.{StopsPartial}
+use Rattle.utf16_wtf8.specs.ToWtf8.{DecodesToWtf8, StopsToWtf8, tail_points, wtf8_split}
 use Rattle.utf16_wtf8.specs.Wtf8.{generalized_utf8}
 use Rattle.utf16_wtf8.proofs.DecodeLemmas.{WritesWhole-certain, WritesWhole-tail, all_left, odd_left, stops_certain}
 use Rattle.utf16_wtf8.proofs.ToWtf8Lemmas.{wtf8_chunks}
@@ -22,7 +23,7 @@ returns-in_default g c =
 -- what is left is a tail
 tail : (g : Over) (c : In-Incomplete g) → (drop c.to_wtf8_partial-front.result.read c.args.raw.now ≢ [])
     × (split_tail g.E.Utf16Order.BIG (drop c.to_wtf8_partial-front.result.read c.args.raw.now) ≡ drop c.to_wtf8_partial-front.result.read c.args.raw.now)
-tail g c = subst (StopsBeforeTail g.E.Utf16Order.BIG _ _) c.in-Incomplete.is c.to_wtf8_partial-front.ensures.stop
+tail g c = subst (StopsPartial (wtf8_split g.E.Utf16Order.BIG) generalized_utf8 _ _) c.in-Incomplete.is c.to_wtf8_partial-front.ensures.stop
 
 pub returns-in_default-write_end-clause-shown : goal.returns-in_default-write_end-clause-shown
 returns-in_default-write_end-clause-shown g c =

@@ -1,5 +1,5 @@
 use Rattle.std.proofs.Common.{◌≡◌, ◌++◌, ◌≤◌, ◌-◌, ℕ, List, length, take, drop, refl, sym, ap, ap₂, ◌∙◌, subst, take_all, arith}
-use Rattle.utf16_transcode.specs.Stops.{StopsLossyAs}
+use Rattle.utf16_transcode.specs.Stops.{StopsPartial}
 use Rattle.utf16_transcode.proofs.StreamSteps.{Feeds-done, Feeds-full, fed_text, few_left, filled, holds_tail, is_whole, join_drop, not_whole, rest_undecided, stops_full}
 use Rattle.utf16_transcode.proofs.stream.Stream.feed.Given.{Over}
 use Rattle.utf16_transcode.proofs.stream.Stream.feed.Goals as goal
@@ -8,7 +8,7 @@ use Rattle.utf16_transcode.proofs.stream.Stream.feed.Goals.{After-joined_start-l
 pub returns-in-NoSpace : goal.returns-in-NoSpace
 returns-in-NoSpace g c =
     let front = c.transcode_joined-front.ensures.decodes in
-    let full = subst (StopsLossyAs g.D.LossyDirection.split _ _ _) c.in-NoSpace.is c.transcode_joined-front.ensures.stop in
+    let full = subst (StopsPartial g.D.LossyDirection.split _ _ _) c.in-NoSpace.is c.transcode_joined-front.ensures.stop in
     let read = ap (λ r. length c.args.piece.now - length r) c.rest_of.ensures.piece in
     rw (← c.pending-pending.ensures.bytes) record {
       feeds = Feeds-full g.D.LossyDirection.split _ c.lossy_laws.ensures.chunks _ _ _ _ _ front full _ read _ (c.holding.ensures.pending ∙ c.rest_of.ensures.left);
