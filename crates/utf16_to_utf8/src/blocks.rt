@@ -9,8 +9,7 @@ ghost use Rattle.utf16_to_utf8.specs.Utf8.{units_utf8};
 ghost use Rattle.utf16_to_utf8.specs.declared.blocks.Kind.TheVariants.{Ascii, Basic};
 
 use crate::lanes::{doubled, each, eights, have_none, sixteens, smaller, sum};
-use crate::pack::write_ascii;
-use crate::writers::{BasicWriter, LettersWriter, MixedWriter, PairsWriter, WideWriter, Writer};
+use crate::pack::{write_any, write_ascii, write_narrow, write_wide};
 use std::simd::prelude::*;
 use utf16_units::Utf16Order;
 use utf16_units::blocks::units32;
@@ -135,17 +134,6 @@ pub(crate) fn eight_are_basic(units: u16x8) -> bool
     lanes_below(units, 0x800) || lanes_from(raised(units), 0x800)
 }
 
-// Whether a block of the kind has no surrogate.
-#[inline(always)]
-pub(crate) fn is_plain(kind: Kind) -> bool
-    ensures { IsTrue result → IsPlain kind }
-{
-    match kind {
-        Kind::Ascii | Kind::Letters | Kind::Wide | Kind::Basic => true,
-        Kind::Pairs | Kind::Mixed => false,
-    }
-}
-
 // Whether the units of a block have this kind.
 #[inline(always)]
 pub(crate) fn are_of(units: u16x32, kind: Kind) -> bool
@@ -175,7 +163,7 @@ pub(crate) fn are_of(units: u16x32, kind: Kind) -> bool
 
 // Writes the UTF-8 that a block of this kind adds.
 #[inline(always)]
-pub(crate) fn write_block(
+pub(crate) fn write_units(
     out: &mut [u8],
     at: usize,
     previous: u16x8,
@@ -189,26 +177,29 @@ pub(crate) fn write_block(
     ensures written_to { result ≤ at + 96 }
     ensures ascii { kind ≡ Ascii → result ≤ at + 32 }
 {
-    match kind {
-        Kind::Ascii => write_ascii(out, at, units),
-        Kind::Letters => write_groups::<LettersWriter>(out, at, previous, units),
-        Kind::Pairs => write_groups::<PairsWriter>(out, at, previous, units),
-        Kind::Wide => write_groups::<WideWriter>(out, at, previous, units),
-        Kind::Basic => write_groups::<BasicWriter>(out, at, previous, units),
-        Kind::Mixed => write_groups::<MixedWriter>(out, at, previous, units),
+    if let Kind::Ascii = kind {
+        return write_ascii(out, at, units);
     }
+    let (first, second) = sixteens(units);
+    let end = write_group(out, at, doubled(previous), first, kind);
+    write_group(out, end, first, second, kind)
 }
 
-// Writes the UTF-8 that a block adds, sixteen units at a time.
-#[inline]
-fn write_groups<W: Writer>(out: &mut [u8], at: usize, previous: u16x8, units: u16x32) -> usize
-    requires space { at + 104 ≤ length out.old }
-    requires kind { AreOfKind W.KIND units }
-    ensures bytes { take result out.new ≡ take at out.old ++ units_utf8 (slice_index previous 7)
+// Writes the UTF-8 that sixteen units of this kind add.
+#[inline(always)]
+fn write_group(out: &mut [u8], at: usize, previous: u16x16, units: u16x16, kind: Kind) -> usize
+    requires space { at + 56 ≤ length out.old }
+    requires kind { AreOfKind kind units }
+    ensures bytes { take result out.new ≡ take at out.old ++ units_utf8 (slice_index previous 15)
         units }
-    ensures written_to { result ≤ at + 96 }
+    ensures written_to { result ≤ at + 48 }
 {
-    let (first, second) = sixteens(units);
-    let end = W::write_group(out, at, doubled(previous), first);
-    W::write_group(out, end, first, second)
+    match kind {
+        Kind::Ascii => write_ascii(out, at, units),
+        Kind::Letters => write_narrow(out, at, previous, units, false),
+        Kind::Pairs => write_narrow(out, at, previous, units, true),
+        Kind::Wide => write_wide(out, at, units),
+        Kind::Basic => write_any(out, at, previous, units, false),
+        Kind::Mixed => write_any(out, at, previous, units, true),
+    }
 }

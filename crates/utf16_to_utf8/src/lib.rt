@@ -17,7 +17,6 @@ mod short;
 mod vectors;
 mod word_places;
 mod write;
-mod writers;
 
 pub use crate::append::{append_utf8, to_utf8};
 pub use crate::chars::{put, put_char};

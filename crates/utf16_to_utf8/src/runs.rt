@@ -18,7 +18,7 @@ ghost use Rattle.utf16_to_utf8.specs.Block.{AreOfKind};
 ghost use Rattle.utf16_to_utf8.specs.Cursor.{Advanced, Reached};
 ghost use Rattle.utf16_to_utf8.specs.declared.blocks.Kind.TheVariants.{Ascii, Basic};
 
-use crate::blocks::{Kind, are_of, is_plain, kind_of, write_block};
+use crate::blocks::{Kind, are_of, kind_of, write_units};
 use crate::lanes::{eights, sixteens};
 use crate::write::SLACK;
 use std::simd::prelude::*;
@@ -97,16 +97,13 @@ fn write_plain<E: Utf16Order>(raw: &[u8], out: &mut [u8], from: Cursor) -> Curso
 {
     let mut run = write_ascii_run::<E>(raw, out, from);
     while !run.ended {
-        let kind = kind_of(run.units);
-        if !is_plain(kind) {
-            break;
-        }
-        let block = write_block_units::<E>(raw, out, run.cursor, run.units, kind);
-        // Wide and basic blocks often follow others of their kind.
-        let next = match kind {
-            Kind::Wide => write_run::<E>(raw, out, block, Kind::Wide),
-            Kind::Basic => write_run::<E>(raw, out, block, Kind::Basic),
-            Kind::Ascii | Kind::Letters | Kind::Pairs | Kind::Mixed => block,
+        let Run { cursor, units, .. } = run;
+        let next = match kind_of(units) {
+            Kind::Letters => write_block::<E>(raw, out, cursor, units, Kind::Letters),
+            // Wide and basic blocks often follow others of their kind.
+            Kind::Wide => write_run::<E>(raw, out, cursor, units, Kind::Wide),
+            Kind::Basic => write_run::<E>(raw, out, cursor, units, Kind::Basic),
+            Kind::Ascii | Kind::Pairs | Kind::Mixed => break,
         };
         run = write_ascii_run::<E>(raw, out, next);
     }
@@ -135,10 +132,10 @@ fn write_surrogates<E: Utf16Order>(
 {
     let leading = paired(units, from.leading)?;
     if !are_of(units, Kind::Pairs) {
-        let cursor = write_block_units::<E>(raw, out, from.cursor, units, Kind::Mixed);
+        let cursor = write_block::<E>(raw, out, from.cursor, units, Kind::Mixed);
         return Some(Tested { cursor, leading });
     }
-    let cursor = write_block_units::<E>(raw, out, from.cursor, units, Kind::Pairs);
+    let cursor = write_block::<E>(raw, out, from.cursor, units, Kind::Pairs);
     let mut done = Tested { cursor, leading };
     while done.cursor.at <= raw.len() - 64 {
         if done.cursor.end > out.len() - SLACK {
@@ -151,7 +148,7 @@ fn write_surrogates<E: Utf16Order>(
         let Some(leading) = paired(units, done.leading) else {
             break;
         };
-        let cursor = write_block_units::<E>(raw, out, done.cursor, units, Kind::Pairs);
+        let cursor = write_block::<E>(raw, out, done.cursor, units, Kind::Pairs);
         done = Tested { cursor, leading };
     }
     Some(done)
@@ -196,22 +193,31 @@ fn write_ascii_run<E: Utf16Order>(raw: &[u8], out: &mut [u8], from: Cursor) -> R
             run.ended = false;
             break;
         }
-        run.cursor = write_block_units::<E>(raw, out, run.cursor, run.units, Kind::Ascii);
+        run.cursor = write_block::<E>(raw, out, run.cursor, run.units, Kind::Ascii);
     }
     run
 }
 
-// Writes the blocks of this kind from the cursor on that fit.
+// Writes the next block, whose kind is known, and the blocks of this kind after it that fit.
 #[inline(always)]
-fn write_run<E: Utf16Order>(raw: &[u8], out: &mut [u8], from: Cursor, kind: Kind) -> Cursor
-    requires many { 64 ≤ length raw.now }
-    requires space { SLACK ≤ length out.old }
+fn write_run<E: Utf16Order>(
+    raw: &[u8],
+    out: &mut [u8],
+    from: Cursor,
+    units: u16x32,
+    kind: Kind,
+) -> Cursor
+    requires space { from.end + SLACK ≤ length out.old }
+    requires more { from.at + 64 ≤ length raw.now }
+    requires next { units ≡ units_of E.BIG (take 64 (drop from.at raw.now)) }
+    requires kind { AreOfKind kind units }
     requires reached { Reached E.BIG raw.now out.old from }
     ensures advanced { Advanced E.BIG kind raw.now out.new from result }
+    ensures advances { from.at < result.at }
 {
     let last = raw.len() - 64;
     let most = out.len() - SLACK;
-    let mut cursor = from;
+    let mut cursor = write_block::<E>(raw, out, from, units, kind);
     while cursor.at <= last {
         if cursor.end > most {
             break;
@@ -220,14 +226,14 @@ fn write_run<E: Utf16Order>(raw: &[u8], out: &mut [u8], from: Cursor, kind: Kind
         if !are_of(units, kind) {
             break;
         }
-        cursor = write_block_units::<E>(raw, out, cursor, units, kind);
+        cursor = write_block::<E>(raw, out, cursor, units, kind);
     }
     cursor
 }
 
 // Writes the next block, whose kind is known.
 #[inline(always)]
-fn write_block_units<E: Utf16Order>(
+fn write_block<E: Utf16Order>(
     raw: &[u8],
     out: &mut [u8],
     from: Cursor,
@@ -246,7 +252,7 @@ fn write_block_units<E: Utf16Order>(
     ensures pairs { (before after : Bool) → PairedTo E.BIG raw.now from.at before
         → Paired before units after → PairedTo E.BIG raw.now result.at after }
 {
-    let end = write_block(out, from.end, from.previous, units, kind);
+    let end = write_units(out, from.end, from.previous, units, kind);
     Cursor {
         at: from.at + 64,
         end,

@@ -39,17 +39,7 @@ pub fn write_utf8<E: Utf16Order>(raw: &[u8], to: &mut [u8]) -> usize
         ≡ drop (length raw.now / 2 * 3 + SLACK) to.old }
 {
     let room = raw.len() / 2 * 3 + SLACK;
-    write_whole::<E>(raw, &mut to[..room])
-}
-
-// Writes a text. All bytes after those written may be overwritten.
-#[inline(always)]
-fn write_whole<E: Utf16Order>(raw: &[u8], out: &mut [u8]) -> usize
-    requires well_formed { IsUtf16 E.BIG raw.now }
-    requires space { length raw.now / 2 * 3 + SLACK ≤ length out.old }
-    ensures utf8 { take result out.new ≡ utf8_of E.BIG raw.now }
-    ensures fits { result ≤ length out.new }
-{
+    let out = &mut to[..room];
     let Strategy::Blocks = strategy_for(raw.len()) else {
         return write_short::<E>(raw, out);
     };

@@ -6,14 +6,14 @@ use Rattle.utf16_units.proofs.PairLemmas.{PairedTo-next}
 use Rattle.utf16_units.proofs.PlainLemmas.{PairedTo-plain}
 use Rattle.utf16_to_utf8.proofs.PlainLemmas.{plain-block}
 use Rattle.utf16_to_utf8.proofs.WriterLemmas.{reached-next}
-use Rattle.utf16_to_utf8.proofs.runs.write_block_units.Goals as goal
+use Rattle.utf16_to_utf8.proofs.runs.write_block.Goals as goal
 
 pub returns-clause-advanced : goal.returns-clause-advanced
 returns-clause-advanced g c =
     let big = g.E.Utf16Order.BIG in
     let raw = c.args.raw.now in
     let units = c.args.units in
-    let put = c.write_block-end in
+    let put = c.write_units-end in
     let last = ap (λ us. slice_index us 7) (c.eights.ensures.high ∙ ap (chunk 8 8) c.sixteens.ensures.high) ∙ get_or-chunk 8 8 (chunk 16 16 units) 7 0 (omega arith) ∙ get_or-chunk 16 16 units 15 0 (omega arith) in
     record {
       reached = reached-next 31 big raw c.args.out.now _ units c.args.from _ c.requires.reached c.requires.more c.fits-units.0 c.requires.next refl put.ensures.written_to last

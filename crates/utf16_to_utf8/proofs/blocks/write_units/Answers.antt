@@ -3,16 +3,16 @@ use Rattle.std.proofs.lemmas.Simd.{get_or-chunk}
 use Rattle.utf16_to_utf8.specs.Block.{IsOfKind}
 use Rattle.utf16_to_utf8.specs.Utf8.{units_utf8}
 use Rattle.utf16_to_utf8.proofs.BlockLemmas.{both_halves, kind_of-part}
-use Rattle.utf16_to_utf8.proofs.blocks.write_groups.Goals as goal
+use Rattle.utf16_to_utf8.proofs.blocks.write_units.Goals as goal
 
 pub write_group-end-requires-clause-kind : goal.write_group-end-requires-clause-kind
-write_group-end-requires-clause-kind g c = kind_of-part (IsOfKind g.W.Writer.KIND) 16 0 c.args.units _ (omega (arith, c.fits-units.0)) c.sixteens.ensures.low c.requires.kind
+write_group-end-requires-clause-kind c = kind_of-part (IsOfKind c.args.kind) 16 0 c.args.units _ (omega (arith, c.fits-units.0)) c.sixteens.ensures.low c.requires.kind
 
 pub write_group-requires-clause-kind : goal.write_group-requires-clause-kind
-write_group-requires-clause-kind g c = kind_of-part (IsOfKind g.W.Writer.KIND) 16 16 c.args.units _ (omega (arith, c.fits-units.0)) c.sixteens.ensures.high c.requires.kind
+write_group-requires-clause-kind c = kind_of-part (IsOfKind c.args.kind) 16 16 c.args.units _ (omega (arith, c.fits-units.0)) c.sixteens.ensures.high c.requires.kind
 
 pub returns-clause-bytes : goal.returns-clause-bytes
-returns-clause-bytes g c =
+returns-clause-bytes c =
     let units = c.args.units in
     let first = c.sixteens.result.0 in
     let start = take c.args.at c.args.out.now in
