@@ -1,8 +1,7 @@
 -- The most bytes that any bytes have in WTF-8, and that WTF-8 has in UTF-16, and that a call with
 -- this capacity does not stop for lack of space.
-use Rattle.std.proofs.Common.{◌≡◌, ◌≢◌, ℕ, ◌+◌, ◌*◌, ◌/◌, ◌-◌, ◌<◌, ◌≤◌, Bool, List, [], ◌∷◌, ◌++◌, length, take, drop, sym, ap, ◌∙◌, subst, ⊎_elim, arith, length-append, length-take-le, length-drop, take_at}
+use Rattle.std.proofs.Common.{◌≡◌, ◌≢◌, ℕ, ◌+◌, ◌*◌, ◌/◌, ◌-◌, ◌<◌, ◌≤◌, Bool, List, ◌++◌, length, take, drop, sym, ap, ◌∙◌, subst, arith, length-append, length-take-le, length-drop, take_at}
 use Rattle.std.specs.List.{flat_map}
-use Rattle.utf16_units.specs.Encoding.{char_bytes}
 use Rattle.utf16_units.proofs.CharLemmas.{char_size-le, char_size_cases, length-char_bytes}
 use Rattle.utf16_units.proofs.FirstChar.{AreBytes}
 use Rattle.utf16_units.proofs.SplitIllFormed.{AreBytes-take}
@@ -10,7 +9,7 @@ use Rattle.utf16_transcode.specs.StreamSplit.{decided}
 use Rattle.utf16_transcode.specs.WholeText.{WritesWhole}
 use Rattle.utf16_transcode.specs.Transcoded.{Writes}
 use Rattle.utf16_transcode.specs.declared.progress.Stop.{Stop}
-use Rattle.utf16_transcode.specs.declared.progress.Stop.TheVariants.{Incomplete, Done, IllFormed, NoSpace}
+use Rattle.utf16_transcode.specs.declared.progress.Stop.TheVariants.{NoSpace}
 use Rattle.utf16_wtf8.specs.FromWtf8.{NextPointDoesNotFit, StopsFromWtf8, StopsFromWtf8Partial, TranscodesFromWtf8}
 use Rattle.utf16_wtf8.specs.Stream.{FeedsWtf8, StopsFeedingWtf8, encoded_len}
 use Rattle.utf16_wtf8.specs.ToWtf8.{StopsToWtf8, points_of, wtf8_split}

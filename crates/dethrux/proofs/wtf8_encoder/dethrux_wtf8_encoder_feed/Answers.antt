@@ -1,6 +1,5 @@
-use Rattle.std.proofs.Common.{◌-◌, length, rules}
-use Rattle.utf16_wtf8.specs.Stream.{FeedsWtf8, StopsFeedingWtf8, wtf8_pending}
-use Rattle.dethrux.specs.Numbers.{is_big, stop_of}
+use Rattle.std.proofs.Common.{rules}
+use Rattle.dethrux.specs.Numbers.{is_big}
 use Rattle.dethrux.proofs.WtfBounds.{encoder_filled, encoder_fits}
 use Rattle.dethrux.proofs.wtf8_encoder.dethrux_wtf8_encoder_feed.Goals as goal
 
