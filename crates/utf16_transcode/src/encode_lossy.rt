@@ -147,7 +147,7 @@ pub fn from_utf8_lossy_len(text: &[u8]) -> usize
     if is_text_within_block(text) {
         return utf16_len(unsafe { str::from_utf8_unchecked(text) });
     }
-    if let Ok(text) = simdutf8::basic::from_utf8(text) {
+    if let Ok(text) = simdutf8::compat::from_utf8(text) {
         return utf16_len(text);
     }
     let mut size = 0;

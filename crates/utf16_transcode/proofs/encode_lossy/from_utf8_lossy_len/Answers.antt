@@ -54,7 +54,7 @@ pub returns-then-is_text_within_block-clause-most : goal.returns-then-is_text_wi
 returns-then-is_text_within_block-clause-most c = (size-whole c.args.text.now _ _ (c.is_text_within_block.ensures c.if-is_text_within_block.true) c.from_utf8_unchecked.ensures c.utf16_len.ensures).1
 
 pub returns-in-Ok-clause-size : goal.returns-in-Ok-clause-size
-returns-in-Ok-clause-size c = (size-whole c.args.text.now _ _ c.in-Ok.ensures.1 c.in-Ok.ensures.0 c.utf16_len-in-Ok.ensures).0
+returns-in-Ok-clause-size c = (size-whole c.args.text.now _ _ c.in-Ok.ensures.cases.1 c.in-Ok.ensures.cases.0 c.utf16_len-in-Ok.ensures).0
 
 pub returns-in-Ok-clause-most : goal.returns-in-Ok-clause-most
-returns-in-Ok-clause-most c = (size-whole c.args.text.now _ _ c.in-Ok.ensures.1 c.in-Ok.ensures.0 c.utf16_len-in-Ok.ensures).1
+returns-in-Ok-clause-most c = (size-whole c.args.text.now _ _ c.in-Ok.ensures.cases.1 c.in-Ok.ensures.cases.0 c.utf16_len-in-Ok.ensures).1
