@@ -83,7 +83,7 @@ pub trait SliceIndex<T: ?Sized>: private::SealedSliceIndex {
 /// Returns the window, or panics if there is none.
 #[inline]
 fn expect(window: Option<Range<usize>>) -> Range<usize> {
-    window.expect("index overflow")
+    window.unwrap_or_else(|| panic!("index overflow"))
 }
 
 /// Returns the window if it begins and ends at boundaries, and does not end before it begins.

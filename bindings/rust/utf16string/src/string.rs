@@ -197,10 +197,10 @@ impl<E: ByteOrder> WString<E> {
     /// Panics if the offset is not a character boundary below the length.
     #[inline]
     pub fn remove(&mut self, idx: usize) -> char {
-        let ch = self[idx..]
-            .chars()
-            .next()
-            .expect("cannot remove a char from the end of a string");
+        let ch = match self[idx..].chars().next() {
+            Some(ch) => ch,
+            None => panic!("cannot remove a char from the end of a string"),
+        };
         self.buf.drain(idx..idx + ch.encoded_utf16_len());
         ch
     }
