@@ -1,7 +1,7 @@
 #!/usr/bin/env bash
 # CI: compiles the benchmarks that need no other library, and starts the Rattle program. rt
 # compiles it without proof (`rt try`), over a copy of the sources, and ends it after seconds.
-# The last line is 'N passed, M failed'.
+# The crate utf16string is compared with itself. The last line is 'N passed, M failed'.
 set -uo pipefail
 cd "$(dirname "$0")/.." || exit 1
 . .ci/checks.sh
@@ -25,6 +25,10 @@ check 'bench/walks.rt.txt' starts
 for source in walks texts library plain real_programs; do
     check "bench/$source.rs" rustc --edition 2024 --crate-type lib --emit metadata \
         --out-dir "$room" "bench/$source.rs"
+done
+export CARGO_TARGET_DIR=$room/target
+for row in 'bindings/rust/utf16string get(a..b)' '--compare bindings/rust/utf16string 1000'; do
+    check "bench/utf16string.sh $row" bench/utf16string.sh $row
 done
 check 'bench/js.mjs' node --check bench/js.mjs
 check 'bench/worst.c' gcc -fsyntax-only -Wall -Wextra -Werror -Idist/include bench/worst.c

@@ -1,20 +1,20 @@
-//! The texts of `calls.rs`, which are the same in each run.
+//! The texts of `calls.rs` and `utf16string.rs`, which are the same in each run.
 
-struct Random {
-    state: u64,
-    cyrillic: bool,
+pub struct Random {
+    pub state: u64,
+    pub cyrillic: bool,
 }
 
 impl Random {
     // Returns a number from `first` to `last`, with the steps of splitmix64.
-    fn among(&mut self, first: u32, last: u32) -> u32 {
+    pub fn among(&mut self, first: u32, last: u32) -> u32 {
         self.state = self.state.wrapping_add(0x9E37_79B9_7F4A_7C15);
         let mixed = (self.state ^ self.state >> 30).wrapping_mul(0xBF58_476D_1CE4_E5B9);
         let mixed = (mixed ^ mixed >> 27).wrapping_mul(0x94D0_49BB_1331_11EB);
         first + ((mixed ^ mixed >> 31) >> 32) as u32 % (last - first + 1)
     }
 
-    fn next(&mut self, class: &str) -> u32 {
+    pub fn next(&mut self, class: &str) -> u32 {
         match (class, self.among(0, 7)) {
             ("ascii", _) => self.among(0x20, 0x7E),
             ("latin_cyrillic", 0) => {
