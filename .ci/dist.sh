@@ -10,7 +10,7 @@ set -uo pipefail
 . "$(dirname "$0")/checks.sh"
 tools=(aarch64-linux-gnu-gcc:gcc-aarch64-linux-gnu cmake:cmake clang:clang)
 tools+=(x86_64-w64-mingw32-gcc:gcc-mingw-w64-x86-64 qemu-x86_64:qemu-user gdb:gdb)
-tools+=(llvm-objdump:llvm)
+tools+=(llvm-objdump:llvm rustfmt:rustfmt)
 
 # Builds and tests dist/ with make, without rt.
 with_make() {
@@ -94,6 +94,7 @@ refuses_target() {
 need "${tools[@]}" || finish
 count 'packaging/calls' "$top/packaging/test/calls.py"
 count 'what packaging/calls writes' "$top/packaging/calls" --check
+count 'dist/rust is what packaging/erase writes' "$top/packaging/erase" --check
 count 'dist/ is what packaging/assembly writes' "$top/packaging/assembly" --check "$@"
 clone="$room/a clone"
 make=(make -s -C "$clone/dist")

@@ -161,7 +161,7 @@ make_crate() {
     cp -R "$top/bindings/rust/dethrux" "$room/crate"
     cp "${legal[@]/#/$top/}" "$room/crate/"
     mkdir "$room/crate/dist"
-    cp -R "$top"/dist/{src,include} "$room/crate/dist/"
+    cp -R "$top"/dist/{src,include,rust} "$room/crate/dist/"
     ! compgen -G "$registry/cc-*" > "$room/log" || words=(--offline
         --config 'source.crates-io.replace-with="debian"'
         --config "source.debian.directory=\"$registry\"")

@@ -5,8 +5,8 @@
 # without the library, formatting and lints. With --tests it skips the last two. The last line is
 # 'N passed, M failed'. The library is what dist/Makefile builds, or is in the folder that
 # DETHRUX_LIB_DIR names. It needs cargo, cc, make, pkg-config, python3, and the crates cc,
-# pkg-config and byteorder as Debian packages them. What is missing is a failure, which names its
-# Debian package.
+# pkg-config, byteorder, memchr and simdutf8 as Debian packages them. What is missing is a failure,
+# which names its Debian package.
 set -uo pipefail
 here=$(cd "$(dirname "$0")" && pwd)
 top=$(cd "$here/../.." && pwd)
@@ -63,6 +63,7 @@ test_dethrux() {
     count 'dethrux' on_crate dethrux test
     count 'dethrux without features' on_crate dethrux test --no-default-features
     count 'dethrux with alloc' on_crate dethrux test --no-default-features --features alloc
+    count 'dethrux over the proved source' on_crate dethrux test --features pure
     count 'the documentation of dethrux' documented dethrux doc --no-deps
     lint dethrux
 }
@@ -126,7 +127,7 @@ test_without_byteorder() {
     local project=$room/alone/project
     begin "$project" "utf16string = { path = '$here/utf16string', default-features = false }"
     mkdir "$room/alone/.cargo" "$room/alone/registry"
-    ln -s "$registry"/{cc,pkg-config}-[0-9]* "$room/alone/registry"
+    ln -s "$registry"/{cc,pkg-config,memchr,simdutf8}-[0-9]* "$room/alone/registry"
     sed "s|^directory.*|directory = '$room/alone/registry'|" "$room/.cargo/config.toml" \
         > "$room/alone/.cargo/config.toml"
     sed 's/^use byteorder::.*/use utf16string::{ByteOrder, LE};/' "$room/patched/src/main.rs" \
@@ -366,7 +367,7 @@ for pair in $lints cargo:cargo rustc:rustc cc:gcc ar:binutils make:make pkg-conf
     command -v "${pair%:*}" > /dev/null ||
         fail "there is no ${pair%:*}: apt-get install ${pair#*:}"
 done
-for crate in cc pkg-config byteorder; do
+for crate in cc pkg-config byteorder memchr simdutf8; do
     compgen -G "$registry/$crate-[0-9]*" > /dev/null ||
         fail "there is no crate $crate: apt-get install librust-$crate-dev"
 done

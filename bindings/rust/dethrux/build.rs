@@ -1,7 +1,8 @@
 //! Links the library in the folder `DETHRUX_LIB_DIR`, else the one that pkg-config knows. If there
-//! is none, and always with the feature `bundled`, it compiles the assembly in `dist`. If that is
-//! not possible, or the library has another version, the build ends with one line that says what to
-//! do. On docs.rs nothing is linked, so it does nothing.
+//! is none, and always with the feature `bundled`, it compiles the assembly in `dist`. With the
+//! feature `pure`, and for a target without assembly, the crate compiles the proved source. If that
+//! is not possible, or the library has another version, the build ends with one line that says what
+//! to do. On docs.rs nothing is linked, so it does nothing.
 
 use std::path::{Path, PathBuf};
 use std::process::{exit, Command};
@@ -33,6 +34,21 @@ const TARGETS: [(&str, &[&str]); 5] = [
     ("aarch64-apple-darwin", &["macos-aarch64.s"]),
 ];
 
+/// The modules of the proved source that the calls need.
+const MODULES: [&str; 11] = [
+    "dethrux",
+    "kit",
+    "simd",
+    "utf16_bytes",
+    "utf16_fixed",
+    "utf16_from_utf8",
+    "utf16_to_utf8",
+    "utf16_transcode",
+    "utf16_units",
+    "utf16_wtf8",
+    "utf8_bytes",
+];
+
 /// The options of gcc's assembler and of clang that move branches which cross or end a block of 32
 /// bytes. On processors from Skylake to Cascade Lake these slow their loops down.
 const PADDED: [&str; 2] = [
@@ -44,6 +60,7 @@ fn main() {
     println!("cargo:rerun-if-changed=build.rs");
     println!("cargo:rerun-if-env-changed=DOCS_RS");
     println!("cargo:rerun-if-env-changed=DETHRUX_LIB_DIR");
+    println!("cargo:rustc-check-cfg=cfg(dethrux_pure)");
     if is_set("DOCS_RS") || is_set("CARGO_CFG_DOCSRS") {
         return;
     }
@@ -59,6 +76,13 @@ fn is_set(name: &str) -> bool {
 
 /// Links a library, or compiles one.
 fn provide() -> Result<(), String> {
+    // A package has dist in its folder.
+    let here = env::current_dir().unwrap_or_default();
+    let mut folders = [here.join("dist"), here.join("../../../dist")].into_iter();
+    let dist = folders.find(|folder| folder.join("src").is_dir());
+    if is_set("CARGO_FEATURE_PURE") {
+        return translate(&dist.unwrap_or_default());
+    }
     let is_bundled = is_set("CARGO_FEATURE_BUNDLED");
     let target = env::var("TARGET").unwrap_or_default();
     let is_native = env::var("HOST").as_ref() == Ok(&target);
@@ -72,7 +96,6 @@ fn provide() -> Result<(), String> {
         }
         _ => ("static", "libdethrux.a"),
     };
-    let here = env::current_dir().unwrap_or_default();
     let has_file = |folder: &PathBuf| folder.join(file).is_file();
     let found = match env::var_os("DETHRUX_LIB_DIR").map(PathBuf::from) {
         Some(folder) if !has_file(&folder) => {
@@ -94,9 +117,7 @@ fn provide() -> Result<(), String> {
         println!("cargo:rustc-link-lib={kind}=dethrux");
         return if is_native { check(&library) } else { Ok(()) };
     }
-    // A package has the assembly in its folder.
-    let mut folders = [here.join("dist"), here.join("../../../dist")].into_iter();
-    match folders.find(|folder| folder.join("src").is_dir()) {
+    match dist {
         Some(dist) if is_bundled || kind == "static" => compile(&dist, &target),
         _ => Err(format!(
             "there is no {file}: install libdethrux, or set DETHRUX_LIB_DIR to its folder"
@@ -135,19 +156,34 @@ fn version_of(library: &Path) -> Option<String> {
         .filter(|it| !it.is_empty())
 }
 
-/// Compiles the assembly for the target, and links it.
+/// Says where the modules of the proved source are, which the crate compiles instead of a library.
+fn translate(dist: &Path) -> Result<(), String> {
+    let mut lines = String::new();
+    for name in MODULES {
+        let folder = dist.join("rust").join(name);
+        let paths = [folder.join("mod.rs"), folder.with_extension("rs")];
+        let path = paths.iter().find(|path| path.is_file()).ok_or_else(|| {
+            format!(
+                "there is no {}: take a whole clone or package",
+                folder.display()
+            )
+        })?;
+        lines += &format!("#[path = {path:?}]\npub(crate) mod {name};\n");
+    }
+    let to = PathBuf::from(env::var_os("OUT_DIR").unwrap_or_default()).join("proved.rs");
+    println!("cargo:rustc-cfg=dethrux_pure");
+    fs::write(&to, lines).map_err(|error| format!("{}: {error}", to.display()))
+}
+
+/// Compiles the assembly for the target, and links it. If there is none, the crate compiles the
+/// proved source.
 fn compile(dist: &Path, target: &str) -> Result<(), String> {
     // The compiler for glibc serves for musl.
     let glibc = target.replace("-musl", "-gnu");
-    let found = TARGETS.into_iter().find(|(name, _)| *name == glibc);
-    let (_, sources) = found.ok_or_else(|| {
-        let names = TARGETS.map(|(name, _)| name).join(", ");
-        let names = names.replace("linux-gnu", "linux-{gnu,musl}");
-        format!(
-            "there is no assembly for {target}: build for one of {names}, or set DETHRUX_LIB_DIR \
-             to the folder of a libdethrux.a for this target"
-        )
-    })?;
+    let sources = match TARGETS.into_iter().find(|(name, _)| *name == glibc) {
+        Some((_, sources)) => sources,
+        None => return translate(dist),
+    };
     let folder = dist.join("src");
     // The whole folder, since choose.S and windows.c include calls.inc.
     println!("cargo:rerun-if-changed={}", folder.display());

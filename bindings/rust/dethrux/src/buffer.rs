@@ -42,6 +42,10 @@ impl<T: Element> Sealed<T> for [T] {
 
 impl<T: Element> Sealed<T> for [MaybeUninit<T>] {
     fn raw(&mut self) -> (*mut T, usize) {
+        if cfg!(dethrux_pure) {
+            // SAFETY: zeros are an element, and the source takes initialized ones.
+            unsafe { self.as_mut_ptr().write_bytes(0, self.len()) }
+        }
         (self.as_mut_ptr().cast(), self.len())
     }
 }

@@ -1,41 +1,20 @@
-//! The calls of the C library, as `include/dethrux.h` declares them, the types that they have, and
-//! the public functions that only pass on slices.
+//! The calls of `include/dethrux.h`, the types that they have, and the public functions that only
+//! pass on slices.
 
 use crate::ByteOrder;
 
+#[cfg(not(dethrux_pure))]
+#[path = "linked.rs"]
+mod calls;
+#[cfg(dethrux_pure)]
+#[path = "pure.rs"]
+mod calls;
+
+use calls::call;
+pub(crate) use calls::*;
+
 /// `DETHRUX_NOT_FOUND`.
 pub(crate) const NOT_FOUND: usize = usize::MAX;
-
-#[repr(C)]
-pub(crate) struct Validity {
-    pub(crate) valid_up_to: usize,
-    pub(crate) status: u32,
-    pub(crate) error_len: u32,
-}
-
-#[repr(C)]
-pub(crate) struct Progress {
-    pub(crate) read: usize,
-    pub(crate) written: usize,
-    pub(crate) status: u32,
-    pub(crate) error_len: u32,
-}
-
-#[repr(C)]
-pub(crate) struct Inspection {
-    pub(crate) valid_up_to: usize,
-    pub(crate) chars: usize,
-    pub(crate) repertoire: u32,
-    pub(crate) status: u32,
-    pub(crate) error_len: u32,
-}
-
-#[repr(C)]
-pub(crate) struct Bom {
-    pub(crate) len: usize,
-    pub(crate) byte_order: u32,
-    pub(crate) status: u32,
-}
 
 /// The state of a stream, which keeps up to `N` bytes: 3, or 6 for an encoder of WTF-8. All zero
 /// begins a stream.
@@ -58,43 +37,15 @@ impl<const N: usize> State<N> {
 }
 
 /// A search for a pattern.
-pub(crate) type Search =
-    unsafe extern "C" fn(ByteOrder, *const u8, usize, *const u8, usize) -> usize;
+pub(crate) type Search = call!(fn(ByteOrder, *const u8, usize, *const u8, usize) -> usize);
 
 /// A call that feeds a stream.
 pub(crate) type Feed<const N: usize> =
-    unsafe extern "C" fn(*mut State<N>, ByteOrder, *const u8, usize, *mut u8, usize) -> Progress;
+    call!(fn(*mut State<N>, ByteOrder, *const u8, usize, *mut u8, usize) -> Progress);
 
 /// A call that ends a stream.
 pub(crate) type Finish<const N: usize> =
-    unsafe extern "C" fn(*mut State<N>, ByteOrder, *mut u8, usize) -> Progress;
-
-/// Declares the calls of `calls.rs`.
-macro_rules! calls {
-    (
-        conversions { $($name:ident($from:ident: $From:ty) -> $to:ident: $To:ty;)* }
-        others { $($other:ident($($parameter:ident: $Type:ty),*) $(-> $Result:ty)?;)* }
-    ) => {
-        extern "C" {
-            $(
-                #[link_name = concat!("dethrux_", stringify!($name))]
-                pub(crate) fn $name(
-                    order: ByteOrder,
-                    $from: *const $From,
-                    len: usize,
-                    $to: *mut $To,
-                    capacity: usize,
-                ) -> Progress;
-            )*
-            $(
-                #[link_name = concat!("dethrux_", stringify!($other))]
-                pub(crate) fn $other($($parameter: $Type),*) $(-> $Result)?;
-            )*
-        }
-    };
-}
-
-include!("calls.rs");
+    call!(fn(*mut State<N>, ByteOrder, *mut u8, usize) -> Progress);
 
 /// Defines the public functions that do what the calls of the library with their names do. `to` may
 /// be any `Buffer`.

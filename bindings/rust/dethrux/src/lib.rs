@@ -28,6 +28,10 @@
 //!   a `Vec`.
 //! - Feature `std`, the default: [`io::Reader`], strict and lossy, and [`io::Writer`]; `Error` for
 //!   the errors, and their conversions to `std::io::Error`.
+//! - Feature `pure`: compiles the proved source, translated to Rust, and no library is needed. A
+//!   target without assembly has no other way, and takes it without the feature. It needs `alloc`,
+//!   a `usize` of 32 or 64 bits and Rust 1.81. With 32 bits a call panics for more than a quarter of
+//!   the address space.
 //! - Feature `bundled`: compiles the library with the C compiler, even if one is installed.
 //! - Feature `dynamic`: on Linux, links `libdethrux.so` instead of `libdethrux.a`, unless the
 //!   feature `bundled` compiles the library. On other systems the build refuses `dynamic`, unless
@@ -56,7 +60,7 @@
 #![warn(missing_debug_implementations)]
 #![cfg_attr(not(feature = "std"), allow(rustdoc::broken_intra_doc_links))]
 
-#[cfg(feature = "alloc")]
+#[cfg(any(feature = "alloc", dethrux_pure))]
 extern crate alloc;
 #[cfg(feature = "std")]
 extern crate std;
@@ -73,6 +77,9 @@ mod inspect;
 #[cfg(feature = "std")]
 pub mod io;
 mod order;
+#[cfg(dethrux_pure)]
+#[clippy::msrv = "1.81"]
+mod proved;
 mod stream;
 #[cfg(feature = "alloc")]
 mod text;
@@ -116,14 +123,14 @@ pub fn version() -> (u32, u32, u32) {
 }
 
 /// Returns which code the library runs, for bug reports and benchmarks: `x86-64-v2` or `x86-64-v3`,
-/// which are levels of x86-64, or `aarch64`.
+/// which are levels of x86-64, `aarch64`, or `rust` with the feature `pure`.
 ///
 /// It is `x86-64-v3` if the processor and the system have all of that level, such as AVX2. The
 /// result is the same for all calls of a process. The library that `rt` builds does not have this
 /// call.
 ///
 /// ```
-/// assert!(["x86-64-v2", "x86-64-v3", "aarch64"].contains(&dethrux::kernel()));
+/// assert!(["x86-64-v2", "x86-64-v3", "aarch64", "rust"].contains(&dethrux::kernel()));
 /// ```
 #[must_use]
 pub fn kernel() -> &'static str {

@@ -199,7 +199,7 @@ struct Conversion {
 
 macro_rules! calls {
     (
-        conversions { $($name:ident($from:ident: $From:ty) -> $to:ident: $To:ty;)* }
+        conversions { $($name:ident($from:ident: $From:ty) -> $to:ident: $To:ty = $call:ident;)* }
         others $others:tt
     ) => {
         const CONVERSIONS: &[Conversion] = &[$(Conversion {

@@ -249,5 +249,5 @@ fn the_kernel_is_that_of_the_processor() {
     };
     #[cfg(not(target_arch = "x86_64"))]
     let name = std::env::consts::ARCH;
-    assert_eq!(kernel(), name);
+    assert_eq!(kernel(), if cfg!(feature = "pure") { "rust" } else { name });
 }

@@ -1,0 +1,84 @@
+// packaging/erase wrote this from crates/dethrux/src/to_utf8.rt: do not edit it.
+//! From UTF-16 to UTF-8, and before it the length and how often it replaces.
+
+use crate::proved::dethrux::byte_order::in_order;
+use crate::proved::dethrux::results::{progress_of, Progress};
+use crate::proved::utf16_transcode::{
+    to_utf8, to_utf8_lossy, to_utf8_lossy_len, to_utf8_partial, to_utf8_replacements,
+};
+
+/// Returns the length in bytes of what `dethrux_to_utf8_lossy` writes for the whole input: at most
+/// three for each code unit, and three for an odd byte at the end. Two passes.
+///
+/// Proved:
+///
+/// - ensures len: `result ≡ length (encode_utf8_all (lossy_text (is_big byte_order) utf16.now))`
+/// - ensures most: `result ≤ (length utf16.now + 1) / 2 * 3`
+pub fn dethrux_to_utf8_lossy_len(byte_order: u32, utf16: &[u8]) -> usize {
+    in_order!(byte_order, to_utf8_lossy_len(utf16))
+}
+
+/// Returns how many U+FFFD `dethrux_to_utf8_lossy` writes for ill-formed sequences of the whole
+/// input: 0 exactly if the input is well formed. A U+FFFD of the input does not count. In linear
+/// time.
+///
+/// Proved:
+///
+/// - ensures count: `result ≡ ill_formed_count (is_big byte_order) utf16.now`
+/// - ensures well_formed: `(result ≡ 0) ↔ IsUtf16 (is_big byte_order) utf16.now`
+pub fn dethrux_to_utf8_replacements(byte_order: u32, utf16: &[u8]) -> usize {
+    in_order!(byte_order, to_utf8_replacements(utf16))
+}
+
+/// Converts UTF-16 to UTF-8, up to the first ill-formed sequence or as far as whole characters fit.
+/// An ill-formed sequence and an incomplete character are not read. With status 3 the next
+/// character does not fit: call again with the rest. The bytes after the written ones may have been
+/// overwritten. In time linear in what is read.
+///
+/// Proved:
+///
+/// - ensures wrote: `Writes (TranscodesToUtf8 (is_big byte_order)) utf16.now to.new result.read
+///   result.written`
+/// - ensures stop: `StopsDecoding (is_big byte_order) utf16.now result.read (length to.new -
+///   result.written) (stop_of result)`
+/// - ensures succeeds: `length utf16.now / 2 * 3 ≤ length to.new → stop_of result ≢ NoSpace`
+/// - ensures numbers: `AreNumbers result.status result.error_len`
+pub fn dethrux_to_utf8(byte_order: u32, utf16: &[u8], to: &mut [u8]) -> Progress {
+    in_order!(byte_order, to_utf8(utf16, to) => progress_of)
+}
+
+/// Converts UTF-16 to UTF-8 like `dethrux_to_utf8`, and replaces each unpaired surrogate, and an
+/// incomplete character at the end, by U+FFFD. The status is 0, or 3 if the next character or
+/// U+FFFD does not fit: call again with the rest. It is 0 with a capacity of three bytes for each
+/// code unit, and three for an odd byte at the end.
+///
+/// Proved:
+///
+/// - ensures shown: `WritesWhole (lossy_text (is_big byte_order)) encode_utf8 utf16.now to.new
+///   result.read result.written`
+/// - ensures stop: `StopsLossyWhole (lossy_text (is_big byte_order)) encode_utf8 (drop result.read
+///   utf16.now) (length to.new - result.written) (stop_of result)`
+/// - ensures between: `stop_of result ≡ NoSpace → DecodesTo (is_big byte_order) utf16.now to.new
+///   result.read result.written`
+/// - ensures succeeds: `(length utf16.now + 1) / 2 * 3 ≤ length to.new → stop_of result ≡ Done`
+/// - ensures numbers: `AreNumbers result.status result.error_len`
+pub fn dethrux_to_utf8_lossy(byte_order: u32, utf16: &[u8], to: &mut [u8]) -> Progress {
+    progress_of(in_order!(byte_order, to_utf8_lossy(utf16, to)))
+}
+
+/// Converts the next chunk of a stream like `dethrux_to_utf8_lossy`, but does not read an
+/// incomplete character at the end, which more bytes may complete: in that case the status is 2.
+///
+/// Proved:
+///
+/// - ensures decodes: `DecodesTo (is_big byte_order) utf16.now to.new result.read result.written`
+/// - ensures stop: `StopsLossy (is_big byte_order) (drop result.read utf16.now) (length to.new -
+///   result.written) (stop_of result)`
+/// - ensures succeeds: `length utf16.now / 2 * 3 ≤ length to.new → stop_of result ≢ NoSpace`
+/// - ensures filled: `stop_of result ≡ NoSpace → length to.new < result.written + 4`
+/// - ensures advances: `4 ≤ length to.new → decided_text (is_big byte_order) utf16.now ≢ [] → 0 <
+///   result.read`
+/// - ensures numbers: `AreNumbers result.status result.error_len`
+pub fn dethrux_to_utf8_partial(byte_order: u32, utf16: &[u8], to: &mut [u8]) -> Progress {
+    progress_of(in_order!(byte_order, to_utf8_partial(utf16, to)))
+}

@@ -1,0 +1,58 @@
+// packaging/erase wrote this from crates/dethrux/src/wtf8_encoder.rt: do not edit it.
+//! An encoder of WTF-8 in UTF-16 for C, whose state is in memory that the caller owns.
+
+use crate::proved::dethrux::byte_order::in_order;
+use crate::proved::dethrux::results::{progress_of, Progress};
+use crate::proved::utf16_wtf8::Wtf8Stream;
+
+/// Encodes the next chunk of a stream of WTF-8 in UTF-16, as far as whole characters fit and up to
+/// the first ill-formed sequence, which begins with the bytes that are still pending. `read` counts
+/// bytes of the chunk. Any bytes are allowed in the state; afterwards at most six are pending. With
+/// status 3 the next character does not fit, or the leading surrogate that would be pending. In
+/// time linear in what is read.
+///
+/// Proved:
+///
+/// - ensures feeds: `FeedsWtf8 (is_big byte_order) (wtf8_pending encoder.old) chunk.now
+///   (wtf8_pending encoder.new) to.new result.read result.written`
+/// - ensures stop: `StopsFeedingWtf8 (is_big byte_order) (wtf8_pending encoder.old) chunk.now
+///   (wtf8_pending encoder.new) result.read (length to.new - result.written) (stop_of result)`
+/// - ensures fits: `stop_of result ≡ Done → LeavesLeading (wtf8_pending encoder.old ++ chunk.now)
+///   (encoded_len (wtf8_pending encoder.old) (wtf8_pending encoder.new) result.read) → 2 ≤ length
+///   to.new - result.written`
+/// - ensures few: `encoder.new.len ≤ 6`
+/// - ensures succeeds: `2 * (length (wtf8_pending encoder.old) + length chunk.now) ≤ length to.new
+///   → stop_of result ≢ NoSpace`
+/// - ensures filled: `stop_of result ≡ NoSpace → length to.new < result.written + 4`
+/// - ensures numbers: `AreNumbers result.status result.error_len`
+pub fn dethrux_wtf8_encoder_feed(
+    encoder: &mut Wtf8Stream,
+    byte_order: u32,
+    chunk: &[u8],
+    to: &mut [u8],
+) -> Progress {
+    progress_of(in_order!(byte_order, encoder.feed(chunk, to)))
+}
+
+/// Ends a stream of WTF-8: writes the pending bytes in UTF-16, like `dethrux_from_wtf8`. `read`
+/// counts the pending bytes that were written. With status 3 a character does not fit, and only the
+/// bytes before it are no longer pending; otherwise a new stream begins.
+///
+/// Proved:
+///
+/// - ensures wrote: `Writes (TranscodesFromWtf8 (is_big byte_order)) (wtf8_pending encoder.old)
+///   to.new result.read result.written`
+/// - ensures stop: `StopsFromWtf8 (is_big byte_order) (wtf8_pending encoder.old) result.read
+///   (length to.new - result.written) (stop_of result)`
+/// - ensures ended: `stop_of result ≢ NoSpace → wtf8_pending encoder.new ≡ []`
+/// - ensures left: `stop_of result ≡ NoSpace → wtf8_pending encoder.new ≡ drop result.read
+///   (wtf8_pending encoder.old)`
+/// - ensures few: `encoder.new.len ≤ 6`
+/// - ensures numbers: `AreNumbers result.status result.error_len`
+pub fn dethrux_wtf8_encoder_finish(
+    encoder: &mut Wtf8Stream,
+    byte_order: u32,
+    to: &mut [u8],
+) -> Progress {
+    progress_of(in_order!(byte_order, encoder.finish(to)))
+}

@@ -1,0 +1,128 @@
+// packaging/erase wrote this from crates/utf16_transcode/src/decode_lossy.rt: do not edit it.
+//! Lossy conversion of UTF-16 to UTF-8, with U+FFFD for each ill-formed sequence.
+//!
+//! Ill-formed sequences are often near each other. So 1,024 bytes are copied, made well formed
+//! (`well_formed.rt`) and converted with SIMD. 128 bytes of ASCII or more are written without a
+//! copy (`ascii.rt`): with one, ASCII with a sequence in each 100 bytes takes 2.5 times as long.
+//! Into fewer than 512 bytes U+FFFD is written directly.
+
+use crate::proved::utf16_to_utf8::{put, write_utf8, SLACK};
+use crate::proved::utf16_transcode::ascii::write_lossy_ascii_blocks;
+use crate::proved::utf16_transcode::decode::ToUtf8;
+use crate::proved::utf16_transcode::lossy_direction::LossyDirection;
+use crate::proved::utf16_transcode::lossy_transcoding::{transcode_lossy, transcode_partial};
+use crate::proved::utf16_transcode::progress::Progress;
+use crate::proved::utf16_transcode::replacement::REPLACEMENT;
+use crate::proved::utf16_transcode::stream::FEED_SLACK;
+use crate::proved::utf16_transcode::well_formed::write_well_formed;
+use crate::proved::utf16_units::{Moved, Utf16Order};
+
+// The shortest run of ASCII with ill-formed sequences, in bytes, that is written without a copy.
+const ASCII_LEN: usize = 128;
+
+/// Writes the text of the bytes in UTF-8 to the start of a buffer, as far as whole characters fit,
+/// with U+FFFD for each unpaired surrogate. An incomplete character at the end is not read. Any
+/// bytes are allowed. Bytes of the buffer after the written ones may have been overwritten.
+///
+/// # Complexity
+///
+/// Linear time in the number of bytes read.
+///
+/// Proved:
+///
+/// - ensures decodes: `DecodesTo E.BIG raw.now to.new result.read result.written`
+/// - ensures stop: `StopsLossy E.BIG (drop result.read raw.now) (length to.new - result.written)
+///   result.stop`
+pub fn to_utf8_partial<E: Utf16Order>(raw: &[u8], to: &mut [u8]) -> Progress {
+    transcode_partial::<ToUtf8<E>>(raw, to)
+}
+
+/// Writes the whole text of UTF-16 in UTF-8 to the start of a buffer, as far as whole characters
+/// fit, with U+FFFD for each unpaired surrogate and one for an incomplete character at the end. Any
+/// bytes are allowed. Bytes of the buffer after the written ones may have been overwritten.
+///
+/// # Complexity
+///
+/// Linear time in the number of bytes read.
+///
+/// Proved:
+///
+/// - ensures shown: `WritesWhole (lossy_text E.BIG) encode_utf8 raw.now to.new result.read
+///   result.written`
+/// - ensures stop: `StopsLossyWhole (lossy_text E.BIG) encode_utf8 (drop result.read raw.now)
+///   (length to.new - result.written) result.stop`
+/// - ensures between: `result.stop ≡ NoSpace → DecodesTo E.BIG raw.now to.new result.read
+///   result.written`
+pub fn to_utf8_lossy<E: Utf16Order>(raw: &[u8], to: &mut [u8]) -> Progress {
+    transcode_lossy::<ToUtf8<E>>(raw, to)
+}
+
+impl<E: Utf16Order> LossyDirection for ToUtf8<E> {
+    type Text = Self;
+
+    #[inline(always)]
+    fn lossy_laws() {}
+
+    #[inline(always)]
+    fn write_ill_formed(input: &[u8], len: u8, to: &mut [u8]) -> Option<Moved> {
+        if to.len() >= FEED_SLACK {
+            return Some(write_with_replacements::<E>(input, to));
+        }
+        if to.len() < REPLACEMENT.len() {
+            return None;
+        }
+        Some(Moved {
+            read: len as usize,
+            written: put(&REPLACEMENT, to, 0),
+        })
+    }
+
+    #[inline(always)]
+    fn write_end(tail: &[u8], to: &mut [u8], at: usize) -> Option<usize> {
+        if tail.is_empty() {
+            return Some(at);
+        }
+        if to.len() - at < REPLACEMENT.len() {
+            return None;
+        }
+        Some(put(&REPLACEMENT, to, at))
+    }
+}
+
+// Writes the text of the next bytes to the start of a buffer, with U+FFFD for each unpaired
+// surrogate. Many bytes are written at once, since an ill-formed sequence is often followed by
+// others.
+//
+// Proved:
+//
+// - requires space: `FEED_SLACK ≤ length to.old`
+// - ensures decodes: `DecodesTo E.BIG raw.now to.new result.read result.written`
+// - ensures advances: `split_items E.BIG raw.now ≢ [] → 2 ≤ result.read`
+fn write_with_replacements<E: Utf16Order>(raw: &[u8], to: &mut [u8]) -> Moved {
+    if raw.len() >= ASCII_LEN {
+        let ascii = write_lossy_ascii_blocks::<E>(raw, to);
+        if ascii.read >= ASCII_LEN {
+            return ascii;
+        }
+    }
+    write_copied::<E>(raw, to)
+}
+
+// Writes the text of the next bytes to the start of a buffer: at most 1,024 bytes, and no more than
+// surely fit. They are first copied to the stack, with U+FFFD for each unpaired surrogate.
+//
+// Proved:
+//
+// - requires space: `FEED_SLACK ≤ length to.old`
+// - ensures decodes: `DecodesTo E.BIG raw.now to.new result.read result.written`
+// - ensures advances: `split_items E.BIG raw.now ≢ [] → 2 ≤ result.read`
+#[inline(never)]
+fn write_copied<E: Utf16Order>(raw: &[u8], to: &mut [u8]) -> Moved {
+    let mut copy = [0; 1024];
+    let most = ((to.len() - SLACK) / 3 * 2).min(copy.len()).min(raw.len());
+    let len = write_well_formed::<E>(&raw[..most], &mut copy);
+    Moved {
+        read: len,
+        written: write_utf8::<E>(&copy[..len], to),
+    }
+}
