@@ -56,7 +56,8 @@ lint() {
     local crate=$1
     [ -n "$lints" ] || return
     count "$crate: cargo fmt" cargo fmt --check --manifest-path "$here/$crate/Cargo.toml"
-    count "$crate: cargo clippy" on_crate "$crate" clippy --quiet --all-targets -- -D warnings
+    count "$crate: cargo clippy" on_crate "$crate" clippy --quiet --all-targets "${@:2}" -- \
+        -D warnings
 }
 
 test_dethrux() {
@@ -66,6 +67,18 @@ test_dethrux() {
     count 'dethrux over the proved source' on_crate dethrux test --features pure
     count 'the documentation of dethrux' documented dethrux doc --no-deps
     lint dethrux
+    lint dethrux --features pure
+    [ -z "$lints" ] || count 'rustfmt of what is by hand in dist/rust' \
+        rustfmt --edition 2021 --check "$top"/dist/rust/{byteorder,kit,simd/mod}.rs
+}
+
+# The proved source without vectors, which is optimized because arrays are slow, and keeps its
+# checks, and with AVX2 if this processor has it.
+test_instructions() {
+    RUSTFLAGS='--cfg dethrux_arrays' CARGO_PROFILE_TEST_OPT_LEVEL=1 CARGO_TARGET_DIR=$room/arrays \
+        on_crate dethrux test --test proved || return
+    ! grep -qw avx2 /proc/cpuinfo || RUSTFLAGS=-Ctarget-cpu=x86-64-v3 CARGO_TARGET_DIR=$room/v3 \
+        on_crate dethrux test --test proved
 }
 
 # The tests over the shared library.
@@ -252,11 +265,10 @@ fails() {
     ! "$@"
 }
 
-# The tests of an empty project that takes dethrux from a folder, with the feature bundled and
-# without rt.
-test_bundled() {
-    local project=$room/bundled
-    begin "$project" "dethrux = { path = '$1', features = ['bundled'] }"
+# The tests of an empty project that takes dethrux from a folder, with a feature and without rt.
+test_alone() {
+    local project=$room/alone_with_$2
+    begin "$project" "dethrux = { path = '$1', features = ['$2'] }"
     cat > "$project/src/lib.rs" << 'END'
 #[test]
 fn decodes() {
@@ -312,6 +324,13 @@ links_for_windows() {
         "$room/made/libdethrux.a" -o "$room/units.exe"
 }
 
+# Whether the build script has the crate compile the proved source for a target.
+takes_source() {
+    run_build_script "$1" > "$room/said.txt" &&
+        grep -qxF 'cargo:rustc-cfg=dethrux_pure' "$room/said.txt" &&
+        grep -qF '/dist/rust/dethrux/mod.rs"]' "$room/made/proved.rs"
+}
+
 # Whether the build script refuses a target with a line.
 refuses_target() {
     ! run_build_script "$1" > "$room/said.txt" 2> "$room/line" && diff "$room/line" - <<< "error: $2"
@@ -320,11 +339,8 @@ refuses_target() {
 # Targets without assembly.
 test_other_targets() {
     local target said
-    said='build for one of x86_64-unknown-linux-{gnu,musl}, aarch64-unknown-linux-{gnu,musl},'
-    said+=' x86_64-pc-windows-gnu, x86_64-apple-darwin, aarch64-apple-darwin, or set'
-    said+=' DETHRUX_LIB_DIR to the folder of a libdethrux.a for this target'
-    for target in x86_64-pc-windows-msvc riscv64gc-unknown-linux-gnu; do
-        count "$target" refuses_target $target "there is no assembly for $target: $said"
+    for target in x86_64-pc-windows-msvc riscv64gc-unknown-linux-gnu wasm32-unknown-unknown; do
+        count "$target" takes_source $target
     done
     for target in {x86_64,aarch64}-apple-darwin x86_64-pc-windows-gnu; do
         said='the feature `dynamic` is only for Linux: turn it off, or turn `bundled` on, to link'
@@ -381,15 +397,19 @@ if [ $failed = 0 ]; then
     printf '[source.crates-io]\nreplace-with = "debian"\n[source.debian]\ndirectory = "%s"\n' \
         "$registry" > "$room/.cargo/config.toml"
     test_dethrux
+    count 'the proved source with other instructions' test_instructions
     count 'dethrux over the shared library' test_dynamic
     test_utf16string
     count 'the page docs/RUST.md' test_page
     host=$(rustc -vV | sed -n 's/^host: //p')
     test_build_script
     mkdir "$room/bin" && ln -s "$(command -v cargo)" "$(command -v rustc)" "$room/bin"
-    count 'an empty project with the crate of the clone' test_bundled "$here/dethrux"
     count 'the package' package
-    count 'an empty project with the package' test_bundled "$room/dethrux-$(< "$top/VERSION")"
+    for feature in bundled pure; do
+        count "an empty project with the crate and $feature" test_alone "$here/dethrux" $feature
+        count "an empty project with the package and $feature" \
+            test_alone "$room/dethrux-$(< "$top/VERSION")" $feature
+    done
     test_targets
 fi
 echo "$passed passed, $failed failed"

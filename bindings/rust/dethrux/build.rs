@@ -34,8 +34,9 @@ const TARGETS: [(&str, &[&str]); 5] = [
     ("aarch64-apple-darwin", &["macos-aarch64.s"]),
 ];
 
-/// The modules of the proved source that the calls need.
-const MODULES: [&str; 11] = [
+/// The modules of the proved source that the calls need, and those that only the tests use.
+const MODULES: [&str; 12] = [
+    "byteorder",
     "dethrux",
     "kit",
     "simd",
@@ -48,6 +49,7 @@ const MODULES: [&str; 11] = [
     "utf16_wtf8",
     "utf8_bytes",
 ];
+const TESTED: [&str; 2] = ["utf16_str", "utf16string"];
 
 /// The options of gcc's assembler and of clang that move branches which cross or end a block of 32
 /// bytes. On processors from Skylake to Cascade Lake these slow their loops down.
@@ -83,6 +85,8 @@ fn provide() -> Result<(), String> {
     if is_set("CARGO_FEATURE_PURE") {
         return translate(&dist.unwrap_or_default());
     }
+    // Only the tests need the source in a crate that links a library.
+    let _ = dist.as_deref().map(list_modules);
     let is_bundled = is_set("CARGO_FEATURE_BUNDLED");
     let target = env::var("TARGET").unwrap_or_default();
     let is_native = env::var("HOST").as_ref() == Ok(&target);
@@ -156,23 +160,29 @@ fn version_of(library: &Path) -> Option<String> {
         .filter(|it| !it.is_empty())
 }
 
-/// Says where the modules of the proved source are, which the crate compiles instead of a library.
-fn translate(dist: &Path) -> Result<(), String> {
+/// Writes where the modules of the proved source are.
+fn list_modules(dist: &Path) -> Result<(), String> {
     let mut lines = String::new();
-    for name in MODULES {
+    for name in MODULES.iter().chain(&TESTED) {
         let folder = dist.join("rust").join(name);
-        let paths = [folder.join("mod.rs"), folder.with_extension("rs")];
-        let path = paths.iter().find(|path| path.is_file()).ok_or_else(|| {
-            format!(
-                "there is no {}: take a whole clone or package",
-                folder.display()
-            )
+        let mut paths = [folder.join("mod.rs"), folder.with_extension("rs")].into_iter();
+        let path = paths.find(|path| path.is_file()).ok_or_else(|| {
+            let folder = folder.display();
+            format!("there is no {folder}: take a whole clone, or the package of a release")
         })?;
+        if TESTED.contains(name) {
+            lines += "#[cfg(test)]\n";
+        }
         lines += &format!("#[path = {path:?}]\npub(crate) mod {name};\n");
     }
     let to = PathBuf::from(env::var_os("OUT_DIR").unwrap_or_default()).join("proved.rs");
-    println!("cargo:rustc-cfg=dethrux_pure");
     fs::write(&to, lines).map_err(|error| format!("{}: {error}", to.display()))
+}
+
+/// Has the crate compile the proved source instead of a library.
+fn translate(dist: &Path) -> Result<(), String> {
+    println!("cargo:rustc-cfg=dethrux_pure");
+    list_modules(dist)
 }
 
 /// Compiles the assembly for the target, and links it. If there is none, the crate compiles the

@@ -4,10 +4,13 @@
 //! A vector is an array. An operation takes and makes it in registers of `arch`: each has `Narrow`,
 //! of 16 bytes, and `Wide`, which is the widest.
 
-#[cfg(target_arch = "x86_64")]
+// With the cfg `dethrux_arrays` there are no instructions, for tests and for Miri.
+#![allow(unexpected_cfgs)]
+
+#[cfg(all(target_arch = "x86_64", not(dethrux_arrays)))]
 #[path = "x86_64.rs"]
 mod arch;
-#[cfg(not(target_arch = "x86_64"))]
+#[cfg(any(not(target_arch = "x86_64"), dethrux_arrays))]
 #[path = "arrays.rs"]
 mod arch;
 
@@ -356,7 +359,8 @@ macro_rules! lanes {
             /// Returns the lanes of `a` where this is all ones, and else those of `b`.
             #[inline(always)]
             pub fn select(self, a: Simd<$T, N>, b: Simd<$T, N>) -> Simd<$T, N> {
-                b ^ (Simd(self.0) & (a ^ b))
+                let mask = Simd(self.0);
+                (mask & a) | (!mask & b)
             }
         }
 

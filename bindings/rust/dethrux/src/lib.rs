@@ -28,10 +28,9 @@
 //!   a `Vec`.
 //! - Feature `std`, the default: [`io::Reader`], strict and lossy, and [`io::Writer`]; `Error` for
 //!   the errors, and their conversions to `std::io::Error`.
-//! - Feature `pure`: compiles the proved source, translated to Rust, and no library is needed. A
-//!   target without assembly has no other way, and takes it without the feature. It needs `alloc`,
-//!   a `usize` of 32 or 64 bits and Rust 1.81. With 32 bits a call panics for more than a quarter of
-//!   the address space.
+//! - Feature `pure`: compiles the proved source, translated to Rust, and no library is needed. On
+//!   targets without assembly this happens without the feature. It needs `alloc`, a `usize` of at
+//!   least 32 bits and Rust 1.81. With 32 bits a call panics for an input of more than 1 GiB.
 //! - Feature `bundled`: compiles the library with the C compiler, even if one is installed.
 //! - Feature `dynamic`: on Linux, links `libdethrux.so` instead of `libdethrux.a`, unless the
 //!   feature `bundled` compiles the library. On other systems the build refuses `dynamic`, unless

@@ -8,6 +8,6 @@
 #![allow(clippy::all, rustdoc::all)]
 #![warn(clippy::incompatible_msrv)]
 
-pub(crate) use ::{byteorder, memchr, simdutf8};
+pub(crate) use ::{memchr, simdutf8};
 
 include!(concat!(env!("OUT_DIR"), "/proved.rs"));
