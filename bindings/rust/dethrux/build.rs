@@ -62,7 +62,7 @@ fn main() {
     println!("cargo:rerun-if-changed=build.rs");
     println!("cargo:rerun-if-env-changed=DOCS_RS");
     println!("cargo:rerun-if-env-changed=DETHRUX_LIB_DIR");
-    println!("cargo:rustc-check-cfg=cfg(dethrux_pure)");
+    println!("cargo:rustc-check-cfg=cfg(dethrux_pure, dethrux_arrays)");
     if is_set("DOCS_RS") || is_set("CARGO_CFG_DOCSRS") {
         return;
     }

@@ -5,13 +5,19 @@
 //! of 16 bytes, and `Wide`, which is the widest.
 
 // With the cfg `dethrux_arrays` there are no instructions, for tests and for Miri.
-#![allow(unexpected_cfgs)]
-
-#[cfg(all(target_arch = "x86_64", not(dethrux_arrays)))]
-#[path = "x86_64.rs"]
-mod arch;
-#[cfg(any(not(target_arch = "x86_64"), dethrux_arrays))]
-#[path = "arrays.rs"]
+#[cfg_attr(all(not(dethrux_arrays), target_arch = "x86_64"), path = "x86_64.rs")]
+#[cfg_attr(
+    all(not(dethrux_arrays), target_arch = "aarch64", target_feature = "neon"),
+    path = "aarch64.rs"
+)]
+#[cfg_attr(
+    all(
+        not(dethrux_arrays),
+        target_arch = "wasm32",
+        target_feature = "simd128"
+    ),
+    path = "wasm32.rs"
+)]
 mod arch;
 
 use arch::{Narrow, Wide};

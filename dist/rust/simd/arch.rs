@@ -1,4 +1,4 @@
-//! Registers that are arrays, for any target.
+//! Registers that are arrays, for a target that has no other module.
 
 use super::{Half, Register};
 
