@@ -3,6 +3,7 @@
 
 use alloc::string::String as Text;
 use alloc::vec::Vec as Items;
+use core::alloc::Layout;
 use core::fmt;
 use core::ops::{Deref, DerefMut};
 
@@ -30,6 +31,29 @@ pub trait Allocator {}
 pub struct Global;
 
 impl Allocator for Global {}
+
+/// Returns two bytes in a row.
+#[inline(always)]
+pub fn two(bytes: &[u8], at: usize) -> [u8; 2] {
+    bytes[at..at + 2].try_into().expect("two bytes")
+}
+
+/// Returns an empty vector with a capacity. It is faster than `try_reserve_exact`.
+#[inline]
+fn allocate<T>(capacity: usize) -> Result<Items<T>, AllocError> {
+    let layout = Layout::array::<T>(capacity).map_err(|_| AllocError)?;
+    if layout.size() == 0 {
+        return Ok(Items::new());
+    }
+    // SAFETY: the layout has a size, and is the one with which a vector frees its memory.
+    unsafe {
+        let items = alloc::alloc::alloc(layout).cast::<T>();
+        if items.is_null() {
+            return Err(AllocError);
+        }
+        Ok(Items::from_raw_parts(items, 0, capacity))
+    }
+}
 
 /// Types whose values can be copied, which may fail.
 pub trait Clone: Sized {
@@ -118,9 +142,8 @@ impl<T, A: Allocator> Vec<T, A> {
 
     #[inline]
     pub fn with_capacity(alloc: A, capacity: usize) -> Result<Self, AllocError> {
-        let mut vec = Self::new(alloc);
-        vec.reserve_exact(capacity)?;
-        Ok(vec)
+        let items = allocate(capacity)?;
+        Ok(Vec { items, alloc })
     }
 
     #[inline]
@@ -138,6 +161,12 @@ impl<T, A: Allocator> Vec<T, A> {
         &mut self.items
     }
 
+    /// Returns Rust's vector.
+    #[inline]
+    pub fn as_mut_vec(&mut self) -> &mut Items<T> {
+        &mut self.items
+    }
+
     #[inline]
     pub fn reserve(&mut self, additional: usize) -> Result<(), AllocError> {
         self.items.try_reserve(additional).map_err(|_| AllocError)
@@ -149,10 +178,13 @@ impl<T, A: Allocator> Vec<T, A> {
         reserved.map_err(|_| AllocError)
     }
 
-    /// Appends an item for which there is capacity.
+    /// Appends an item for which there is capacity. Unlike `push` it has no code that allocates.
     #[inline]
     pub fn push_reserved(&mut self, item: T) {
-        self.items.push(item);
+        self.items.spare_capacity_mut()[0].write(item);
+        let len = self.items.len() + 1;
+        // SAFETY: the item is written.
+        unsafe { self.items.set_len(len) };
     }
 
     #[inline]

@@ -24,7 +24,8 @@ pub fn is_char_boundary<E: Utf16Order>(utf16: &[u8], at: usize) -> bool {
     if at < 2 || !is_leading_surrogate(E::read_unit([utf16[at - 2], utf16[at - 1]])) {
         return true;
     }
-    at + 2 <= utf16.len() && !is_trailing_surrogate(E::read_unit([utf16[at], utf16[at + 1]]))
+    at + 2 <= utf16.len()
+        && !is_trailing_surrogate(E::read_unit(crate::proved::kit::two(utf16, at)))
 }
 
 /// Returns the greatest boundary at or before an offset, as defined by `is_char_boundary`: at most

@@ -133,7 +133,7 @@ fn units_before_nul<const N: usize>(units: Simd<u16, N>) -> usize {
 fn nul_in_few(units: &[u8]) -> usize {
     let mut at = 0;
     while at < units.len() {
-        if LE::read_unit([units[at], units[at + 1]]) == 0 {
+        if LE::read_unit(crate::proved::kit::two(units, at)) == 0 {
             return at;
         }
         at += 2;

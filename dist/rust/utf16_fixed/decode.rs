@@ -89,7 +89,7 @@ fn write_run<E: Utf16Order>(raw: &[u8], to: &mut [u32], from: Moved) -> Moved {
 // - requires `2 ≤ length rest.now`
 #[inline(always)]
 fn is_surrogate<E: Utf16Order>(rest: &[u8]) -> bool {
-    E::read_unit([rest[0], rest[1]]) / 0x800 == 0x1B
+    E::read_unit(crate::proved::kit::two(rest, 0)) / 0x800 == 0x1B
 }
 
 // Writes blocks of eight surrogate pairs, up to another code unit in one.

@@ -59,7 +59,7 @@ fn stop_before<E: Utf16Order>(rest: &[u8]) -> Latin1Stop {
         Err(Some(len)) => Latin1Stop::IllFormed(len),
         Err(None) => Latin1Stop::Incomplete,
         Ok(_) => {
-            if E::read_unit([rest[0], rest[1]]) < 0x100 {
+            if E::read_unit(crate::proved::kit::two(rest, 0)) < 0x100 {
                 Latin1Stop::NoSpace
             } else {
                 Latin1Stop::NotLatin1

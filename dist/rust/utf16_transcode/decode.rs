@@ -237,7 +237,7 @@ fn write_short_rest<E: Utf16Order>(raw: &[u8], to: &mut [u8], from: Moved) -> Mo
 // - ensures unchanged: `result ≡ None → to.new ≡ to.old`
 #[inline(always)]
 fn write_plain_unit<E: Utf16Order>(rest: &[u8], to: &mut [u8], at: usize) -> Option<usize> {
-    let unit = E::read_unit([rest[0], rest[1]]);
+    let unit = E::read_unit(crate::proved::kit::two(rest, 0));
     if unit < 0x80 {
         return Some(put_char(plain_first_char::<E>(rest), to, at));
     }
@@ -261,7 +261,7 @@ fn write_plain_unit<E: Utf16Order>(rest: &[u8], to: &mut [u8], at: usize) -> Opt
 // - ensures one: `result < 0x1_0000`
 #[inline(always)]
 fn plain_first_char<E: Utf16Order>(rest: &[u8]) -> char {
-    let unit = E::read_unit([rest[0], rest[1]]);
+    let unit = E::read_unit(crate::proved::kit::two(rest, 0));
     unsafe { char::from_u32_unchecked(unit as u32) }
 }
 

@@ -103,8 +103,8 @@ fn differing<const N: usize>(first: &[u8], second: &[u8], at: usize) -> u64 {
 fn compare_units<E: Utf16Order>(first: &[u8], second: &[u8], from: usize) -> Ordering {
     let mut at = from;
     while first.len() - at >= 2 && second.len() - at >= 2 {
-        let unit = E::read_unit([first[at], first[at + 1]]);
-        let other = E::read_unit([second[at], second[at + 1]]);
+        let unit = E::read_unit(crate::proved::kit::two(first, at));
+        let other = E::read_unit(crate::proved::kit::two(second, at));
         if unit != other {
             return rank(unit).cmp(&rank(other));
         }

@@ -43,7 +43,7 @@ pub fn count_chars<E: Utf16Order>(raw: &[u8]) -> usize {
 //
 // - requires `IsUtf16 E.BIG raw.now`
 // - ensures `result ≡ length (text_of E.BIG raw.now)`
-#[inline(never)]
+#[inline]
 fn count_few<E: Utf16Order>(raw: &[u8]) -> usize {
     let mut count = 0;
     let mut rest = raw;
@@ -74,7 +74,7 @@ pub fn trailing_units<E: Utf16Order>(raw: &[u8]) -> usize {
         at += BLOCK;
     }
     while raw.len() - at >= 2 {
-        trailing += is_trailing_surrogate(E::read_unit([raw[at], raw[at + 1]])) as usize;
+        trailing += is_trailing_surrogate(E::read_unit(crate::proved::kit::two(raw, at))) as usize;
         at += 2;
     }
     trailing
@@ -129,11 +129,11 @@ pub fn has_ascii_units<E: Utf16Order>(raw: &[u8]) -> bool {
 // Proved:
 //
 // - ensures `IsTrue result ↔ All (λ unit. unit < 0x80) (units_of E.BIG raw.now)`
-#[inline(never)]
+#[inline]
 fn has_few_ascii_units<E: Utf16Order>(raw: &[u8]) -> bool {
     let mut at = 0;
     while raw.len() - at >= 2 {
-        if E::read_unit([raw[at], raw[at + 1]]) >= 0x80 {
+        if E::read_unit(crate::proved::kit::two(raw, at)) >= 0x80 {
             return false;
         }
         at += 2;

@@ -37,7 +37,7 @@ pub fn is_trailing_surrogate(unit: u16) -> bool {
 /// - requires trailing: `IsTrailing u2`
 /// - ensures units: `encode_utf16 result ≡ u ∷ u2 ∷ []`
 /// - ensures code: `result ≡ surrogate_pair_char u u2`
-#[inline(never)]
+#[inline]
 pub fn decode_surrogates(u: u16, u2: u16) -> char {
     let code = 0x1_0000 + ((u - 0xD800) as u32 * 0x400 + (u2 - 0xDC00) as u32);
     unsafe { char::from_u32_unchecked(code) }

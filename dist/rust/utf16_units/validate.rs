@@ -282,7 +282,7 @@ pub fn first_char_len<E: Utf16Order>(rest: &[u8]) -> Result<usize, Option<u8>> {
     if rest.len() < 2 {
         return Err(None);
     }
-    let unit = E::read_unit([rest[0], rest[1]]);
+    let unit = E::read_unit(crate::proved::kit::two(rest, 0));
     // One test for all units that are not surrogates: the surrogates are from 0xD800 to 0xDFFF.
     if unit / 0x800 != 0x1B {
         return Ok(2);
@@ -293,7 +293,7 @@ pub fn first_char_len<E: Utf16Order>(rest: &[u8]) -> Result<usize, Option<u8>> {
     if rest.len() < 4 {
         return Err(None);
     }
-    if is_trailing_surrogate(E::read_unit([rest[2], rest[3]])) {
+    if is_trailing_surrogate(E::read_unit(crate::proved::kit::two(rest, 2))) {
         Ok(4)
     } else {
         Err(Some(2))

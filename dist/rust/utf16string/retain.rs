@@ -77,7 +77,7 @@ pub fn retain_in_place<E: Utf16Order, F: FnMut(char) -> bool>(
 // - ensures within: `at + 2 ≤ length bytes.now`
 #[inline]
 fn single_at<E: Utf16Order>(bytes: &[u8], at: usize) -> Option<char> {
-    let unit = E::read_unit([bytes[at], bytes[at + 1]]);
+    let unit = E::read_unit(crate::proved::kit::two(bytes, at));
     if is_leading_surrogate(unit) {
         None
     } else {
@@ -96,7 +96,7 @@ fn single_at<E: Utf16Order>(bytes: &[u8], at: usize) -> Option<char> {
 // - ensures within: `at + result.1 ≤ length bytes.now`
 #[inline]
 fn char_from<E: Utf16Order>(bytes: &[u8], at: usize) -> (char, usize) {
-    first_char::<E>(&bytes[at..])
+    first_char::<E>(&bytes[at..at + 4])
 }
 
 // Calls the predicate on the character at an index, and moves it down. Returns the end of the kept

@@ -33,7 +33,7 @@ use core::marker::PhantomData;
 /// counts as a failed allocation.
 
 pub struct WString<E: Utf16Order, A: Allocator = Global> {
-    raw: Vec<u8, A>,
+    pub(crate) raw: Vec<u8, A>,
     order: PhantomData<E>,
 }
 

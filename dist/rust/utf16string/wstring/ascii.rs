@@ -99,6 +99,6 @@ fn change_case<E: Utf16Order>(raw: &mut [u8], case: AsciiCase) {
 // - ensures rest: `drop (at + 2) raw.new ≡ drop (at + 2) raw.old`
 #[inline(always)]
 fn change_unit<E: Utf16Order>(raw: &mut [u8], at: usize, case: AsciiCase) {
-    let unit = E::read_unit([raw[at], raw[at + 1]]);
+    let unit = E::read_unit(crate::proved::kit::two(raw, at));
     write_unit::<E>(raw, at, case.of(unit));
 }
