@@ -20,7 +20,7 @@ tools=(
     gcc:gcc g++:g++ clang:clang clang++:clang lld-link:lld objcopy:binutils make:make cmake:cmake
     pkg-config:pkg-config cargo:cargo rustc:rustc cargo-fmt:rustfmt cargo-clippy:rust-clippy
     llvm-symbolizer:llvm libclang-rt-dev libicu-dev librust-byteorder-dev librust-cc-dev
-    librust-memchr-dev librust-pkg-config-dev librust-simdutf8-dev
+    librust-memchr-dev librust-pkg-config-dev librust-serde-dev librust-simdutf8-dev
     # Other platforms.
     aarch64-linux-gnu-gcc:gcc-aarch64-linux-gnu aarch64-linux-gnu-g++:g++-aarch64-linux-gnu
     libc6-dev-arm64-cross x86_64-w64-mingw32-gcc:gcc-mingw-w64-x86-64

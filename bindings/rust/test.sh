@@ -5,8 +5,8 @@
 # without the library, formatting and lints. With --tests it skips the last two. The last line is
 # 'N passed, M failed'. The library is what dist/Makefile builds, or is in the folder that
 # DETHRUX_LIB_DIR names. It needs cargo, cc, make, pkg-config, python3, and the crates cc,
-# pkg-config, byteorder, memchr and simdutf8 as Debian packages them. What is missing is a failure,
-# which names its Debian package.
+# pkg-config, byteorder, memchr, serde and simdutf8 as Debian packages them. What is missing is a
+# failure, which names its Debian package.
 set -uo pipefail
 here=$(cd "$(dirname "$0")" && pwd)
 top=$(cd "$here/../.." && pwd)
@@ -92,11 +92,10 @@ test_dynamic() {
 
 test_utf16string() {
     count 'utf16string' on_crate utf16string test
-    count 'utf16string without byteorder' on_crate utf16string test --no-default-features
+    count 'utf16string with pure and serde' on_crate utf16string test --features pure,serde --tests
     count 'a program of utf16string 0.2' test_patch
-    count 'a program of utf16string where there is no byteorder' test_without_byteorder
-    count 'the documentation of utf16string' documented utf16string doc --no-deps
-    lint utf16string
+    count 'the documentation of utf16string' documented utf16string doc --no-deps --features serde
+    lint utf16string --features serde
 }
 
 # Begins an empty project in a folder, with lines for its dependencies.
@@ -132,19 +131,6 @@ fn main() {
     println!("{}", shout(name).as_wstr());
 }
 END
-    [ "$(build_and_run "$project")" = 'hi!' ]
-}
-
-# A program of utf16string whose registry has only the crates of the build script.
-test_without_byteorder() {
-    local project=$room/alone/project
-    begin "$project" "utf16string = { path = '$here/utf16string', default-features = false }"
-    mkdir "$room/alone/.cargo" "$room/alone/registry"
-    ln -s "$registry"/{cc,pkg-config,memchr,simdutf8}-[0-9]* "$room/alone/registry"
-    sed "s|^directory.*|directory = '$room/alone/registry'|" "$room/.cargo/config.toml" \
-        > "$room/alone/.cargo/config.toml"
-    sed 's/^use byteorder::.*/use utf16string::{ByteOrder, LE};/' "$room/patched/src/main.rs" \
-        > "$project/src/main.rs"
     [ "$(build_and_run "$project")" = 'hi!' ]
 }
 
@@ -383,7 +369,7 @@ for pair in $lints cargo:cargo rustc:rustc cc:gcc ar:binutils make:make pkg-conf
     command -v "${pair%:*}" > /dev/null ||
         fail "there is no ${pair%:*}: apt-get install ${pair#*:}"
 done
-for crate in cc pkg-config byteorder memchr simdutf8; do
+for crate in cc pkg-config byteorder memchr serde simdutf8; do
     compgen -G "$registry/$crate-[0-9]*" > /dev/null ||
         fail "there is no crate $crate: apt-get install librust-$crate-dev"
 done

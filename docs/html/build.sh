@@ -34,7 +34,7 @@ site/build.py "$room/source/extra/see/index.html" ../index.html
 
 # A copy, since cargo writes a file next to a crate. A setting replaces the build script, which
 # needs the library.
-git ls-files -z bindings/rust | xargs -0 cp --parents -t "$room"
+git ls-files -z bindings/rust dist/rust | xargs -0 cp -P --parents -t "$room"
 host=$(rustc -vV | sed -n 's/^host: //p')
 settings=('source.crates-io.replace-with="debian"')
 settings+=('source.debian.directory="/usr/share/cargo/registry"')

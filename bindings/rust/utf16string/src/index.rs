@@ -1,41 +1,25 @@
-//! Slicing with brackets and with `get`. The ranges are Rust's; a call of `libdethrux` tests
-//! whether an offset is a boundary.
+//! Slicing with brackets and with `get`. The proved source says which bytes a range has.
 
 use std::ops::{Index, IndexMut, Range};
 use std::ops::{RangeFrom, RangeFull, RangeInclusive, RangeTo, RangeToInclusive};
 
-use crate::order::ByteOrder;
+use crate::proved::utf16_str;
+use crate::ByteOrder;
 use crate::{WStr, WString};
 
 mod private {
     use super::*;
 
-    pub trait SealedSliceIndex {
-        /// Returns where the range begins and ends in a string of `len` bytes, in bounds or not, or
-        /// `None` if its end is not a `usize`.
-        fn window(self, len: usize) -> Option<Range<usize>>;
-    }
+    pub trait SealedSliceIndex {}
 
-    macro_rules! windows {
-        ($($Range:ty: |$range:ident, $len:ident| $window:expr;)*) => {$(
-            impl SealedSliceIndex for $Range {
-                #[inline]
-                fn window(self, $len: usize) -> Option<Range<usize>> {
-                    let $range = self;
-                    $window
-                }
-            }
+    macro_rules! seal {
+        ($($Range:ty)*) => {$(
+            impl SealedSliceIndex for $Range {}
         )*};
     }
 
-    windows! {
-        RangeFull: |_range, len| Some(0..len);
-        Range<usize>: |range, _len| Some(range);
-        RangeFrom<usize>: |range, len| Some(range.start..len);
-        RangeTo<usize>: |range, _len| Some(0..range.end);
-        RangeInclusive<usize>: |range, _len| Some(*range.start()..range.end().checked_add(1)?);
-        RangeToInclusive<usize>: |range, _len| Some(0..range.end.checked_add(1)?);
-    }
+    seal!(RangeFull Range<usize> RangeFrom<usize> RangeTo<usize> RangeInclusive<usize>
+        RangeToInclusive<usize>);
 }
 
 /// A range of offsets, like [`std::slice::SliceIndex`]. The trait is sealed: only the ranges of
@@ -62,82 +46,74 @@ pub trait SliceIndex<T: ?Sized>: private::SealedSliceIndex {
     ///
     /// # Safety
     ///
-    /// [`get_mut`](SliceIndex::get_mut) would return `Some`.
+    /// [`get`](SliceIndex::get) would return `Some`.
     unsafe fn get_unchecked_mut(self, slice: &mut T) -> &mut Self::Output;
 
-    /// Returns the substring.
-    ///
-    /// # Panics
-    ///
-    /// Panics if [`get`](SliceIndex::get) would return `None`.
+    /// Returns the substring. Panics if [`get`](SliceIndex::get) would return `None`.
     fn index(self, slice: &T) -> &Self::Output;
 
-    /// Returns the substring, mutable.
-    ///
-    /// # Panics
-    ///
-    /// Panics if [`get_mut`](SliceIndex::get_mut) would return `None`.
+    /// Returns the substring, mutable. Panics if [`get`](SliceIndex::get) would return `None`.
     fn index_mut(self, slice: &mut T) -> &mut Self::Output;
 }
 
-/// Returns the window, or panics if there is none.
+/// Returns the bytes of a range in a string, in bounds or not, or panics if its end is no `usize`.
 #[inline]
-fn expect(window: Option<Range<usize>>) -> Range<usize> {
-    window.unwrap_or_else(|| panic!("index overflow"))
+fn window<E: ByteOrder>(range: impl utf16_str::SliceIndex<E>, text: &WStr<E>) -> Range<usize> {
+    let (start, end) = range
+        .window(text.len())
+        .unwrap_or_else(|| panic!("index overflow"));
+    start..end
 }
 
-/// Returns the window if it begins and ends at boundaries, and does not end before it begins.
+/// Returns the bytes of a range, or panics as brackets do if it is none of the string.
 #[inline]
-fn checked<E: ByteOrder>(window: Range<usize>, slice: &WStr<E>) -> Option<Range<usize>> {
-    let is_substring = window.start <= window.end
-        && slice.is_char_boundary(window.start)
-        && slice.is_char_boundary(window.end);
-    is_substring.then_some(window)
+pub(crate) fn part<E: ByteOrder>(
+    range: impl utf16_str::SliceIndex<E>,
+    text: &WStr<E>,
+) -> Range<usize> {
+    let window = window(range, text);
+    assert!(
+        text.get(window.clone()).is_some(),
+        "slice index out of bounds"
+    );
+    window
 }
 
-impl<I: private::SealedSliceIndex, E: 'static + ByteOrder> SliceIndex<WStr<E>> for I {
+impl<I, E: 'static + ByteOrder> SliceIndex<WStr<E>> for I
+where
+    I: private::SealedSliceIndex + utf16_str::SliceIndex<E>,
+{
     type Output = WStr<E>;
 
     #[inline]
-    fn get(self, slice: &WStr<E>) -> Option<&WStr<E>> {
-        let window = checked(self.window(slice.len())?, slice)?;
-        // SAFETY: both ends are boundaries, in this order.
-        Some(unsafe { window.get_unchecked(slice) })
-    }
-
-    #[inline]
-    fn get_mut(self, slice: &mut WStr<E>) -> Option<&mut WStr<E>> {
-        let window = checked(self.window(slice.len())?, slice)?;
-        // SAFETY: both ends are boundaries, in this order.
-        Some(unsafe { window.get_unchecked_mut(slice) })
-    }
-
-    #[inline]
     unsafe fn get_unchecked(self, slice: &WStr<E>) -> &WStr<E> {
-        let window = expect(self.window(slice.len()));
+        let window = window(self, slice);
         // SAFETY: the caller says that the range is a substring.
         unsafe { WStr::from_utf16_unchecked(slice.as_bytes().get_unchecked(window)) }
     }
 
     #[inline]
     unsafe fn get_unchecked_mut(self, slice: &mut WStr<E>) -> &mut WStr<E> {
-        let window = expect(self.window(slice.len()));
+        let window = window(self, slice);
         // SAFETY: the caller says that the range is a substring.
         unsafe { WStr::from_utf16_unchecked_mut(slice.as_bytes_mut().get_unchecked_mut(window)) }
     }
 
-    #[inline]
-    fn index(self, slice: &WStr<E>) -> &WStr<E> {
-        expect(self.window(slice.len()))
-            .get(slice)
-            .expect("slice index out of bounds")
-    }
-
-    #[inline]
-    fn index_mut(self, slice: &mut WStr<E>) -> &mut WStr<E> {
-        expect(self.window(slice.len()))
-            .get_mut(slice)
-            .expect("slice index out of bounds")
+    methods! {
+        fn get(self, slice: &WStr<E>) -> Option<&WStr<E>> = {
+            let (start, end) = self.window(slice.len())?;
+            slice.view().part(start, end).map(WStr::of)
+        };
+        fn get_mut(self, slice: &mut WStr<E>) -> Option<&mut WStr<E>> = {
+            let (start, end) = self.window(slice.len())?;
+            slice.view().part(start, end)?;
+            // SAFETY: the range is a substring.
+            Some(unsafe { (start..end).get_unchecked_mut(slice) })
+        };
+        fn index(self, slice: &WStr<E>) -> &WStr<E> =
+            window(self, slice).get(slice).expect("slice index out of bounds");
+        fn index_mut(self, slice: &mut WStr<E>) -> &mut WStr<E> =
+            window(self, slice).get_mut(slice).expect("slice index out of bounds");
     }
 }
 
@@ -146,16 +122,14 @@ macro_rules! index_by_ranges {
         impl<I: SliceIndex<WStr<E>>, E: ByteOrder> Index<I> for $Text<E> {
             type Output = I::Output;
 
-            #[inline]
-            fn index(&self, index: I) -> &I::Output {
-                index.index(self)
+            methods! {
+                fn index(&self, index: I) -> &I::Output = index.index(self);
             }
         }
 
         impl<I: SliceIndex<WStr<E>>, E: ByteOrder> IndexMut<I> for $Text<E> {
-            #[inline]
-            fn index_mut(&mut self, index: I) -> &mut I::Output {
-                index.index_mut(self)
+            methods! {
+                fn index_mut(&mut self, index: I) -> &mut I::Output = index.index_mut(self);
             }
         }
     )*};

@@ -1,131 +1,107 @@
-//! Iterators over characters. They read units of well-formed bytes in Rust, except `count`, which
-//! calls `libdethrux`.
-
+use std::fmt;
+use std::hint::assert_unchecked;
 use std::iter::FusedIterator;
 use std::marker::PhantomData;
 
-use crate::order::{byte_order, ByteOrder};
-use crate::utf16::{decode_surrogates, decode_unit, Utf16CharExt};
+use crate::proved::utf16_bytes::count_chars;
+use crate::proved::utf16_str;
+use crate::proved::utf16_units::{is_leading_surrogate, is_trailing_surrogate};
+use crate::ByteOrder;
 
 /// An iterator over the characters of a [`WStr`](crate::WStr), from both ends.
 /// [`WStr::chars`](crate::WStr::chars) returns it.
-#[derive(Debug)]
-pub struct WStrChars<'a, E: 'static + ByteOrder> {
-    rest: &'a [u8],
-    _endian: PhantomData<&'static E>,
-}
-
-impl<'a, E: ByteOrder> WStrChars<'a, E> {
-    /// Returns an iterator over the characters of well-formed bytes.
-    #[inline]
-    pub(crate) fn new(bytes: &'a [u8]) -> Self {
-        WStrChars {
-            rest: bytes,
-            _endian: PhantomData,
-        }
-    }
-
-    #[inline]
-    fn next_unit(&mut self) -> Option<u16> {
-        if self.rest.len() < 2 {
-            return None;
-        }
-        let (unit, rest) = self.rest.split_at(2);
-        self.rest = rest;
-        Some(E::read_u16(unit))
-    }
-
-    #[inline]
-    fn next_back_unit(&mut self) -> Option<u16> {
-        let (rest, unit) = self.rest.split_at(self.rest.len().checked_sub(2)?);
-        self.rest = rest;
-        Some(E::read_u16(unit))
-    }
-}
-
-impl<E: ByteOrder> Iterator for WStrChars<'_, E> {
-    type Item = char;
-
-    #[inline]
-    fn next(&mut self) -> Option<char> {
-        let unit = self.next_unit()?;
-        match decode_unit(unit) {
-            Some(character) => Some(character),
-            None => Some(decode_surrogates(unit, self.next_unit()?)),
-        }
-    }
-
-    #[inline]
-    fn count(self) -> usize {
-        dethrux::count_chars(byte_order::<E>(), self.rest)
-    }
-
-    #[inline]
-    fn last(mut self) -> Option<char> {
-        self.next_back()
-    }
-}
-
-impl<E: ByteOrder> DoubleEndedIterator for WStrChars<'_, E> {
-    #[inline]
-    fn next_back(&mut self) -> Option<char> {
-        let unit = self.next_back_unit()?;
-        match decode_unit(unit) {
-            Some(character) => Some(character),
-            None => Some(decode_surrogates(self.next_back_unit()?, unit)),
-        }
-    }
-}
-
-impl<E: ByteOrder> FusedIterator for WStrChars<'_, E> {}
+pub struct WStrChars<'a, E: 'static + ByteOrder>(pub(crate) utf16_str::WStrChars<'a, E>);
 
 /// An iterator over the characters of a [`WStr`](crate::WStr) and their offsets, from both ends.
 /// [`WStr::char_indices`](crate::WStr::char_indices) returns it.
-#[derive(Debug)]
-pub struct WStrCharIndices<'a, E: 'static + ByteOrder> {
-    chars: WStrChars<'a, E>,
-    offset: usize,
-}
+pub struct WStrCharIndices<'a, E: 'static + ByteOrder>(
+    pub(crate) utf16_str::WStrCharIndices<'a, E>,
+);
 
-impl<'a, E: ByteOrder> WStrCharIndices<'a, E> {
-    /// Returns an iterator over the characters of well-formed bytes.
-    #[inline]
-    pub(crate) fn new(bytes: &'a [u8]) -> Self {
-        WStrCharIndices {
-            chars: WStrChars::new(bytes),
-            offset: 0,
+/// Calls a function at two places, so that the compiler makes one code for a character of 2 bytes
+/// and one for a pair, without tests of bounds: well-formed bytes have an even length, and a pair
+/// has 4.
+macro_rules! by_length {
+    ($bytes:expr, $unit:expr, $is_pair:ident, $call:expr) => {{
+        let bytes: &[u8] = $bytes;
+        // SAFETY: the length is even.
+        unsafe { assert_unchecked(bytes.len() != 1) };
+        if bytes.is_empty() || !$is_pair(E::read_u16(&bytes[$unit(bytes.len())..])) {
+            $call
+        } else {
+            // SAFETY: no surrogate of a pair is alone.
+            unsafe { assert_unchecked(bytes.len() >= 4) };
+            $call
         }
+    }};
+}
+
+macro_rules! iterators {
+    ($($Name:ident $Item:ty;)*) => {$(
+        impl<E: ByteOrder> Iterator for $Name<'_, E> {
+            type Item = $Item;
+
+            methods! {
+                fn next(&mut self) -> Option<$Item> = {
+                    let bytes = self.0.as_wstr().as_bytes();
+                    by_length!(bytes, |_| 0, is_leading_surrogate, self.0.next())
+                };
+                fn count(self) -> usize = count_chars::<E>(self.0.as_wstr().as_bytes());
+                fn last(self) -> Option<$Item> = self.0.last();
+            }
+        }
+
+        impl<E: ByteOrder> DoubleEndedIterator for $Name<'_, E> {
+            methods! {
+                fn next_back(&mut self) -> Option<$Item> = {
+                    let bytes = self.0.as_wstr().as_bytes();
+                    by_length!(bytes, |len| len - 2, is_trailing_surrogate, self.0.next_back())
+                };
+            }
+        }
+
+        impl<E: ByteOrder> FusedIterator for $Name<'_, E> {}
+    )*};
+}
+
+iterators! {
+    WStrChars char;
+    WStrCharIndices (usize, char);
+}
+
+impl<E: ByteOrder> Clone for WStrChars<'_, E> {
+    #[inline]
+    fn clone(&self) -> Self {
+        WStrChars(self.0.as_wstr().chars())
     }
 }
 
-impl<E: ByteOrder> Iterator for WStrCharIndices<'_, E> {
-    type Item = (usize, char);
-
+impl<E: ByteOrder> Clone for WStrCharIndices<'_, E> {
     #[inline]
-    fn next(&mut self) -> Option<(usize, char)> {
-        let character = self.chars.next()?;
-        let offset = self.offset;
-        self.offset += character.encoded_utf16_len();
-        Some((offset, character))
-    }
-
-    #[inline]
-    fn count(self) -> usize {
-        self.chars.count()
-    }
-
-    #[inline]
-    fn last(mut self) -> Option<(usize, char)> {
-        self.next_back()
+    fn clone(&self) -> Self {
+        WStrCharIndices(utf16_str::WStrCharIndices {
+            offset: self.0.offset,
+            chars: self.0.as_wstr().chars(),
+        })
     }
 }
 
-impl<E: ByteOrder> DoubleEndedIterator for WStrCharIndices<'_, E> {
-    #[inline]
-    fn next_back(&mut self) -> Option<(usize, char)> {
-        let character = self.chars.next_back()?;
-        Some((self.offset + self.chars.rest.len(), character))
+/// Shows the fields of `utf16string` 0.2.0.
+impl<E: ByteOrder> fmt::Debug for WStrChars<'_, E> {
+    fn fmt(&self, f: &mut fmt::Formatter<'_>) -> fmt::Result {
+        f.debug_struct("WStrChars")
+            .field("chunks", &self.0.as_wstr().as_bytes().chunks_exact(2))
+            .field("_endian", &PhantomData::<&'static E>)
+            .finish()
     }
 }
 
-impl<E: ByteOrder> FusedIterator for WStrCharIndices<'_, E> {}
+/// Shows the fields of `utf16string` 0.2.0.
+impl<E: ByteOrder> fmt::Debug for WStrCharIndices<'_, E> {
+    fn fmt(&self, f: &mut fmt::Formatter<'_>) -> fmt::Result {
+        f.debug_struct("WStrCharIndices")
+            .field("chars", &WStrChars(self.0.as_wstr().chars()))
+            .field("index", &self.0.offset)
+            .finish()
+    }
+}

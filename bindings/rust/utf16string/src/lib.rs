@@ -9,12 +9,13 @@
 //! utf16string = { path = "dethrux/bindings/rust/utf16string" }
 //! ```
 //!
-//! [`LE`] and [`BE`] are types of the crate `byteorder`, as there. Without the default feature
-//! `byteorder` they are this crate's own, and generic code names [`ByteOrder`] of this crate.
+//! [`LE`] and [`BE`] are types of the crate `byteorder`, as there. What 0.2.0 does not have comes
+//! with traits of std, or with [`WStrExt`] and [`WStringExt`], which a program imports. The
+//! inherent methods are those of 0.2.0, so they hide no method of a user's own trait.
 //!
-//! Validation, boundaries, counts, conversions, comparison and `find` are calls of the C library
-//! `libdethrux`, which are proved. What is written in Rust is thin and tested, not proved: slicing
-//! with brackets, `Deref`, the iterators, and the moving of bytes within a vector.
+//! Characters, ranges, edits, comparisons and searches are those of the proved `WStr` and
+//! `WString`, translated to Rust. Conversions and long inputs go to the crate `dethrux`. What is
+//! written by hand calls these, and is tested, not proved.
 //!
 //! ```
 //! use utf16string::{WStr, WString, BE, LE};
@@ -34,21 +35,57 @@
 #![deny(missing_docs)]
 #![warn(missing_debug_implementations)]
 
+extern crate alloc;
+
+/// Methods that are one expression each. What is in brackets are generic parameters.
+macro_rules! methods {
+    ($(
+        $(#[$attribute:meta])* $visibility:vis fn $name:ident $([$($generic:tt)*])?
+        ($($argument:tt)*) $(-> $Result:ty)? = $body:expr;
+    )*) => {$(
+        $(#[$attribute])*
+        #[inline]
+        $visibility fn $name $(<$($generic)*>)? ($($argument)*) $(-> $Result)? {
+            $body
+        }
+    )*};
+}
+
+/// An example of an edit: the text before it, the call, and the text after it.
+macro_rules! example {
+    ($before:literal, $call:literal, $after:literal) => {
+        concat!(
+            "\n```\nuse utf16string::*;\n\nlet mut text: WString<LE> = WString::from(\"",
+            $before,
+            "\");\n",
+            $call,
+            "\nassert_eq!(text, \"",
+            $after,
+            "\");\n```"
+        )
+    };
+}
+
 mod error;
+mod ext;
 mod index;
 mod iter;
-mod order;
-mod search;
+mod orders;
+mod pattern;
+mod proved;
+#[cfg(feature = "serde")]
+mod serde;
+mod std_impls;
 mod string;
-mod utf16;
 mod view;
 
-pub use order::{BigEndian, ByteOrder, LittleEndian, BE, LE};
+pub use byteorder::{BigEndian, ByteOrder, LittleEndian, BE, LE};
 
-pub use error::Utf16Error;
+pub use error::{FromUtf16Error, Utf16Error};
+pub use ext::{WStrExt, WStringExt};
 pub use index::SliceIndex;
 pub use iter::{WStrCharIndices, WStrChars};
-pub use search::Pattern;
+pub use pattern::{Pattern, TextPattern};
 pub use string::WString;
 pub use view::WStr;
 

@@ -1,12 +1,13 @@
-use std::cmp::Ordering;
-use std::fmt;
 use std::marker::PhantomData;
 
-use crate::order::{byte_order, BigEndian, ByteOrder, LittleEndian};
-use crate::{SliceIndex, Utf16Error, WStrCharIndices, WStrChars};
+use crate::proved::utf16_str::WStr as View;
+use crate::{ByteOrder, SliceIndex, Utf16Error, WStrCharIndices, WStrChars};
+
+/// From this length on the assembly of `libdethrux` is faster, as measured.
+const LONG: usize = 256;
 
 /// A borrowed UTF-16 string: bytes that are well formed in the byte order `E`. It is to [`WString`]
-/// what [`str`] is to [`String`].
+/// what [`str`] is to [`String`]. [`WStrExt`](crate::WStrExt) has more methods.
 ///
 /// It is ordered by scalar values, like [`str`].
 ///
@@ -20,90 +21,35 @@ use crate::{SliceIndex, Utf16Error, WStrCharIndices, WStrChars};
 /// ```
 ///
 /// [`WString`]: crate::WString
-#[derive(Debug, Eq, PartialEq, Hash)]
+#[derive(Debug)]
 #[repr(transparent)]
 pub struct WStr<E: 'static + ByteOrder> {
     _endian: PhantomData<&'static E>,
     raw: [u8],
 }
 
+/// Returns the byte order of `E`. The compiler evaluates it.
+#[inline]
+pub(crate) fn byte_order<E: ByteOrder>() -> dethrux::ByteOrder {
+    if E::read_u16(&[0, 1]) == 1 {
+        dethrux::ByteOrder::BigEndian
+    } else {
+        dethrux::ByteOrder::LittleEndian
+    }
+}
+
 /// Tests that the bytes are well formed.
 #[inline]
 pub(crate) fn validate<E: ByteOrder>(raw: &[u8]) -> Result<(), Utf16Error> {
-    Ok(dethrux::validate(byte_order::<E>(), raw)?)
+    if raw.len() < LONG {
+        View::<E>::from_utf16(raw)?;
+    } else {
+        dethrux::validate(byte_order::<E>(), raw)?;
+    }
+    Ok(())
 }
-
-/// Defines the constructors for a byte order.
-macro_rules! constructors {
-    (
-        $Order:ident $name:literal
-        $new:ident $new_mut:ident $unchecked:ident $unchecked_mut:ident
-    ) => {
-        impl WStr<$Order> {
-            /// Returns the bytes as a string, if they are well-formed
-            #[doc = concat!($name, ".")]
-            pub fn $new(raw: &[u8]) -> Result<&Self, Utf16Error> {
-                Self::from_utf16(raw)
-            }
-
-            /// Returns the bytes as a mutable string, if they are well-formed
-            #[doc = concat!($name, ".")]
-            pub fn $new_mut(raw: &mut [u8]) -> Result<&mut Self, Utf16Error> {
-                Self::from_utf16_mut(raw)
-            }
-
-            /// Returns the bytes as a string, without testing them.
-            ///
-            /// # Safety
-            ///
-            #[doc = concat!("The bytes are well-formed ", $name, ".")]
-            pub unsafe fn $unchecked(raw: &[u8]) -> &Self {
-                // SAFETY: the caller says it.
-                unsafe { Self::from_utf16_unchecked(raw) }
-            }
-
-            /// Returns the bytes as a mutable string, without testing them.
-            ///
-            /// # Safety
-            ///
-            #[doc = concat!("The bytes are well-formed ", $name, ".")]
-            pub unsafe fn $unchecked_mut(raw: &mut [u8]) -> &mut Self {
-                // SAFETY: the caller says it.
-                unsafe { Self::from_utf16_unchecked_mut(raw) }
-            }
-        }
-    };
-}
-
-constructors!(LittleEndian "UTF-16LE" from_utf16le from_utf16le_mut
-    from_utf16le_unchecked from_utf16le_unchecked_mut);
-constructors!(BigEndian "UTF-16BE" from_utf16be from_utf16be_mut
-    from_utf16be_unchecked from_utf16be_unchecked_mut);
 
 impl<E: ByteOrder> WStr<E> {
-    /// Returns the bytes as a string, if they are well formed.
-    ///
-    /// # Errors
-    ///
-    /// The length of the longest well-formed prefix, and the length of the ill-formed sequence
-    /// after it.
-    pub fn from_utf16(raw: &[u8]) -> Result<&Self, Utf16Error> {
-        validate::<E>(raw)?;
-        // SAFETY: the bytes are well formed.
-        Ok(unsafe { Self::from_utf16_unchecked(raw) })
-    }
-
-    /// Returns the bytes as a mutable string, if they are well formed.
-    ///
-    /// # Errors
-    ///
-    /// Like [`from_utf16`](WStr::from_utf16).
-    pub fn from_utf16_mut(raw: &mut [u8]) -> Result<&mut Self, Utf16Error> {
-        validate::<E>(raw)?;
-        // SAFETY: the bytes are well formed.
-        Ok(unsafe { Self::from_utf16_unchecked_mut(raw) })
-    }
-
     /// Returns the bytes as a string, without testing them.
     ///
     /// # Safety
@@ -126,31 +72,6 @@ impl<E: ByteOrder> WStr<E> {
         unsafe { &mut *(raw as *mut [u8] as *mut Self) }
     }
 
-    /// Returns the length in bytes.
-    #[inline]
-    pub fn len(&self) -> usize {
-        self.raw.len()
-    }
-
-    /// Returns whether the string has no characters.
-    #[inline]
-    pub fn is_empty(&self) -> bool {
-        self.raw.is_empty()
-    }
-
-    /// Returns whether the offset is a boundary between characters: 0 and the length are, and no
-    /// offset after the length is.
-    #[inline]
-    pub fn is_char_boundary(&self, index: usize) -> bool {
-        dethrux::is_char_boundary(byte_order::<E>(), &self.raw, index)
-    }
-
-    /// Returns the bytes.
-    #[inline]
-    pub fn as_bytes(&self) -> &[u8] {
-        &self.raw
-    }
-
     /// Returns the bytes, mutable.
     ///
     /// # Safety
@@ -159,31 +80,6 @@ impl<E: ByteOrder> WStr<E> {
     #[inline]
     pub unsafe fn as_bytes_mut(&mut self) -> &mut [u8] {
         &mut self.raw
-    }
-
-    /// Returns a pointer to the first byte.
-    #[inline]
-    pub fn as_ptr(&self) -> *const u8 {
-        self.raw.as_ptr()
-    }
-
-    /// Returns a mutable pointer to the first byte.
-    #[inline]
-    pub fn as_mut_ptr(&mut self) -> *mut u8 {
-        self.raw.as_mut_ptr()
-    }
-
-    /// Returns a substring, or `None` if the range is out of bounds, its start is after its end, or
-    /// one of them is not a character boundary.
-    #[inline]
-    pub fn get<I: SliceIndex<WStr<E>>>(&self, index: I) -> Option<&I::Output> {
-        index.get(self)
-    }
-
-    /// Returns a substring, mutable, or `None` like [`get`](WStr::get).
-    #[inline]
-    pub fn get_mut<I: SliceIndex<WStr<E>>>(&mut self, index: I) -> Option<&mut I::Output> {
-        index.get_mut(self)
     }
 
     /// Returns a substring, without testing the range.
@@ -201,60 +97,69 @@ impl<E: ByteOrder> WStr<E> {
     ///
     /// # Safety
     ///
-    /// [`get_mut`](WStr::get_mut) would return `Some`.
+    /// [`get`](WStr::get) would return `Some`.
     #[inline]
     pub unsafe fn get_unchecked_mut<I: SliceIndex<WStr<E>>>(&mut self, index: I) -> &mut I::Output {
         // SAFETY: the caller says it.
         unsafe { index.get_unchecked_mut(self) }
     }
 
-    /// Returns an iterator over the characters.
-    #[inline]
-    pub fn chars(&self) -> WStrChars<'_, E> {
-        WStrChars::new(&self.raw)
-    }
-
-    /// Returns an iterator over the characters and their offsets.
-    #[inline]
-    pub fn char_indices(&self) -> WStrCharIndices<'_, E> {
-        WStrCharIndices::new(&self.raw)
-    }
-
-    /// Returns the text in UTF-8.
-    pub fn to_utf8(&self) -> String {
-        dethrux::decode_lossy(byte_order::<E>(), &self.raw)
-    }
-
-    /// Returns whether all characters are ASCII, below U+0080.
-    #[inline]
-    pub fn is_ascii(&self) -> bool {
-        dethrux::is_ascii(byte_order::<E>(), &self.raw)
-    }
-}
-
-impl<E: ByteOrder> AsRef<[u8]> for WStr<E> {
-    #[inline]
-    fn as_ref(&self) -> &[u8] {
-        self.as_bytes()
-    }
-}
-
-/// Writes the text. Width and fill are ignored.
-impl<E: ByteOrder> fmt::Display for WStr<E> {
-    fn fmt(&self, f: &mut fmt::Formatter<'_>) -> fmt::Result {
-        dethrux::display(byte_order::<E>(), &self.raw).fmt(f)
-    }
-}
-
-impl<E: ByteOrder> Ord for WStr<E> {
-    fn cmp(&self, other: &Self) -> Ordering {
-        let order = byte_order::<E>();
-        dethrux::compare(order, &self.raw, order, &other.raw)
-    }
-}
-
-impl<E: ByteOrder> PartialOrd for WStr<E> {
-    fn partial_cmp(&self, other: &Self) -> Option<Ordering> {
-        Some(self.cmp(other))
+    methods! {
+        /// Returns the proved view of the string.
+        pub(crate) fn view(&self) -> View<'_, E> = View::from_utf16_unchecked(&self.raw);
+        // SAFETY: the bytes of a view are well formed.
+        /// Returns the string of a proved view.
+        pub(crate) fn of(view: View<'_, E>) -> &Self =
+            unsafe { Self::from_utf16_unchecked(view.as_bytes()) };
+        /// Returns the bytes as a string, if they are well formed.
+        ///
+        /// # Errors
+        ///
+        /// The length of the longest well-formed prefix, and the length of the ill-formed sequence
+        /// after it.
+        pub fn from_utf16(raw: &[u8]) -> Result<&Self, Utf16Error> = {
+            validate::<E>(raw)?;
+            // SAFETY: the bytes are well formed.
+            Ok(unsafe { Self::from_utf16_unchecked(raw) })
+        };
+        /// Returns the bytes as a mutable string, like [`from_utf16`](WStr::from_utf16).
+        pub fn from_utf16_mut(raw: &mut [u8]) -> Result<&mut Self, Utf16Error> = {
+            validate::<E>(raw)?;
+            // SAFETY: the bytes are well formed.
+            Ok(unsafe { Self::from_utf16_unchecked_mut(raw) })
+        };
+        /// Returns the length in bytes.
+        pub fn len(&self) -> usize = self.raw.len();
+        /// Returns whether the string has no characters.
+        pub fn is_empty(&self) -> bool = self.raw.is_empty();
+        /// Returns whether the offset is a boundary between characters: 0 and the length are, and
+        /// no offset after the length is.
+        pub fn is_char_boundary(&self, index: usize) -> bool = self.view().is_char_boundary(index);
+        /// Returns the bytes.
+        pub fn as_bytes(&self) -> &[u8] = &self.raw;
+        /// Returns a pointer to the first byte.
+        pub fn as_ptr(&self) -> *const u8 = self.raw.as_ptr();
+        /// Returns a mutable pointer to the first byte.
+        pub fn as_mut_ptr(&mut self) -> *mut u8 = self.raw.as_mut_ptr();
+        /// Returns a substring, or `None` if the range is out of bounds, its start is after its
+        /// end, or one of them is not a character boundary.
+        pub fn get[I: SliceIndex<WStr<E>>](&self, index: I) -> Option<&I::Output> =
+            index.get(self);
+        /// Returns a substring, mutable, or `None` like [`get`](WStr::get).
+        pub fn get_mut[I: SliceIndex<WStr<E>>](&mut self, index: I) -> Option<&mut I::Output> =
+            index.get_mut(self);
+        /// Returns an iterator over the characters.
+        pub fn chars(&self) -> WStrChars<'_, E> = WStrChars(self.view().chars());
+        /// Returns an iterator over the characters and their offsets.
+        pub fn char_indices(&self) -> WStrCharIndices<'_, E> =
+            WStrCharIndices(self.view().char_indices());
+        /// Returns the text in UTF-8.
+        pub fn to_utf8(&self) -> String = dethrux::decode_lossy(byte_order::<E>(), &self.raw);
+        /// Returns whether all characters are ASCII, below U+0080.
+        pub fn is_ascii(&self) -> bool = if self.len() < LONG {
+            self.view().is_ascii()
+        } else {
+            dethrux::is_ascii(byte_order::<E>(), &self.raw)
+        };
     }
 }

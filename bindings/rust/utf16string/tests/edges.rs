@@ -7,7 +7,7 @@ use std::hash::{Hash, Hasher};
 use std::ops::{Bound, Index, IndexMut, Range, RangeBounds};
 use std::panic::{catch_unwind, set_hook, AssertUnwindSafe};
 use utf16string::ByteOrder;
-use utf16string::{SliceIndex, Utf16Error, WStr, WString, BE, LE};
+use utf16string::{SliceIndex, Utf16Error, WStr, WString, WStringExt, BE, LE};
 
 const TEXTS: [&str; 9] = [
     "",
@@ -50,11 +50,6 @@ fn offsets(len: usize) -> impl Iterator<Item = usize> {
         usize::MAX,
     ];
     (0..=len).chain(past)
-}
-
-/// Whether a call panics.
-fn panics<T>(call: impl FnOnce() -> T) -> bool {
-    catch_unwind(AssertUnwindSafe(call)).is_err()
 }
 
 /// Takes a range with every call, and compares each result with the bytes of the range, or with
@@ -464,10 +459,9 @@ fn compared<E: 'static + ByteOrder>(first: &str, second: &str) -> Ordering {
     assert_eq!(left == right, first == second);
     assert_eq!(left.as_wstr() == right.as_wstr(), first == second);
     assert_eq!(hash(&left) == hash(&right), first == second);
-    assert_eq!(
-        hash(left.as_wstr()) == hash(right.as_wstr()),
-        first == second
-    );
+    // A map with strings as keys finds them by a view, and by the bytes as 0.2.0 hashes them.
+    assert_eq!(hash(left.as_wstr()), hash(&left));
+    assert_eq!(hash(&left.as_bytes()), hash(&left));
     order
 }
 
@@ -521,28 +515,28 @@ fn capacities_are_those_of_a_vector() {
     assert_eq!(text.capacity(), 0);
 }
 
+/// What `utf16string` 0.2.0 shows.
 #[test]
-fn values_are_shown_to_programmers() {
-    let text = WString::<BE>::from("a");
-    assert!(format!("{:?}", text.chars()).contains("rest: [0, 97]"));
-    assert!(format!("{:?}", text.char_indices()).contains("rest: [0, 97]"));
-    assert!(format!("{:?}", text.as_wstr()).contains("[0, 97]"));
-    assert!(format!("{text:?}").contains("[0, 97]"));
-    let error = WStr::<BE>::from_utf16(b"\0").unwrap_err();
-    assert!(format!("{error:?}").contains("valid_up_to: 0"));
-}
-
-#[test]
-fn byte_orders_refuse_other_lengths() {
-    for len in [0, 1, 3] {
-        assert!(panics(|| LE::write_u16_into(&[0x61], &mut [0; 3][..len])));
-        assert!(panics(|| BE::write_u16_into(&[0x61], &mut [0; 3][..len])));
-    }
-    assert!(panics(|| BE::read_u16(&[0])));
-    assert!(panics(LE::default));
-    let mut bytes = [0; 4];
-    BE::write_u16_into(&[0x6162, 0x6364], &mut bytes);
-    assert_eq!((bytes, BE::read_u16(&bytes)), (*b"abcd", 0x6162));
-    LE::write_u16_into(&[0x6162, 0x6364], &mut bytes);
-    assert_eq!((bytes, LE::read_u16(&bytes)), (*b"badc", 0x6162));
+fn values_are_shown_with_their_fields() {
+    let text = WString::<BE>::from("ab");
+    let endian = "PhantomData<&byteorder::BigEndian>";
+    let chars = |rest: &str| {
+        let chunks = format!("ChunksExact {{ v: {rest}, rem: [], chunk_size: 2 }}");
+        format!("WStrChars {{ chunks: {chunks}, _endian: {endian} }}")
+    };
+    assert_eq!(format!("{:?}", text.chars()), chars("[0, 97, 0, 98]"));
+    let mut indices = text.char_indices();
+    indices.next();
+    let expected = format!(
+        "WStrCharIndices {{ chars: {}, index: 2 }}",
+        chars("[0, 98]")
+    );
+    assert_eq!(format!("{indices:?}"), expected);
+    let expected = format!("WStr {{ _endian: {endian}, raw: [0, 97, 0, 98] }}");
+    assert_eq!(format!("{:?}", text.as_wstr()), expected);
+    let expected = format!("WString {{ buf: [0, 97, 0, 98], _endian: {endian} }}");
+    assert_eq!(format!("{text:?}"), expected);
+    let error = WStr::<BE>::from_utf16(b"\0a\xD8\0\0b").unwrap_err();
+    let expected = "Utf16Error { valid_up_to: 2, error_len: Some(2) }";
+    assert_eq!(format!("{error:?}"), expected);
 }
