@@ -29503,93 +29503,6 @@ LBB84_4:
 Lfunc_end84:
 	.cfi_endproc
 
-	.section	__TEXT,__literal16,16byte_literals
-	.p2align	4, 0x0
-lCPI85_0:
-	.byte	1
-	.byte	2
-	.byte	4
-	.byte	8
-	.byte	16
-	.byte	32
-	.byte	64
-	.byte	128
-	.byte	1
-	.byte	2
-	.byte	4
-	.byte	8
-	.byte	16
-	.byte	32
-	.byte	64
-	.byte	128
-lCPI85_1:
-	.byte	2
-	.byte	2
-	.byte	2
-	.byte	2
-	.byte	2
-	.byte	2
-	.byte	2
-	.byte	2
-	.byte	128
-	.byte	128
-	.byte	128
-	.byte	128
-	.byte	33
-	.byte	1
-	.byte	21
-	.byte	73
-lCPI85_2:
-	.byte	231
-	.byte	163
-	.byte	131
-	.byte	131
-	.byte	139
-	.byte	203
-	.byte	203
-	.byte	203
-	.byte	203
-	.byte	203
-	.byte	203
-	.byte	203
-	.byte	203
-	.byte	219
-	.byte	203
-	.byte	203
-lCPI85_3:
-	.byte	1
-	.byte	1
-	.byte	1
-	.byte	1
-	.byte	1
-	.byte	1
-	.byte	1
-	.byte	1
-	.byte	230
-	.byte	174
-	.byte	186
-	.byte	186
-	.byte	1
-	.byte	1
-	.byte	1
-	.byte	1
-lCPI85_4:
-	.byte	255
-	.byte	255
-	.byte	255
-	.byte	255
-	.byte	255
-	.byte	255
-	.byte	255
-	.byte	255
-	.byte	255
-	.byte	255
-	.byte	255
-	.byte	255
-	.byte	255
-	.byte	239
-	.byte	223
-	.byte	191
 	.section	__TEXT,__text,regular,pure_instructions
 	.globl	_dethrux_from_utf8_lossy_len_aarch64
 	.private_extern	_dethrux_from_utf8_lossy_len_aarch64
@@ -29597,58 +29510,41 @@ lCPI85_4:
 _dethrux_from_utf8_lossy_len_aarch64:
 	.cfi_startproc
 	hint	#34
-	sub	sp, sp, #384
-	.cfi_def_cfa_offset 384
-	str	d14, [sp, #256]
-	stp	d13, d12, [sp, #264]
-	stp	d11, d10, [sp, #280]
-	stp	d9, d8, [sp, #296]
-	stp	x29, x30, [sp, #312]
-	str	x28, [sp, #328]
-	stp	x24, x23, [sp, #336]
-	stp	x22, x21, [sp, #352]
-	stp	x20, x19, [sp, #368]
-	add	x29, sp, #312
-	.cfi_def_cfa w29, 72
+	sub	sp, sp, #128
+	.cfi_def_cfa_offset 128
+	stp	x29, x30, [sp, #64]
+	stp	x24, x23, [sp, #80]
+	stp	x22, x21, [sp, #96]
+	stp	x20, x19, [sp, #112]
+	add	x29, sp, #64
+	.cfi_def_cfa w29, 64
 	.cfi_offset w19, -8
 	.cfi_offset w20, -16
 	.cfi_offset w21, -24
 	.cfi_offset w22, -32
 	.cfi_offset w23, -40
 	.cfi_offset w24, -48
-	.cfi_offset w28, -56
-	.cfi_offset w30, -64
-	.cfi_offset w29, -72
-	.cfi_offset b8, -80
-	.cfi_offset b9, -88
-	.cfi_offset b10, -96
-	.cfi_offset b11, -104
-	.cfi_offset b12, -112
-	.cfi_offset b13, -120
-	.cfi_offset b14, -128
+	.cfi_offset w30, -56
+	.cfi_offset w29, -64
 	.cfi_remember_state
+	movi	v0.2d, #0000000000000000
 	mov	w8, #4096
 	cmp	x0, #0
-	mov	x19, x1
 	csel	x8, x8, xzr, eq
+	mov	x19, x1
 	add	x20, x0, x8
 	mov	x0, x20
+	stp	q0, q0, [sp]
 	bl	"_utf16_transcode::sizes::is_text_within_block"
 	cbz	w0, LBB85_2
-LBB85_1:
 	mov	x0, x20
 	mov	x1, x19
-	.cfi_def_cfa wsp, 384
-	ldp	x20, x19, [sp, #368]
-	ldr	x28, [sp, #328]
-	ldp	x22, x21, [sp, #352]
-	ldr	d14, [sp, #256]
-	ldp	x24, x23, [sp, #336]
-	ldp	x29, x30, [sp, #312]
-	ldp	d9, d8, [sp, #296]
-	ldp	d11, d10, [sp, #280]
-	ldp	d13, d12, [sp, #264]
-	add	sp, sp, #384
+	.cfi_def_cfa wsp, 128
+	ldp	x20, x19, [sp, #112]
+	ldp	x22, x21, [sp, #96]
+	ldp	x24, x23, [sp, #80]
+	ldp	x29, x30, [sp, #64]
+	add	sp, sp, #128
 	.cfi_def_cfa_offset 0
 	.cfi_restore w19
 	.cfi_restore w20
@@ -29656,347 +29552,28 @@ LBB85_1:
 	.cfi_restore w22
 	.cfi_restore w23
 	.cfi_restore w24
-	.cfi_restore w28
 	.cfi_restore w30
 	.cfi_restore w29
-	.cfi_restore b8
-	.cfi_restore b9
-	.cfi_restore b10
-	.cfi_restore b11
-	.cfi_restore b12
-	.cfi_restore b13
-	.cfi_restore b14
 	b	"_utf16_units::size::utf16_len"
 LBB85_2:
 	.cfi_restore_state
 	.cfi_remember_state
-	cmp	x19, #63
-	stp	xzr, xzr, [x29, #-144]
-	stur	xzr, [x29, #-128]
-	b.hi	LBB85_5
-	sub	x0, x29, #144
+	mov	x0, sp
 	mov	x1, x20
 	mov	x2, x19
-	bl	"_core::str::utf8::from_utf8"
-	ldurb	w8, [x29, #-144]
-	cbnz	w8, LBB85_18
-	ldp	x20, x19, [x29, #-136]
-	b	LBB85_1
-LBB85_5:
-	and	x8, x19, #0xffffffffffffffc0
-	mov	x1, x20
-	mov	x2, x19
-LBB85_6:
-	ldp	q0, q1, [x1]
-	adrp	x9, lCPI85_0@PAGE
-	ldp	q2, q3, [x1, #32]
-	ldr	q9, [x9, lCPI85_0@PAGEOFF]
-	cmlt	v0.16b, v0.16b, #0
-	cmlt	v1.16b, v1.16b, #0
-	cmlt	v3.16b, v3.16b, #0
-	cmlt	v2.16b, v2.16b, #0
-	and	v0.16b, v0.16b, v9.16b
-	and	v1.16b, v1.16b, v9.16b
-	and	v2.16b, v2.16b, v9.16b
-	and	v3.16b, v3.16b, v9.16b
-	addp	v0.16b, v0.16b, v1.16b
-	addp	v1.16b, v2.16b, v3.16b
-	addp	v0.16b, v0.16b, v1.16b
-	addp	v0.16b, v0.16b, v0.16b
-	fmov	x9, d0
-	cbnz	x9, LBB85_9
-	sub	x2, x2, #64
-	add	x1, x1, #64
-	cmp	x2, #63
-	b.hi	LBB85_6
-	movi	v0.2d, #0000000000000000
-	mov	x3, xzr
-	add	x1, x20, x8
-	stp	q0, q0, [sp]
-	stp	q0, q0, [sp, #32]
-	stp	q0, q0, [sp, #64]
-	stp	q0, q0, [sp, #96]
-	stp	q0, q9, [sp, #128]
-	b	LBB85_15
-LBB85_9:
-	movi	v3.2d, #0000000000000000
-	movi	v16.2d, #0000000000000000
-	mov	x8, x1
-	movi	v21.2d, #0000000000000000
-	movi	v22.2d, #0000000000000000
-	mov	x9, x2
-	movi	v20.2d, #0000000000000000
-	movi	v10.2d, #0000000000000000
-	movi	v11.2d, #0000000000000000
-	movi	v12.2d, #0000000000000000
-	movi	v13.2d, #0000000000000000
-	b	LBB85_12
-LBB85_10:
-	ext	v4.16b, v2.16b, v14.16b, #15
-	ext	v5.16b, v3.16b, v0.16b, #15
-	adrp	x10, lCPI85_1@PAGE
-	ext	v6.16b, v0.16b, v1.16b, #15
-	ext	v7.16b, v1.16b, v2.16b, #15
-	ldr	q17, [x10, lCPI85_1@PAGEOFF]
-	movi	v16.16b, #15
-	adrp	x10, lCPI85_2@PAGE
-	movi	v25.16b, #96
-	ldr	q21, [x10, lCPI85_2@PAGEOFF]
-	ext	v27.16b, v0.16b, v1.16b, #13
-	movi	v28.16b, #112
-	ushr	v18.16b, v4.16b, #4
-	ushr	v20.16b, v5.16b, #4
-	adrp	x10, lCPI85_3@PAGE
-	ushr	v19.16b, v6.16b, #4
-	ushr	v22.16b, v7.16b, #4
-	ext	v26.16b, v2.16b, v14.16b, #14
-	and	v23.16b, v5.16b, v16.16b
-	and	v24.16b, v4.16b, v16.16b
-	and	v7.16b, v7.16b, v16.16b
-	and	v16.16b, v6.16b, v16.16b
-	tbl	v20.16b, { v17.16b }, v20.16b
-	tbl	v4.16b, { v17.16b }, v18.16b
-	tbl	v5.16b, { v17.16b }, v19.16b
-	tbl	v6.16b, { v17.16b }, v22.16b
-	ext	v30.16b, v1.16b, v2.16b, #14
-	tbl	v17.16b, { v21.16b }, v23.16b
-	ext	v23.16b, v0.16b, v1.16b, #14
-	tbl	v18.16b, { v21.16b }, v7.16b
-	tbl	v7.16b, { v21.16b }, v24.16b
-	ext	v24.16b, v3.16b, v0.16b, #14
-	ext	v3.16b, v3.16b, v0.16b, #13
-	ext	v31.16b, v1.16b, v2.16b, #13
-	ext	v8.16b, v2.16b, v14.16b, #13
-	ushr	v29.16b, v0.16b, #4
-	tbl	v16.16b, { v21.16b }, v16.16b
-	ushr	v19.16b, v14.16b, #4
-	ushr	v21.16b, v2.16b, #4
-	and	v17.16b, v17.16b, v20.16b
-	ldr	q20, [x10, lCPI85_3@PAGEOFF]
-	adrp	x10, lCPI85_4@PAGE
-	ushr	v22.16b, v1.16b, #4
-	uqsub	v23.16b, v23.16b, v25.16b
-	uqsub	v27.16b, v27.16b, v28.16b
-	uqsub	v24.16b, v24.16b, v25.16b
-	uqsub	v26.16b, v26.16b, v25.16b
-	uqsub	v25.16b, v30.16b, v25.16b
-	tbl	v29.16b, { v20.16b }, v29.16b
-	uqsub	v3.16b, v3.16b, v28.16b
-	uqsub	v30.16b, v8.16b, v28.16b
-	uqsub	v28.16b, v31.16b, v28.16b
-	tbl	v22.16b, { v20.16b }, v22.16b
-	tbl	v21.16b, { v20.16b }, v21.16b
-	tbl	v19.16b, { v20.16b }, v19.16b
-	movi	v20.16b, #128
-	and	v5.16b, v16.16b, v5.16b
-	orr	v16.16b, v23.16b, v27.16b
-	and	v6.16b, v18.16b, v6.16b
-	and	v4.16b, v7.16b, v4.16b
-	and	v7.16b, v17.16b, v29.16b
-	orr	v3.16b, v24.16b, v3.16b
-	orr	v18.16b, v26.16b, v30.16b
-	orr	v17.16b, v25.16b, v28.16b
-	movi	v23.2d, #0xffffffffffffffff
-	and	v5.16b, v5.16b, v22.16b
-	and	v16.16b, v16.16b, v20.16b
-	and	v6.16b, v6.16b, v21.16b
-	and	v4.16b, v4.16b, v19.16b
-	and	v19.16b, v3.16b, v20.16b
-	and	v18.16b, v18.16b, v20.16b
-	and	v17.16b, v17.16b, v20.16b
-	ldr	q20, [x10, lCPI85_4@PAGEOFF]
-	eor	v3.16b, v5.16b, v16.16b
-	uqsub	v16.16b, v0.16b, v23.16b
-	uqsub	v21.16b, v1.16b, v23.16b
-	uqsub	v22.16b, v2.16b, v23.16b
-	uqsub	v20.16b, v14.16b, v20.16b
-	eor	v1.16b, v4.16b, v18.16b
-	eor	v0.16b, v6.16b, v17.16b
-	eor	v2.16b, v7.16b, v19.16b
-LBB85_11:
-	orr	v10.16b, v2.16b, v10.16b
-	orr	v11.16b, v3.16b, v11.16b
-	sub	x9, x9, #64
-	orr	v12.16b, v0.16b, v12.16b
-	orr	v13.16b, v1.16b, v13.16b
-	cmp	x9, #63
-	mov	v3.16b, v14.16b
-	add	x8, x8, #64
-	b.ls	LBB85_14
-LBB85_12:
-	ldp	q0, q1, [x8]
-	ldp	q2, q14, [x8, #32]
-	cmlt	v4.16b, v0.16b, #0
-	cmlt	v7.16b, v1.16b, #0
-	cmlt	v5.16b, v14.16b, #0
-	cmlt	v6.16b, v2.16b, #0
-	and	v4.16b, v4.16b, v9.16b
-	and	v7.16b, v7.16b, v9.16b
-	and	v6.16b, v6.16b, v9.16b
-	and	v5.16b, v5.16b, v9.16b
-	addp	v4.16b, v4.16b, v7.16b
-	addp	v5.16b, v6.16b, v5.16b
-	addp	v4.16b, v4.16b, v5.16b
-	addp	v4.16b, v4.16b, v4.16b
-	fmov	x10, d4
-	cbnz	x10, LBB85_10
-	mov	v2.16b, v16.16b
-	mov	v3.16b, v21.16b
-	mov	v0.16b, v22.16b
-	mov	v1.16b, v20.16b
-	movi	v16.2d, #0000000000000000
-	movi	v21.2d, #0000000000000000
-	movi	v22.2d, #0000000000000000
-	movi	v20.2d, #0000000000000000
-	b	LBB85_11
-LBB85_14:
-	and	x3, x2, #0xffffffffffffffc0
-	stp	q20, q22, [sp, #16]
-	stp	q21, q16, [sp, #48]
-	str	q14, [sp]
-	stp	q13, q12, [sp, #80]
-	stp	q11, q10, [sp, #112]
-	str	q9, [sp, #144]
-LBB85_15:
-	sub	x0, x29, #120
-	bl	"_simdutf8::last_block"
-	ldur	q2, [x29, #-120]
-	ldur	q3, [x29, #-104]
-	ldur	q0, [x29, #-72]
-	ldur	q1, [x29, #-88]
-	ldr	q31, [sp, #144]
-	cmlt	v4.16b, v2.16b, #0
-	cmlt	v5.16b, v0.16b, #0
-	cmlt	v7.16b, v3.16b, #0
-	cmlt	v6.16b, v1.16b, #0
-	and	v4.16b, v4.16b, v31.16b
-	and	v7.16b, v7.16b, v31.16b
-	and	v5.16b, v5.16b, v31.16b
-	and	v6.16b, v6.16b, v31.16b
-	addp	v4.16b, v4.16b, v7.16b
-	addp	v5.16b, v6.16b, v5.16b
-	ldp	q6, q16, [sp, #16]
-	addp	v4.16b, v4.16b, v5.16b
-	addp	v4.16b, v4.16b, v4.16b
-	fmov	x8, d4
-	ldp	q5, q4, [sp, #48]
-	cbz	x8, LBB85_17
-	ldr	q30, [sp]
-	ext	v5.16b, v2.16b, v3.16b, #15
-	ext	v6.16b, v3.16b, v1.16b, #15
-	ext	v7.16b, v1.16b, v0.16b, #15
-	movi	v16.16b, #15
-	adrp	x8, lCPI85_1@PAGE
-	ext	v4.16b, v30.16b, v2.16b, #15
-	ldr	q17, [x8, lCPI85_1@PAGEOFF]
-	adrp	x8, lCPI85_2@PAGE
-	ldr	q25, [x8, lCPI85_2@PAGEOFF]
-	movi	v27.16b, #112
-	ushr	v28.16b, v2.16b, #4
-	ushr	v20.16b, v6.16b, #4
-	ushr	v21.16b, v5.16b, #4
-	ext	v29.16b, v2.16b, v3.16b, #14
-	ushr	v19.16b, v7.16b, #4
-	and	v26.16b, v7.16b, v16.16b
-	adrp	x8, lCPI85_3@PAGE
-	ushr	v18.16b, v4.16b, #4
-	and	v23.16b, v5.16b, v16.16b
-	and	v24.16b, v4.16b, v16.16b
-	and	v22.16b, v6.16b, v16.16b
-	tbl	v4.16b, { v17.16b }, v21.16b
-	tbl	v5.16b, { v17.16b }, v20.16b
-	ushr	v21.16b, v3.16b, #4
-	ushr	v20.16b, v0.16b, #4
-	tbl	v6.16b, { v17.16b }, v18.16b
-	tbl	v17.16b, { v17.16b }, v19.16b
-	tbl	v19.16b, { v25.16b }, v26.16b
-	tbl	v18.16b, { v25.16b }, v24.16b
-	tbl	v7.16b, { v25.16b }, v23.16b
-	ext	v23.16b, v1.16b, v0.16b, #14
-	movi	v24.16b, #96
-	ext	v26.16b, v1.16b, v0.16b, #13
-	tbl	v16.16b, { v25.16b }, v22.16b
-	ext	v22.16b, v3.16b, v1.16b, #14
-	ext	v25.16b, v30.16b, v2.16b, #14
-	and	v17.16b, v19.16b, v17.16b
-	ext	v19.16b, v2.16b, v3.16b, #13
-	ext	v3.16b, v3.16b, v1.16b, #13
-	ext	v2.16b, v30.16b, v2.16b, #13
-	ldr	q30, [x8, lCPI85_3@PAGEOFF]
-	adrp	x8, lCPI85_4@PAGE
-	uqsub	v23.16b, v23.16b, v24.16b
-	uqsub	v26.16b, v26.16b, v27.16b
-	ushr	v1.16b, v1.16b, #4
-	uqsub	v25.16b, v25.16b, v24.16b
-	uqsub	v22.16b, v22.16b, v24.16b
-	uqsub	v24.16b, v29.16b, v24.16b
-	tbl	v20.16b, { v30.16b }, v20.16b
-	uqsub	v3.16b, v3.16b, v27.16b
-	uqsub	v19.16b, v19.16b, v27.16b
-	uqsub	v2.16b, v2.16b, v27.16b
-	movi	v27.16b, #128
-	and	v6.16b, v18.16b, v6.16b
-	orr	v18.16b, v23.16b, v26.16b
-	tbl	v28.16b, { v30.16b }, v28.16b
-	tbl	v21.16b, { v30.16b }, v21.16b
-	tbl	v1.16b, { v30.16b }, v1.16b
-	and	v4.16b, v7.16b, v4.16b
-	and	v5.16b, v16.16b, v5.16b
-	and	v7.16b, v17.16b, v20.16b
-	orr	v16.16b, v24.16b, v19.16b
-	orr	v3.16b, v22.16b, v3.16b
-	orr	v2.16b, v25.16b, v2.16b
-	and	v17.16b, v18.16b, v27.16b
-	ldr	q18, [x8, lCPI85_4@PAGEOFF]
-	and	v6.16b, v6.16b, v28.16b
-	and	v4.16b, v4.16b, v21.16b
-	uqsub	v0.16b, v0.16b, v18.16b
-	and	v1.16b, v5.16b, v1.16b
-	and	v5.16b, v16.16b, v27.16b
-	and	v2.16b, v2.16b, v27.16b
-	and	v3.16b, v3.16b, v27.16b
-	eor	v7.16b, v7.16b, v17.16b
-	eor	v5.16b, v4.16b, v5.16b
-	eor	v16.16b, v1.16b, v3.16b
-	eor	v4.16b, v6.16b, v2.16b
-	orr	v6.16b, v7.16b, v0.16b
-LBB85_17:
-	ldp	q1, q0, [sp, #112]
-	ldp	q3, q2, [sp, #80]
-	orr	v0.16b, v4.16b, v0.16b
-	orr	v1.16b, v5.16b, v1.16b
-	orr	v2.16b, v16.16b, v2.16b
-	orr	v3.16b, v6.16b, v3.16b
-	cmeq	v0.16b, v0.16b, #0
-	cmeq	v1.16b, v1.16b, #0
-	cmeq	v3.16b, v3.16b, #0
-	cmeq	v2.16b, v2.16b, #0
-	bic	v0.16b, v31.16b, v0.16b
-	bic	v1.16b, v31.16b, v1.16b
-	bic	v2.16b, v31.16b, v2.16b
-	bic	v3.16b, v31.16b, v3.16b
-	addp	v0.16b, v0.16b, v1.16b
-	addp	v1.16b, v2.16b, v3.16b
-	addp	v0.16b, v0.16b, v1.16b
-	addp	v0.16b, v0.16b, v0.16b
-	fmov	x8, d0
-	cbz	x8, LBB85_1
-LBB85_18:
+	bl	"_simdutf8::compat::from_utf8"
+	ldrb	w8, [sp]
+	cbz	w8, LBB85_8
 	mov	x21, xzr
-	cbnz	x19, LBB85_21
-LBB85_19:
+	cbnz	x19, LBB85_6
+LBB85_4:
 	mov	x0, x21
-	.cfi_def_cfa wsp, 384
-	ldp	x20, x19, [sp, #368]
-	ldr	x28, [sp, #328]
-	ldp	x22, x21, [sp, #352]
-	ldr	d14, [sp, #256]
-	ldp	x24, x23, [sp, #336]
-	ldp	x29, x30, [sp, #312]
-	ldp	d9, d8, [sp, #296]
-	ldp	d11, d10, [sp, #280]
-	ldp	d13, d12, [sp, #264]
-	add	sp, sp, #384
+	.cfi_def_cfa wsp, 128
+	ldp	x20, x19, [sp, #112]
+	ldp	x22, x21, [sp, #96]
+	ldp	x24, x23, [sp, #80]
+	ldp	x29, x30, [sp, #64]
+	add	sp, sp, #128
 	.cfi_def_cfa_offset 0
 	.cfi_restore w19
 	.cfi_restore w20
@@ -30004,18 +29581,10 @@ LBB85_19:
 	.cfi_restore w22
 	.cfi_restore w23
 	.cfi_restore w24
-	.cfi_restore w28
 	.cfi_restore w30
 	.cfi_restore w29
-	.cfi_restore b8
-	.cfi_restore b9
-	.cfi_restore b10
-	.cfi_restore b11
-	.cfi_restore b12
-	.cfi_restore b13
-	.cfi_restore b14
 	ret
-LBB85_20:
+LBB85_5:
 	.cfi_restore_state
 	mov	x0, x20
 	mov	x1, x22
@@ -30027,21 +29596,21 @@ LBB85_20:
 	mov	x20, x24
 	add	x9, x8, #2
 	csel	x21, x8, x9, eq
-	cbz	x19, LBB85_19
-LBB85_21:
-	sub	x0, x29, #120
+	cbz	x19, LBB85_4
+LBB85_6:
+	sub	x0, x29, #24
 	mov	x1, x20
 	mov	x2, x19
-	stp	xzr, xzr, [x29, #-120]
-	stur	xzr, [x29, #-104]
+	stp	xzr, xzr, [x29, #-24]
+	stur	xzr, [x29, #-8]
 	bl	"_core::str::utf8::from_utf8"
-	ldurb	w8, [x29, #-120]
+	ldurb	w8, [x29, #-24]
 	mov	x23, x19
 	mov	x22, x19
-	cbz	w8, LBB85_20
-	ldur	x22, [x29, #-112]
-	ldurb	w8, [x29, #-104]
-	ldurb	w9, [x29, #-103]
+	cbz	w8, LBB85_5
+	ldur	x22, [x29, #-16]
+	ldurb	w8, [x29, #-8]
+	ldurb	w9, [x29, #-7]
 	sub	x10, x19, x22
 	cmp	w8, #1
 	csel	x8, x9, x10, eq
@@ -30050,7 +29619,25 @@ LBB85_21:
 	cmp	x8, #0
 	csinc	x8, x9, xzr, ne
 	add	x23, x8, x22
-	b	LBB85_20
+	b	LBB85_5
+LBB85_8:
+	ldp	x0, x1, [sp, #8]
+	.cfi_def_cfa wsp, 128
+	ldp	x20, x19, [sp, #112]
+	ldp	x22, x21, [sp, #96]
+	ldp	x24, x23, [sp, #80]
+	ldp	x29, x30, [sp, #64]
+	add	sp, sp, #128
+	.cfi_def_cfa_offset 0
+	.cfi_restore w19
+	.cfi_restore w20
+	.cfi_restore w21
+	.cfi_restore w22
+	.cfi_restore w23
+	.cfi_restore w24
+	.cfi_restore w30
+	.cfi_restore w29
+	b	"_utf16_units::size::utf16_len"
 Lfunc_end85:
 	.cfi_endproc
 

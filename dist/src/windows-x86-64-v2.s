@@ -32493,84 +32493,6 @@ dethrux_from_utf8_len_v2:
 	jmp	L_5
 .Lfunc_end82:
 
-	.section	.rdata$000,"dr"
-	.p2align	4, 0x0
-.LCPI83_0:
-	.zero	16,15
-.LCPI83_1:
-	.byte	2
-	.byte	2
-	.byte	2
-	.byte	2
-	.byte	2
-	.byte	2
-	.byte	2
-	.byte	2
-	.byte	128
-	.byte	128
-	.byte	128
-	.byte	128
-	.byte	33
-	.byte	1
-	.byte	21
-	.byte	73
-.LCPI83_2:
-	.byte	231
-	.byte	163
-	.byte	131
-	.byte	131
-	.byte	139
-	.byte	203
-	.byte	203
-	.byte	203
-	.byte	203
-	.byte	203
-	.byte	203
-	.byte	203
-	.byte	203
-	.byte	219
-	.byte	203
-	.byte	203
-.LCPI83_3:
-	.byte	1
-	.byte	1
-	.byte	1
-	.byte	1
-	.byte	1
-	.byte	1
-	.byte	1
-	.byte	1
-	.byte	230
-	.byte	174
-	.byte	186
-	.byte	186
-	.byte	1
-	.byte	1
-	.byte	1
-	.byte	1
-.LCPI83_4:
-	.zero	16,96
-.LCPI83_5:
-	.zero	16,112
-.LCPI83_6:
-	.zero	16,128
-.LCPI83_7:
-	.byte	255
-	.byte	255
-	.byte	255
-	.byte	255
-	.byte	255
-	.byte	255
-	.byte	255
-	.byte	255
-	.byte	255
-	.byte	255
-	.byte	255
-	.byte	255
-	.byte	255
-	.byte	239
-	.byte	223
-	.byte	191
 	.section	.text$096,"xr"
 	.globl	dethrux_from_utf8_lossy_len_v2
 	.p2align	4
@@ -32581,426 +32503,36 @@ dethrux_from_utf8_lossy_len_v2:
 	pushq	%r13
 	pushq	%r12
 	pushq	%rbx
-	subq	$264, %rsp
+	subq	$72, %rsp
 	movq	%rsi, %rbx
 	xorl	%r14d, %r14d
 	testq	%rdi, %rdi
 	sete	%r14b
 	shll	$12, %r14d
 	addq	%rdi, %r14
+	xorps	%xmm0, %xmm0
+	movaps	%xmm0, 48(%rsp)
+	movaps	%xmm0, 32(%rsp)
 	movq	%r14, %rdi
 	callq	L_0
 	testb	%al, %al
-	je	.LBB83_1
-.LBB83_8:
+	je	.LBB83_3
 	movq	%r14, %rdi
 	movq	%rbx, %rsi
-	addq	$264, %rsp
-	popq	%rbx
-	popq	%r12
-	popq	%r13
-	popq	%r14
-	popq	%r15
-	popq	%rbp
-	jmp	L_5
-.LBB83_1:
-	pxor	%xmm0, %xmm0
-	movdqa	%xmm0, 144(%rsp)
-	movq	$0, 160(%rsp)
-	cmpq	$64, %rbx
-	jae	.LBB83_2
-	leaq	144(%rsp), %rdi
-	movq	%r14, %rsi
-	movq	%rbx, %rdx
-	callq	L_3
-	cmpb	$0, 144(%rsp)
-	jne	.LBB83_18
-	movq	152(%rsp), %r14
-	movq	160(%rsp), %rbx
-	jmp	.LBB83_8
-.LBB83_2:
-	movl	$64, %eax
-	subq	%rbx, %rax
-	movq	%r14, %rsi
-	movq	%rbx, %rdx
-	.p2align	4
+	jmp	.LBB83_2
 .LBB83_3:
-	movdqu	(%rsi), %xmm0
-	movdqu	16(%rsi), %xmm1
-	por	%xmm0, %xmm1
-	movdqu	32(%rsi), %xmm0
-	movdqu	48(%rsi), %xmm2
-	por	%xmm0, %xmm2
-	por	%xmm1, %xmm2
-	pmovmskb	%xmm2, %ecx
-	testl	%ecx, %ecx
-	jne	.LBB83_9
-	addq	$-64, %rdx
-	addq	$64, %rsi
-	addq	$64, %rax
-	cmpq	$63, %rdx
-	ja	.LBB83_3
-	pxor	%xmm0, %xmm0
-	movdqa	%xmm0, 128(%rsp)
-	xorl	%ecx, %ecx
-	movdqa	%xmm0, 80(%rsp)
-	movdqa	%xmm0, 112(%rsp)
-	movdqa	%xmm0, 96(%rsp)
-	movdqa	%xmm0, 16(%rsp)
-	movdqa	%xmm0, 64(%rsp)
-	movdqa	%xmm0, 32(%rsp)
-	movdqa	%xmm0, 48(%rsp)
-	movdqa	%xmm0, (%rsp)
-	jmp	.LBB83_15
-.LBB83_9:
-	negq	%rax
-	pxor	%xmm3, %xmm3
-	xorl	%ecx, %ecx
-	movq	%rsi, %rdi
-	pxor	%xmm13, %xmm13
-	pxor	%xmm14, %xmm14
-	pxor	%xmm12, %xmm12
-	pxor	%xmm11, %xmm11
-	pxor	%xmm0, %xmm0
-	pxor	%xmm6, %xmm6
-	pxor	%xmm1, %xmm1
-	pxor	%xmm2, %xmm2
-	jmp	.LBB83_10
-	.p2align	4
-.LBB83_12:
-	movdqa	%xmm7, 32(%rsp)
-	movdqa	%xmm7, %xmm13
-	palignr	$15, %xmm3, %xmm13
-	movdqa	%xmm3, 48(%rsp)
-	movdqa	%xmm9, 16(%rsp)
-	movdqa	%xmm9, %xmm12
-	palignr	$15, %xmm7, %xmm12
-	movdqa	%xmm10, %xmm7
-	palignr	$15, %xmm9, %xmm7
-	movdqa	%xmm6, 80(%rsp)
-	movdqa	%xmm8, %xmm6
-	palignr	$15, %xmm10, %xmm6
-	movdqa	%xmm6, %xmm11
-	psrlw	$4, %xmm11
-	movdqa	.LCPI83_0(%rip), %xmm5
-	pand	%xmm5, %xmm11
-	movdqa	%xmm7, %xmm14
-	psrlw	$4, %xmm14
-	pand	%xmm5, %xmm14
-	movdqa	%xmm12, %xmm9
-	psrlw	$4, %xmm9
-	pand	%xmm5, %xmm9
-	movdqa	%xmm8, (%rsp)
-	movdqa	%xmm13, %xmm8
-	psrlw	$4, %xmm8
-	pand	%xmm5, %xmm8
-	movdqa	.LCPI83_1(%rip), %xmm4
-	movdqa	%xmm10, %xmm3
-	movdqa	%xmm10, 240(%rsp)
-	movdqa	%xmm4, %xmm10
-	pshufb	%xmm8, %xmm10
-	movdqa	%xmm4, %xmm8
-	pshufb	%xmm9, %xmm8
-	movdqa	%xmm4, %xmm9
-	pshufb	%xmm14, %xmm9
-	movdqa	%xmm9, 64(%rsp)
-	pshufb	%xmm11, %xmm4
-	pand	%xmm5, %xmm6
-	pand	%xmm5, %xmm7
-	pand	%xmm5, %xmm12
-	pand	%xmm5, %xmm13
-	movdqa	.LCPI83_2(%rip), %xmm11
-	movdqa	%xmm11, %xmm14
-	pshufb	%xmm13, %xmm14
-	movdqa	%xmm11, %xmm15
-	pshufb	%xmm12, %xmm15
-	movdqa	%xmm11, %xmm12
-	pshufb	%xmm7, %xmm12
-	pshufb	%xmm6, %xmm11
-	movdqa	(%rsp), %xmm13
-	psrlw	$4, %xmm13
-	pand	%xmm5, %xmm13
-	movdqa	%xmm2, 96(%rsp)
-	psrlw	$4, %xmm3
-	pand	%xmm5, %xmm3
-	movdqa	%xmm1, 112(%rsp)
-	movdqa	16(%rsp), %xmm1
-	psrlw	$4, %xmm1
-	pand	%xmm5, %xmm1
-	movdqa	%xmm0, 128(%rsp)
-	movdqa	32(%rsp), %xmm9
-	movdqa	%xmm9, %xmm0
-	psrlw	$4, %xmm0
-	pand	%xmm5, %xmm0
-	movdqa	.LCPI83_3(%rip), %xmm6
-	movdqa	%xmm6, %xmm7
-	pshufb	%xmm0, %xmm7
-	pand	%xmm14, %xmm7
-	pand	%xmm10, %xmm7
-	movdqa	%xmm6, %xmm5
-	pshufb	%xmm1, %xmm5
-	pand	%xmm15, %xmm5
-	pand	%xmm8, %xmm5
-	movdqa	%xmm6, %xmm8
-	pshufb	%xmm3, %xmm8
-	pand	%xmm12, %xmm8
-	pand	64(%rsp), %xmm8
-	pshufb	%xmm13, %xmm6
-	pand	%xmm11, %xmm6
-	pand	%xmm4, %xmm6
-	movdqa	16(%rsp), %xmm3
-	movdqa	%xmm3, %xmm11
-	palignr	$14, %xmm9, %xmm11
-	movdqa	240(%rsp), %xmm15
-	movdqa	%xmm15, %xmm10
-	palignr	$14, %xmm3, %xmm10
-	movdqa	%xmm3, %xmm12
-	movdqa	(%rsp), %xmm0
-	palignr	$14, %xmm15, %xmm0
-	movdqa	%xmm9, %xmm1
-	movdqa	%xmm9, %xmm13
-	movdqa	48(%rsp), %xmm3
-	palignr	$14, %xmm3, %xmm1
-	movdqa	.LCPI83_4(%rip), %xmm2
-	psubusb	%xmm2, %xmm1
-	psubusb	%xmm2, %xmm0
-	psubusb	%xmm2, %xmm10
-	psubusb	%xmm2, %xmm11
-	movdqa	%xmm9, %xmm4
-	palignr	$13, %xmm3, %xmm4
-	movdqa	.LCPI83_5(%rip), %xmm2
-	psubusb	%xmm2, %xmm4
-	por	%xmm1, %xmm4
-	movdqa	112(%rsp), %xmm1
-	movdqa	(%rsp), %xmm3
-	palignr	$13, %xmm15, %xmm3
-	psubusb	%xmm2, %xmm3
-	por	%xmm0, %xmm3
-	movdqa	%xmm15, %xmm9
-	palignr	$13, %xmm12, %xmm9
-	psubusb	%xmm2, %xmm9
-	por	%xmm10, %xmm9
-	movdqa	%xmm12, %xmm10
-	palignr	$13, %xmm13, %xmm10
-	psubusb	%xmm2, %xmm10
-	movdqa	96(%rsp), %xmm2
-	por	%xmm11, %xmm10
-	movdqa	.LCPI83_6(%rip), %xmm0
-	pand	%xmm0, %xmm4
-	pxor	%xmm7, %xmm4
-	pand	%xmm0, %xmm3
-	pxor	%xmm6, %xmm3
-	movdqa	80(%rsp), %xmm6
-	pand	%xmm0, %xmm9
-	pxor	%xmm8, %xmm9
-	movdqa	(%rsp), %xmm8
-	pand	%xmm0, %xmm10
-	pxor	%xmm5, %xmm10
-	pcmpeqd	%xmm0, %xmm0
-	psubusb	%xmm0, %xmm13
-	psubusb	%xmm0, %xmm12
-	movdqa	%xmm8, %xmm11
-	psubusb	.LCPI83_7(%rip), %xmm11
-	psubusb	%xmm0, %xmm15
-	movdqa	128(%rsp), %xmm0
-	movdqa	%xmm12, %xmm14
-	movdqa	%xmm15, %xmm12
-.LBB83_13:
-	por	%xmm3, %xmm2
-	por	%xmm9, %xmm1
-	por	%xmm10, %xmm6
-	por	%xmm4, %xmm0
-	leaq	(%rax,%rcx), %r8
-	addq	$-64, %rcx
-	addq	$64, %rdi
-	movdqa	%xmm8, %xmm3
-	cmpq	$63, %r8
-	jbe	.LBB83_14
-.LBB83_10:
-	movdqu	(%rdi), %xmm7
-	movdqu	16(%rdi), %xmm9
-	movdqu	32(%rdi), %xmm10
-	movdqu	48(%rdi), %xmm8
-	movdqa	%xmm9, %xmm4
-	por	%xmm7, %xmm4
-	movdqa	%xmm10, %xmm5
-	por	%xmm8, %xmm5
-	por	%xmm4, %xmm5
-	pmovmskb	%xmm5, %r8d
-	testl	%r8d, %r8d
-	jne	.LBB83_12
-	movdqa	%xmm13, %xmm4
-	movdqa	%xmm14, %xmm10
-	movdqa	%xmm12, %xmm9
-	movdqa	%xmm11, %xmm3
-	pxor	%xmm13, %xmm13
-	pxor	%xmm14, %xmm14
-	pxor	%xmm12, %xmm12
-	pxor	%xmm11, %xmm11
-	jmp	.LBB83_13
-.LBB83_14:
-	movdqa	%xmm14, 64(%rsp)
-	movdqa	%xmm12, 32(%rsp)
-	movdqa	%xmm11, 48(%rsp)
-	movdqa	%xmm13, 16(%rsp)
-	movdqa	%xmm8, (%rsp)
-	movdqa	%xmm6, 80(%rsp)
-	movdqa	%xmm2, 96(%rsp)
-	movdqa	%xmm1, 112(%rsp)
-	movdqa	%xmm0, 128(%rsp)
-	negq	%rcx
-.LBB83_15:
-	leaq	176(%rsp), %rdi
-	callq	L_2
-	movdqa	176(%rsp), %xmm13
-	movdqa	192(%rsp), %xmm12
-	movdqa	208(%rsp), %xmm10
-	movdqa	224(%rsp), %xmm1
-	movdqa	%xmm12, %xmm4
-	por	%xmm13, %xmm4
-	movdqa	%xmm10, %xmm5
-	por	%xmm1, %xmm5
-	por	%xmm4, %xmm5
-	pmovmskb	%xmm5, %eax
-	testl	%eax, %eax
-	movdqa	16(%rsp), %xmm0
-	movdqa	48(%rsp), %xmm2
-	movdqa	32(%rsp), %xmm3
-	movdqa	64(%rsp), %xmm4
-	je	.LBB83_17
-	movdqa	%xmm13, %xmm0
-	palignr	$15, (%rsp), %xmm0
-	movdqa	%xmm12, %xmm2
-	palignr	$15, %xmm13, %xmm2
-	movdqa	%xmm10, %xmm6
-	palignr	$15, %xmm12, %xmm6
-	movdqa	%xmm1, %xmm5
-	palignr	$15, %xmm10, %xmm5
-	movdqa	%xmm5, %xmm11
-	psrlw	$4, %xmm11
-	movdqa	.LCPI83_0(%rip), %xmm4
-	pand	%xmm4, %xmm11
-	movdqa	%xmm6, %xmm14
-	psrlw	$4, %xmm14
-	pand	%xmm4, %xmm14
-	movdqa	%xmm2, %xmm9
-	psrlw	$4, %xmm9
-	pand	%xmm4, %xmm9
-	movdqa	%xmm0, %xmm8
-	psrlw	$4, %xmm8
-	pand	%xmm4, %xmm8
-	movdqa	.LCPI83_1(%rip), %xmm7
-	movdqa	%xmm7, %xmm3
-	pshufb	%xmm8, %xmm3
-	movdqa	%xmm3, 48(%rsp)
-	movdqa	%xmm7, %xmm8
-	pshufb	%xmm9, %xmm8
-	movdqa	%xmm7, %xmm3
-	pshufb	%xmm14, %xmm3
-	movdqa	%xmm3, 16(%rsp)
-	pshufb	%xmm11, %xmm7
-	pand	%xmm4, %xmm5
-	pand	%xmm4, %xmm6
-	pand	%xmm4, %xmm2
-	pand	%xmm4, %xmm0
-	movdqa	.LCPI83_2(%rip), %xmm11
-	movdqa	%xmm11, %xmm14
-	pshufb	%xmm0, %xmm14
-	movdqa	%xmm11, %xmm15
-	pshufb	%xmm2, %xmm15
-	movdqa	%xmm11, %xmm9
-	pshufb	%xmm6, %xmm9
-	pshufb	%xmm5, %xmm11
-	movdqa	%xmm1, %xmm0
-	psrlw	$4, %xmm0
-	pand	%xmm4, %xmm0
-	movdqa	%xmm10, %xmm2
-	psrlw	$4, %xmm2
-	pand	%xmm4, %xmm2
-	movdqa	%xmm12, %xmm3
-	psrlw	$4, %xmm3
-	pand	%xmm4, %xmm3
-	movdqa	%xmm1, 32(%rsp)
-	movdqa	%xmm13, %xmm1
-	psrlw	$4, %xmm1
-	pand	%xmm4, %xmm1
-	movdqa	.LCPI83_3(%rip), %xmm6
-	movdqa	%xmm6, %xmm5
-	pshufb	%xmm1, %xmm5
-	pand	%xmm14, %xmm5
-	pand	48(%rsp), %xmm5
-	movdqa	%xmm6, %xmm4
-	pshufb	%xmm3, %xmm4
-	pand	%xmm15, %xmm4
-	pand	%xmm8, %xmm4
-	movdqa	%xmm6, %xmm8
-	pshufb	%xmm2, %xmm8
-	pand	%xmm9, %xmm8
-	pand	16(%rsp), %xmm8
-	pshufb	%xmm0, %xmm6
-	pand	%xmm11, %xmm6
-	pand	%xmm7, %xmm6
-	movdqa	%xmm12, %xmm9
-	palignr	$14, %xmm13, %xmm9
-	movdqa	%xmm10, %xmm2
-	palignr	$14, %xmm12, %xmm2
-	movdqa	%xmm13, %xmm0
-	movdqa	(%rsp), %xmm11
-	palignr	$14, %xmm11, %xmm0
-	movdqa	32(%rsp), %xmm14
-	movdqa	%xmm14, %xmm1
-	palignr	$14, %xmm10, %xmm1
-	movdqa	.LCPI83_4(%rip), %xmm3
-	psubusb	%xmm3, %xmm1
-	psubusb	%xmm3, %xmm0
-	psubusb	%xmm3, %xmm2
-	psubusb	%xmm3, %xmm9
-	movdqa	%xmm14, %xmm7
-	palignr	$13, %xmm10, %xmm7
-	palignr	$13, %xmm12, %xmm10
-	palignr	$13, %xmm13, %xmm12
-	palignr	$13, %xmm11, %xmm13
-	movdqa	.LCPI83_5(%rip), %xmm3
-	psubusb	%xmm3, %xmm7
-	por	%xmm1, %xmm7
-	psubusb	%xmm3, %xmm13
-	por	%xmm0, %xmm13
-	psubusb	%xmm3, %xmm10
-	por	%xmm2, %xmm10
-	psubusb	%xmm3, %xmm12
-	por	%xmm9, %xmm12
-	movdqa	.LCPI83_6(%rip), %xmm0
-	pand	%xmm0, %xmm7
-	pxor	%xmm6, %xmm7
-	pand	%xmm0, %xmm13
-	pxor	%xmm5, %xmm13
-	pand	%xmm0, %xmm10
-	pxor	%xmm8, %xmm10
-	pand	%xmm0, %xmm12
-	pxor	%xmm4, %xmm12
-	movdqa	%xmm14, %xmm2
-	psubusb	.LCPI83_7(%rip), %xmm2
-	por	%xmm7, %xmm2
-	movdqa	%xmm13, %xmm0
-	movdqa	%xmm12, %xmm4
-	movdqa	%xmm10, %xmm3
-.LBB83_17:
-	por	80(%rsp), %xmm4
-	por	128(%rsp), %xmm0
-	por	%xmm4, %xmm0
-	por	112(%rsp), %xmm3
-	por	96(%rsp), %xmm2
-	por	%xmm3, %xmm2
-	por	%xmm0, %xmm2
-	ptest	%xmm2, %xmm2
-	je	.LBB83_8
-.LBB83_18:
+	leaq	32(%rsp), %rdi
+	movq	%r14, %rsi
+	movq	%rbx, %rdx
+	callq	L_1
+	cmpb	$0, 32(%rsp)
+	je	.LBB83_9
 	xorl	%r15d, %r15d
 	testq	%rbx, %rbx
-	jne	.LBB83_19
-.LBB83_22:
+	jne	.LBB83_5
+.LBB83_8:
 	movq	%r15, %rax
-	addq	$264, %rsp
+	addq	$72, %rsp
 	popq	%rbx
 	popq	%r12
 	popq	%r13
@@ -33009,7 +32541,7 @@ dethrux_from_utf8_lossy_len_v2:
 	popq	%rbp
 	retq
 	.p2align	4
-.LBB83_21:
+.LBB83_7:
 	leaq	(%r14,%r13), %rbp
 	movq	%r14, %rdi
 	movq	%r12, %rsi
@@ -33020,24 +32552,24 @@ dethrux_from_utf8_lossy_len_v2:
 	cmoveq	%rcx, %r15
 	movq	%rbp, %r14
 	subq	%r13, %rbx
-	je	.LBB83_22
-.LBB83_19:
-	pxor	%xmm0, %xmm0
-	movdqa	%xmm0, 176(%rsp)
-	movq	$0, 192(%rsp)
-	leaq	176(%rsp), %rdi
+	je	.LBB83_8
+.LBB83_5:
+	xorps	%xmm0, %xmm0
+	movaps	%xmm0, (%rsp)
+	movq	$0, 16(%rsp)
+	movq	%rsp, %rdi
 	movq	%r14, %rsi
 	movq	%rbx, %rdx
 	callq	L_3
-	cmpb	$0, 176(%rsp)
+	cmpb	$0, (%rsp)
 	movq	%rbx, %r13
 	movq	%rbx, %r12
-	je	.LBB83_21
-	movq	184(%rsp), %r12
-	movzbl	193(%rsp), %eax
+	je	.LBB83_7
+	movq	8(%rsp), %r12
+	movzbl	17(%rsp), %eax
 	movq	%rbx, %rcx
 	subq	%r12, %rcx
-	cmpb	$1, 192(%rsp)
+	cmpb	$1, 16(%rsp)
 	cmovneq	%rcx, %rax
 	cmpq	%rax, %rcx
 	cmovaeq	%rax, %rcx
@@ -33045,7 +32577,19 @@ dethrux_from_utf8_lossy_len_v2:
 	movl	$1, %r13d
 	cmovneq	%rcx, %r13
 	addq	%r12, %r13
-	jmp	.LBB83_21
+	jmp	.LBB83_7
+.LBB83_9:
+	movq	40(%rsp), %rdi
+	movq	48(%rsp), %rsi
+.LBB83_2:
+	addq	$72, %rsp
+	popq	%rbx
+	popq	%r12
+	popq	%r13
+	popq	%r14
+	popq	%r15
+	popq	%rbp
+	jmp	L_5
 .Lfunc_end83:
 
 	.section	.text$097,"xr"
