@@ -16,8 +16,9 @@ use crate::proved::utf16_transcode::{feed_utf8, finish_utf8, Stream};
 ///
 /// - ensures feeds: `FeedsUtf8 (is_big byte_order) (stream_pending encoder.old) chunk.now
 ///   (stream_pending encoder.new) to.new result.read result.written`
-/// - ensures stop: `StopsFeedingUtf8 (is_big byte_order) (stream_pending encoder.old) chunk.now
-///   (stream_pending encoder.new) result.read (length to.new - result.written) (stop_of result)`
+/// - ensures stop: `StopsFeeding utf8_split (char_bytes (is_big byte_order)) (stream_pending
+///   encoder.old) chunk.now (stream_pending encoder.new) result.read (length to.new -
+///   result.written) (stop_of result)`
 /// - ensures done: `(stop_of result ≡ Done) ↔ (size (decided_text (stream_pending encoder.old ++
 ///   chunk.now)) ≤ length to.new)`
 /// - ensures filled: `stop_of result ≡ NoSpace → length to.new < result.written + 4`

@@ -17,8 +17,8 @@ use crate::proved::utf16_transcode::{
 ///
 /// - ensures wrote: `Writes (TranscodesToUtf16 (is_big byte_order)) utf8.now to.new result.read
 ///   result.written`
-/// - ensures stop: `StopsEncoding (is_big byte_order) utf8.now result.read (length to.new -
-///   result.written) (stop_of result)`
+/// - ensures stop: `Stops encode_utf8 (char_bytes (is_big byte_order)) IsIllFormedUtf8 utf8.now
+///   result.read (length to.new - result.written) (stop_of result)`
 /// - ensures succeeds: `2 * length utf8.now ≤ length to.new → stop_of result ≢ NoSpace`
 /// - ensures numbers: `AreNumbers result.status result.error_len`
 pub fn dethrux_from_utf8(byte_order: u32, utf8: &[u8], to: &mut [u8]) -> Progress {
@@ -34,7 +34,7 @@ pub fn dethrux_from_utf8(byte_order: u32, utf8: &[u8], to: &mut [u8]) -> Progres
 ///
 /// - ensures shown: `WritesWhole text_of_utf8 (char_bytes (is_big byte_order)) utf8.now to.new
 ///   result.read result.written`
-/// - ensures stop: `StopsLossyWhole text_of_utf8 (char_bytes (is_big byte_order)) (drop result.read
+/// - ensures stop: `StopsLossy text_of_utf8 (char_bytes (is_big byte_order)) (drop result.read
 ///   utf8.now) (length to.new - result.written) (stop_of result)`
 /// - ensures between: `take result.written to.new ≡ flat_map (char_bytes (is_big byte_order))
 ///   (text_of_utf8 (take result.read utf8.now))`
@@ -51,8 +51,8 @@ pub fn dethrux_from_utf8_lossy(byte_order: u32, utf8: &[u8], to: &mut [u8]) -> P
 ///
 /// - ensures decodes: `DecodesUtf8To (is_big byte_order) utf8.now to.new result.read
 ///   result.written`
-/// - ensures stop: `StopsLossyUtf8 (is_big byte_order) (drop result.read utf8.now) (length to.new -
-///   result.written) (stop_of result)`
+/// - ensures stop: `StopsPartial utf8_split (char_bytes (is_big byte_order)) (drop result.read
+///   utf8.now) (length to.new - result.written) (stop_of result)`
 /// - ensures succeeds: `2 * length utf8.now ≤ length to.new → stop_of result ≢ NoSpace`
 /// - ensures filled: `stop_of result ≡ NoSpace → length to.new < result.written + 4`
 /// - ensures advances: `4 ≤ length to.new → decided_text utf8.now ≢ [] → 0 < result.read`

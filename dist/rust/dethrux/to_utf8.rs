@@ -39,8 +39,8 @@ pub fn dethrux_to_utf8_replacements(byte_order: u32, utf16: &[u8]) -> usize {
 ///
 /// - ensures wrote: `Writes (TranscodesToUtf8 (is_big byte_order)) utf16.now to.new result.read
 ///   result.written`
-/// - ensures stop: `StopsDecoding (is_big byte_order) utf16.now result.read (length to.new -
-///   result.written) (stop_of result)`
+/// - ensures stop: `Stops (char_bytes (is_big byte_order)) encode_utf8 (IsIllFormedUtf16 (is_big
+///   byte_order)) utf16.now result.read (length to.new - result.written) (stop_of result)`
 /// - ensures succeeds: `length utf16.now / 2 * 3 ≤ length to.new → stop_of result ≢ NoSpace`
 /// - ensures numbers: `AreNumbers result.status result.error_len`
 pub fn dethrux_to_utf8(byte_order: u32, utf16: &[u8], to: &mut [u8]) -> Progress {
@@ -56,7 +56,7 @@ pub fn dethrux_to_utf8(byte_order: u32, utf16: &[u8], to: &mut [u8]) -> Progress
 ///
 /// - ensures shown: `WritesWhole (lossy_text (is_big byte_order)) encode_utf8 utf16.now to.new
 ///   result.read result.written`
-/// - ensures stop: `StopsLossyWhole (lossy_text (is_big byte_order)) encode_utf8 (drop result.read
+/// - ensures stop: `StopsLossy (lossy_text (is_big byte_order)) encode_utf8 (drop result.read
 ///   utf16.now) (length to.new - result.written) (stop_of result)`
 /// - ensures between: `stop_of result ≡ NoSpace → DecodesTo (is_big byte_order) utf16.now to.new
 ///   result.read result.written`
@@ -72,8 +72,8 @@ pub fn dethrux_to_utf8_lossy(byte_order: u32, utf16: &[u8], to: &mut [u8]) -> Pr
 /// Proved:
 ///
 /// - ensures decodes: `DecodesTo (is_big byte_order) utf16.now to.new result.read result.written`
-/// - ensures stop: `StopsLossy (is_big byte_order) (drop result.read utf16.now) (length to.new -
-///   result.written) (stop_of result)`
+/// - ensures stop: `StopsPartial (utf16_split (is_big byte_order)) encode_utf8 (drop result.read
+///   utf16.now) (length to.new - result.written) (stop_of result)`
 /// - ensures succeeds: `length utf16.now / 2 * 3 ≤ length to.new → stop_of result ≢ NoSpace`
 /// - ensures filled: `stop_of result ≡ NoSpace → length to.new < result.written + 4`
 /// - ensures advances: `4 ≤ length to.new → decided_text (is_big byte_order) utf16.now ≢ [] → 0 <

@@ -17,8 +17,8 @@ use crate::proved::utf16_fixed::{
 ///
 /// - ensures wrote: `Writes (TranscodesToUtf32 (is_big byte_order)) utf16.now to.new result.read
 ///   result.written`
-/// - ensures stop: `StopsToUtf32 (is_big byte_order) utf16.now result.read (length to.new -
-///   result.written) (stop_of result)`
+/// - ensures stop: `Stops (char_bytes (is_big byte_order)) utf32_units (IsIllFormedUtf16 (is_big
+///   byte_order)) utf16.now result.read (length to.new - result.written) (stop_of result)`
 /// - ensures succeeds: `length utf16.now / 2 ≤ length to.new → stop_of result ≢ NoSpace`
 /// - ensures numbers: `AreNumbers result.status result.error_len`
 pub fn dethrux_to_utf32(byte_order: u32, utf16: &[u8], to: &mut [u32]) -> Progress {
@@ -33,7 +33,7 @@ pub fn dethrux_to_utf32(byte_order: u32, utf16: &[u8], to: &mut [u32]) -> Progre
 ///
 /// - ensures shown: `WritesWhole (lossy_text (is_big byte_order)) utf32_units utf16.now to.new
 ///   result.read result.written`
-/// - ensures stop: `StopsLossyWhole (lossy_text (is_big byte_order)) utf32_units (drop result.read
+/// - ensures stop: `StopsLossy (lossy_text (is_big byte_order)) utf32_units (drop result.read
 ///   utf16.now) (length to.new - result.written) (stop_of result)`
 /// - ensures between: `stop_of result ≡ NoSpace → DecodesToUtf32 (is_big byte_order) utf16.now
 ///   to.new result.read result.written`
@@ -87,8 +87,8 @@ pub fn dethrux_validate_utf32(utf32: &[u32]) -> Validity {
 ///
 /// - ensures wrote: `Writes (TranscodesFromUtf32 (is_big byte_order)) utf32.now to.new result.read
 ///   result.written`
-/// - ensures stop: `StopsFromUtf32 (is_big byte_order) utf32.now result.read (length to.new -
-///   result.written) (stop_of result)`
+/// - ensures stop: `Stops utf32_units (char_bytes (is_big byte_order)) IsIllFormedUtf32 utf32.now
+///   result.read (length to.new - result.written) (stop_of result)`
 /// - ensures succeeds: `4 * length utf32.now ≤ length to.new → stop_of result ≢ NoSpace`
 /// - ensures numbers: `AreNumbers result.status result.error_len`
 pub fn dethrux_from_utf32(byte_order: u32, utf32: &[u32], to: &mut [u8]) -> Progress {
@@ -103,7 +103,7 @@ pub fn dethrux_from_utf32(byte_order: u32, utf32: &[u32], to: &mut [u8]) -> Prog
 ///
 /// - ensures wrote: `Writes (ShowsInUtf16 (is_big byte_order)) utf32.now to.new result.read
 ///   result.written`
-/// - ensures stop: `StopsLossyWhole lossy_utf32 (char_bytes (is_big byte_order)) (drop result.read
+/// - ensures stop: `StopsLossy lossy_utf32 (char_bytes (is_big byte_order)) (drop result.read
 ///   utf32.now) (length to.new - result.written) (stop_of result)`
 /// - ensures succeeds: `4 * length utf32.now ≤ length to.new → stop_of result ≡ Done`
 /// - ensures numbers: `AreNumbers result.status result.error_len`

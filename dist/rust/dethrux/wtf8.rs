@@ -49,8 +49,8 @@ pub fn dethrux_to_wtf8_len(byte_order: u32, utf16: &[u8]) -> usize {
 ///
 /// - ensures decodes: `DecodesToWtf8 (is_big byte_order) utf16.now to.new result.read
 ///   result.written`
-/// - ensures stop: `StopsBeforeTail (is_big byte_order) (drop result.read utf16.now) (length
-///   to.new - result.written) (stop_of result)`
+/// - ensures stop: `StopsPartial (wtf8_split (is_big byte_order)) generalized_utf8 (drop
+///   result.read utf16.now) (length to.new - result.written) (stop_of result)`
 /// - ensures succeeds: `length utf16.now / 2 * 3 ≤ length to.new → stop_of result ≢ NoSpace`
 /// - ensures filled: `stop_of result ≡ NoSpace → length to.new < result.written + 4`
 /// - ensures advances: `4 ≤ length to.new → decided (wtf8_split (is_big byte_order)) utf16.now ≢ []
@@ -67,9 +67,9 @@ pub fn dethrux_to_wtf8_partial(byte_order: u32, utf16: &[u8], to: &mut [u8]) -> 
 ///
 /// - ensures feeds: `FeedsAs (wtf8_split (is_big byte_order)) generalized_utf8 (stream_pending
 ///   decoder.old) chunk.now (stream_pending decoder.new) to.new result.read result.written`
-/// - ensures stop: `StopsFeedingAs (wtf8_split (is_big byte_order)) generalized_utf8
-///   (stream_pending decoder.old) chunk.now (stream_pending decoder.new) result.read (length
-///   to.new - result.written) (stop_of result)`
+/// - ensures stop: `StopsFeeding (wtf8_split (is_big byte_order)) generalized_utf8 (stream_pending
+///   decoder.old) chunk.now (stream_pending decoder.new) result.read (length to.new -
+///   result.written) (stop_of result)`
 /// - ensures done: `(stop_of result ≡ Done) ↔ (length (flat_map generalized_utf8 (decided
 ///   (wtf8_split (is_big byte_order)) (stream_pending decoder.old ++ chunk.now))) ≤ length to.new)`
 /// - ensures filled: `stop_of result ≡ NoSpace → length to.new < result.written + 4`

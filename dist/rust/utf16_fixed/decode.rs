@@ -24,8 +24,8 @@ use crate::proved::utf16_units::{first_char_len, Moved, Utf16Order};
 /// Proved:
 ///
 /// - ensures wrote: `Writes (TranscodesToUtf32 E.BIG) raw.now to.new result.read result.written`
-/// - ensures stop: `StopsToUtf32 E.BIG raw.now result.read (length to.new - result.written)
-///   result.stop`
+/// - ensures stop: `Stops (char_bytes E.BIG) utf32_units (IsIllFormedUtf16 E.BIG) raw.now
+///   result.read (length to.new - result.written) result.stop`
 /// - ensures succeeds: `length raw.now / 2 ≤ length to.new → result.stop ≢ NoSpace`
 pub fn to_utf32<E: Utf16Order>(raw: &[u8], to: &mut [u32]) -> Progress {
     let mut done = Moved {

@@ -23,8 +23,8 @@ use crate::proved::utf16_units::{validate_raw_utf16, Utf16Order};
 ///
 /// - ensures shown: `WritesWhole (lossy_text E.BIG) utf32_units raw.now to.new result.read
 ///   result.written`
-/// - ensures stop: `StopsLossyWhole (lossy_text E.BIG) utf32_units (drop result.read raw.now)
-///   (length to.new - result.written) result.stop`
+/// - ensures stop: `StopsLossy (lossy_text E.BIG) utf32_units (drop result.read raw.now) (length
+///   to.new - result.written) result.stop`
 /// - ensures between: `result.stop ≡ NoSpace → DecodesToUtf32 E.BIG raw.now to.new result.read
 ///   result.written`
 /// - ensures succeeds: `(length raw.now + 1) / 2 ≤ length to.new → result.stop ≡ Done`
@@ -54,8 +54,8 @@ pub fn to_utf32_lossy<E: Utf16Order>(raw: &[u8], to: &mut [u32]) -> Progress {
 // Proved:
 //
 // - ensures decodes: `DecodesToUtf32 E.BIG raw.now to.new result.read result.written`
-// - ensures stop: `StopsLossyToUtf32 E.BIG (drop result.read raw.now) (length to.new -
-//   result.written) result.stop`
+// - ensures stop: `StopsPartial (utf16_split E.BIG) utf32_units (drop result.read raw.now) (length
+//   to.new - result.written) result.stop`
 fn write_decided<E: Utf16Order>(raw: &[u8], to: &mut [u32]) -> Progress {
     let mut read = 0;
     let mut written = 0;

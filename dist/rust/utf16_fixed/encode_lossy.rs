@@ -22,8 +22,8 @@ use crate::proved::utf16_units::Utf16Order;
 /// Proved:
 ///
 /// - ensures wrote: `Writes (ShowsInUtf16 E.BIG) utf32.now to.new result.read result.written`
-/// - ensures stop: `StopsLossyWhole lossy_utf32 (char_bytes E.BIG) (drop result.read utf32.now)
-///   (length to.new - result.written) result.stop`
+/// - ensures stop: `StopsLossy lossy_utf32 (char_bytes E.BIG) (drop result.read utf32.now) (length
+///   to.new - result.written) result.stop`
 /// - ensures succeeds: `4 * length utf32.now ≤ length to.new → result.stop ≡ Done`
 pub fn from_utf32_lossy<E: Utf16Order>(utf32: &[u32], to: &mut [u8]) -> Progress {
     let replacement = E::write_unit(char::REPLACEMENT_CHARACTER as u16);

@@ -5,10 +5,7 @@ use crate::proved::simd::*;
 use crate::proved::utf16_to_utf8::lanes::{
     doubled, each, eights, have_none, sixteens, smaller, sum,
 };
-use crate::proved::utf16_to_utf8::pack::write_ascii;
-use crate::proved::utf16_to_utf8::writers::{
-    BasicWriter, LettersWriter, MixedWriter, PairsWriter, WideWriter, Writer,
-};
+use crate::proved::utf16_to_utf8::pack::{write_any, write_ascii, write_narrow, write_wide};
 use crate::proved::utf16_units::blocks::units32;
 use crate::proved::utf16_units::Utf16Order;
 
@@ -152,19 +149,6 @@ pub(crate) fn eight_are_basic(units: u16x8) -> bool {
     lanes_below(units, 0x800) || lanes_from(raised(units), 0x800)
 }
 
-// Whether a block of the kind has no surrogate.
-//
-// Proved:
-//
-// - ensures `IsTrue result → IsPlain kind`
-#[inline(always)]
-pub(crate) fn is_plain(kind: Kind) -> bool {
-    match kind {
-        Kind::Ascii | Kind::Letters | Kind::Wide | Kind::Basic => true,
-        Kind::Pairs | Kind::Mixed => false,
-    }
-}
-
 // Whether the units of a block have this kind.
 //
 // Proved:
@@ -205,35 +189,38 @@ pub(crate) fn are_of(units: u16x32, kind: Kind) -> bool {
 // - ensures written_to: `result ≤ at + 96`
 // - ensures ascii: `kind ≡ Ascii → result ≤ at + 32`
 #[inline(always)]
-pub(crate) fn write_block(
+pub(crate) fn write_units(
     out: &mut [u8],
     at: usize,
     previous: u16x8,
     units: u16x32,
     kind: Kind,
 ) -> usize {
-    match kind {
-        Kind::Ascii => write_ascii(out, at, units),
-        Kind::Letters => write_groups::<LettersWriter>(out, at, previous, units),
-        Kind::Pairs => write_groups::<PairsWriter>(out, at, previous, units),
-        Kind::Wide => write_groups::<WideWriter>(out, at, previous, units),
-        Kind::Basic => write_groups::<BasicWriter>(out, at, previous, units),
-        Kind::Mixed => write_groups::<MixedWriter>(out, at, previous, units),
+    if let Kind::Ascii = kind {
+        return write_ascii(out, at, units);
     }
+    let (first, second) = sixteens(units);
+    let end = write_group(out, at, doubled(previous), first, kind);
+    write_group(out, end, first, second, kind)
 }
 
-// Writes the UTF-8 that a block adds, sixteen units at a time.
+// Writes the UTF-8 that sixteen units of this kind add.
 //
 // Proved:
 //
-// - requires space: `at + 104 ≤ length out.old`
-// - requires kind: `AreOfKind W.KIND units`
-// - ensures bytes: `take result out.new ≡ take at out.old ++ units_utf8 (slice_index previous 7)
+// - requires space: `at + 56 ≤ length out.old`
+// - requires kind: `AreOfKind kind units`
+// - ensures bytes: `take result out.new ≡ take at out.old ++ units_utf8 (slice_index previous 15)
 //   units`
-// - ensures written_to: `result ≤ at + 96`
-#[inline]
-fn write_groups<W: Writer>(out: &mut [u8], at: usize, previous: u16x8, units: u16x32) -> usize {
-    let (first, second) = sixteens(units);
-    let end = W::write_group(out, at, doubled(previous), first);
-    W::write_group(out, end, first, second)
+// - ensures written_to: `result ≤ at + 48`
+#[inline(always)]
+fn write_group(out: &mut [u8], at: usize, previous: u16x16, units: u16x16, kind: Kind) -> usize {
+    match kind {
+        Kind::Ascii => write_ascii(out, at, units),
+        Kind::Letters => write_narrow(out, at, previous, units, false),
+        Kind::Pairs => write_narrow(out, at, previous, units, true),
+        Kind::Wide => write_wide(out, at, units),
+        Kind::Basic => write_any(out, at, previous, units, false),
+        Kind::Mixed => write_any(out, at, previous, units, true),
+    }
 }

@@ -17,7 +17,6 @@ mod short;
 mod vectors;
 mod word_places;
 mod write;
-mod writers;
 
 pub use crate::proved::utf16_to_utf8::append::{append_utf8, to_utf8};
 pub use crate::proved::utf16_to_utf8::chars::{put, put_char};

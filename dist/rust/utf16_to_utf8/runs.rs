@@ -13,7 +13,7 @@
 //! them down.
 
 use crate::proved::simd::*;
-use crate::proved::utf16_to_utf8::blocks::{are_of, is_plain, kind_of, write_block, Kind};
+use crate::proved::utf16_to_utf8::blocks::{are_of, kind_of, write_units, Kind};
 use crate::proved::utf16_to_utf8::lanes::{eights, sixteens};
 use crate::proved::utf16_to_utf8::write::SLACK;
 use crate::proved::utf16_units::blocks::units32;
@@ -97,16 +97,13 @@ pub(crate) fn write_paired<E: Utf16Order>(raw: &[u8], out: &mut [u8]) -> Tested 
 fn write_plain<E: Utf16Order>(raw: &[u8], out: &mut [u8], from: Cursor) -> Cursor {
     let mut run = write_ascii_run::<E>(raw, out, from);
     while !run.ended {
-        let kind = kind_of(run.units);
-        if !is_plain(kind) {
-            break;
-        }
-        let block = write_block_units::<E>(raw, out, run.cursor, run.units, kind);
-        // Wide and basic blocks often follow others of their kind.
-        let next = match kind {
-            Kind::Wide => write_run::<E>(raw, out, block, Kind::Wide),
-            Kind::Basic => write_run::<E>(raw, out, block, Kind::Basic),
-            Kind::Ascii | Kind::Letters | Kind::Pairs | Kind::Mixed => block,
+        let Run { cursor, units, .. } = run;
+        let next = match kind_of(units) {
+            Kind::Letters => write_block::<E>(raw, out, cursor, units, Kind::Letters),
+            // Wide and basic blocks often follow others of their kind.
+            Kind::Wide => write_run::<E>(raw, out, cursor, units, Kind::Wide),
+            Kind::Basic => write_run::<E>(raw, out, cursor, units, Kind::Basic),
+            Kind::Ascii | Kind::Pairs | Kind::Mixed => break,
         };
         run = write_ascii_run::<E>(raw, out, next);
     }
@@ -137,10 +134,10 @@ fn write_surrogates<E: Utf16Order>(
 ) -> Option<Tested> {
     let leading = paired(units, from.leading)?;
     if !are_of(units, Kind::Pairs) {
-        let cursor = write_block_units::<E>(raw, out, from.cursor, units, Kind::Mixed);
+        let cursor = write_block::<E>(raw, out, from.cursor, units, Kind::Mixed);
         return Some(Tested { cursor, leading });
     }
-    let cursor = write_block_units::<E>(raw, out, from.cursor, units, Kind::Pairs);
+    let cursor = write_block::<E>(raw, out, from.cursor, units, Kind::Pairs);
     let mut done = Tested { cursor, leading };
     while done.cursor.at <= raw.len() - 64 {
         if done.cursor.end > out.len() - SLACK {
@@ -153,7 +150,7 @@ fn write_surrogates<E: Utf16Order>(
         let Some(leading) = paired(units, done.leading) else {
             break;
         };
-        let cursor = write_block_units::<E>(raw, out, done.cursor, units, Kind::Pairs);
+        let cursor = write_block::<E>(raw, out, done.cursor, units, Kind::Pairs);
         done = Tested { cursor, leading };
     }
     Some(done)
@@ -200,24 +197,33 @@ fn write_ascii_run<E: Utf16Order>(raw: &[u8], out: &mut [u8], from: Cursor) -> R
             run.ended = false;
             break;
         }
-        run.cursor = write_block_units::<E>(raw, out, run.cursor, run.units, Kind::Ascii);
+        run.cursor = write_block::<E>(raw, out, run.cursor, run.units, Kind::Ascii);
     }
     run
 }
 
-// Writes the blocks of this kind from the cursor on that fit.
+// Writes the next block, whose kind is known, and the blocks of this kind after it that fit.
 //
 // Proved:
 //
-// - requires many: `64 ≤ length raw.now`
-// - requires space: `SLACK ≤ length out.old`
+// - requires space: `from.end + SLACK ≤ length out.old`
+// - requires more: `from.at + 64 ≤ length raw.now`
+// - requires next: `units ≡ units_of E.BIG (take 64 (drop from.at raw.now))`
+// - requires kind: `AreOfKind kind units`
 // - requires reached: `Reached E.BIG raw.now out.old from`
 // - ensures advanced: `Advanced E.BIG kind raw.now out.new from result`
+// - ensures advances: `from.at < result.at`
 #[inline(always)]
-fn write_run<E: Utf16Order>(raw: &[u8], out: &mut [u8], from: Cursor, kind: Kind) -> Cursor {
+fn write_run<E: Utf16Order>(
+    raw: &[u8],
+    out: &mut [u8],
+    from: Cursor,
+    units: u16x32,
+    kind: Kind,
+) -> Cursor {
     let last = raw.len() - 64;
     let most = out.len() - SLACK;
-    let mut cursor = from;
+    let mut cursor = write_block::<E>(raw, out, from, units, kind);
     while cursor.at <= last {
         if cursor.end > most {
             break;
@@ -226,7 +232,7 @@ fn write_run<E: Utf16Order>(raw: &[u8], out: &mut [u8], from: Cursor, kind: Kind
         if !are_of(units, kind) {
             break;
         }
-        cursor = write_block_units::<E>(raw, out, cursor, units, kind);
+        cursor = write_block::<E>(raw, out, cursor, units, kind);
     }
     cursor
 }
@@ -247,14 +253,14 @@ fn write_run<E: Utf16Order>(raw: &[u8], out: &mut [u8], from: Cursor, kind: Kind
 // - ensures pairs: `(before after : Bool) → PairedTo E.BIG raw.now from.at before → Paired before
 //   units after → PairedTo E.BIG raw.now result.at after`
 #[inline(always)]
-fn write_block_units<E: Utf16Order>(
+fn write_block<E: Utf16Order>(
     raw: &[u8],
     out: &mut [u8],
     from: Cursor,
     units: u16x32,
     kind: Kind,
 ) -> Cursor {
-    let end = write_block(out, from.end, from.previous, units, kind);
+    let end = write_units(out, from.end, from.previous, units, kind);
     Cursor {
         at: from.at + 64,
         end,

@@ -37,19 +37,7 @@ pub const SLACK: usize = 128;
 ///   SLACK) to.old`
 pub fn write_utf8<E: Utf16Order>(raw: &[u8], to: &mut [u8]) -> usize {
     let room = raw.len() / 2 * 3 + SLACK;
-    write_whole::<E>(raw, &mut to[..room])
-}
-
-// Writes a text. All bytes after those written may be overwritten.
-//
-// Proved:
-//
-// - requires well_formed: `IsUtf16 E.BIG raw.now`
-// - requires space: `length raw.now / 2 * 3 + SLACK ≤ length out.old`
-// - ensures utf8: `take result out.new ≡ utf8_of E.BIG raw.now`
-// - ensures fits: `result ≤ length out.new`
-#[inline(always)]
-fn write_whole<E: Utf16Order>(raw: &[u8], out: &mut [u8]) -> usize {
+    let out = &mut to[..room];
     let Strategy::Blocks = strategy_for(raw.len()) else {
         return write_short::<E>(raw, out);
     };

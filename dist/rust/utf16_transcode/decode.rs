@@ -30,8 +30,8 @@ use core::marker::PhantomData;
 /// Proved:
 ///
 /// - ensures wrote: `Writes (TranscodesToUtf8 E.BIG) raw.now to.new result.read result.written`
-/// - ensures stop: `StopsDecoding E.BIG raw.now result.read (length to.new - result.written)
-///   result.stop`
+/// - ensures stop: `Stops (char_bytes E.BIG) encode_utf8 (IsIllFormedUtf16 E.BIG) raw.now
+///   result.read (length to.new - result.written) result.stop`
 #[inline(always)]
 pub fn to_utf8<E: Utf16Order>(raw: &[u8], to: &mut [u8]) -> Progress {
     transcode::<ToUtf8<E>>(raw, to)

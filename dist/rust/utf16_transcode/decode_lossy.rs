@@ -31,8 +31,8 @@ const ASCII_LEN: usize = 128;
 /// Proved:
 ///
 /// - ensures decodes: `DecodesTo E.BIG raw.now to.new result.read result.written`
-/// - ensures stop: `StopsLossy E.BIG (drop result.read raw.now) (length to.new - result.written)
-///   result.stop`
+/// - ensures stop: `StopsPartial (utf16_split E.BIG) encode_utf8 (drop result.read raw.now) (length
+///   to.new - result.written) result.stop`
 pub fn to_utf8_partial<E: Utf16Order>(raw: &[u8], to: &mut [u8]) -> Progress {
     transcode_partial::<ToUtf8<E>>(raw, to)
 }
@@ -49,8 +49,8 @@ pub fn to_utf8_partial<E: Utf16Order>(raw: &[u8], to: &mut [u8]) -> Progress {
 ///
 /// - ensures shown: `WritesWhole (lossy_text E.BIG) encode_utf8 raw.now to.new result.read
 ///   result.written`
-/// - ensures stop: `StopsLossyWhole (lossy_text E.BIG) encode_utf8 (drop result.read raw.now)
-///   (length to.new - result.written) result.stop`
+/// - ensures stop: `StopsLossy (lossy_text E.BIG) encode_utf8 (drop result.read raw.now) (length
+///   to.new - result.written) result.stop`
 /// - ensures between: `result.stop ≡ NoSpace → DecodesTo E.BIG raw.now to.new result.read
 ///   result.written`
 pub fn to_utf8_lossy<E: Utf16Order>(raw: &[u8], to: &mut [u8]) -> Progress {

@@ -28,8 +28,8 @@ const REPLACEMENT_LEN: usize = 2;
 /// Proved:
 ///
 /// - ensures decodes: `DecodesUtf8To E.BIG text.now to.new result.read result.written`
-/// - ensures stop: `StopsLossyUtf8 E.BIG (drop result.read text.now) (length to.new -
-///   result.written) result.stop`
+/// - ensures stop: `StopsPartial utf8_split (char_bytes E.BIG) (drop result.read text.now) (length
+///   to.new - result.written) result.stop`
 pub fn from_utf8_partial<E: Utf16Order>(text: &[u8], to: &mut [u8]) -> Progress {
     transcode_partial::<FromUtf8<E>>(text, to)
 }
@@ -97,8 +97,8 @@ fn write_after_ill_formed<E: Utf16Order>(text: &[u8], to: &mut [u8]) -> Moved {
 ///
 /// - ensures shown: `WritesWhole text_of_utf8 (char_bytes E.BIG) text.now to.new result.read
 ///   result.written`
-/// - ensures stop: `StopsLossyWhole text_of_utf8 (char_bytes E.BIG) (drop result.read text.now)
-///   (length to.new - result.written) result.stop`
+/// - ensures stop: `StopsLossy text_of_utf8 (char_bytes E.BIG) (drop result.read text.now) (length
+///   to.new - result.written) result.stop`
 /// - ensures between: `take result.written to.new ≡ flat_map (char_bytes E.BIG) (text_of_utf8 (take
 ///   result.read text.now))`
 pub fn from_utf8_lossy<E: Utf16Order>(text: &[u8], to: &mut [u8]) -> Progress {
@@ -146,7 +146,7 @@ pub fn from_utf8_lossy_len(text: &[u8]) -> usize {
     if is_text_within_block(text) {
         return utf16_len(unsafe { core::str::from_utf8_unchecked(text) });
     }
-    if let Ok(text) = crate::proved::simdutf8::basic::from_utf8(text) {
+    if let Ok(text) = crate::proved::simdutf8::compat::from_utf8(text) {
         return utf16_len(text);
     }
     let mut size = 0;

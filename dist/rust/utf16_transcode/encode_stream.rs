@@ -27,8 +27,9 @@ use crate::proved::utf16_units::Utf16Order;
 ///
 /// - ensures feeds: `FeedsUtf8 E.BIG (stream_pending stream.old) piece.now (stream_pending
 ///   stream.new) to.new result.read result.written`
-/// - ensures stop: `StopsFeedingUtf8 E.BIG (stream_pending stream.old) piece.now (stream_pending
-///   stream.new) result.read (length to.new - result.written) result.stop`
+/// - ensures stop: `StopsFeeding utf8_split (char_bytes E.BIG) (stream_pending stream.old)
+///   piece.now (stream_pending stream.new) result.read (length to.new - result.written)
+///   result.stop`
 /// - ensures done: `(result.stop ≡ Done) ↔ (size (decided_text (stream_pending stream.old ++
 ///   piece.now)) ≤ length to.new)`
 /// - ensures filled: `result.stop ≡ NoSpace → length to.new < result.written + 4`

@@ -63,6 +63,6 @@ pub trait LossyDirection {
     ///   Self.Text.other) input to n w → DecodesAsTo split into input to n w`
     /// - ensures stops: `(input : List ℕ) (n left : ℕ) (stop : Stop) → ((len : ℕ) → ¬ (stop ≡
     ///   IllFormed len)) → Stops Self.Text.from Self.Text.into Self.Text.IsIllFormed input n left
-    ///   stop → StopsLossyAs split into (drop n input) left stop`
+    ///   stop → StopsPartial split into (drop n input) left stop`
     fn lossy_laws();
 }

@@ -12,7 +12,7 @@ use crate::proved::utf16_transcode::transcoding::transcode;
 /// Proved:
 ///
 /// - ensures decodes: `DecodesAsTo D.split D.into input.now to.new result.read result.written`
-/// - ensures stop: `StopsLossyAs D.split D.into (drop result.read input.now) (length to.new -
+/// - ensures stop: `StopsPartial D.split D.into (drop result.read input.now) (length to.new -
 ///   result.written) result.stop`
 #[inline(always)]
 pub fn transcode_partial<D: LossyDirection>(input: &[u8], to: &mut [u8]) -> Progress {
@@ -49,8 +49,8 @@ pub fn transcode_partial<D: LossyDirection>(input: &[u8], to: &mut [u8]) -> Prog
 /// Proved:
 ///
 /// - ensures shown: `WritesWhole D.split.whole D.into input.now to.new result.read result.written`
-/// - ensures stop: `StopsLossyWhole D.split.whole D.into (drop result.read input.now) (length
-///   to.new - result.written) result.stop`
+/// - ensures stop: `StopsLossy D.split.whole D.into (drop result.read input.now) (length to.new -
+///   result.written) result.stop`
 /// - ensures between: `result.stop ≡ NoSpace → DecodesAsTo D.split D.into input.now to.new
 ///   result.read result.written`
 pub fn transcode_lossy<D: LossyDirection>(input: &[u8], to: &mut [u8]) -> Progress {

@@ -92,7 +92,7 @@ impl Stream {
     ///
     /// - ensures feeds: `FeedsAs D.split D.into (stream_pending self.old) piece.now (stream_pending
     ///   self.new) to.new result.read result.written`
-    /// - ensures stop: `StopsFeedingAs D.split D.into (stream_pending self.old) piece.now
+    /// - ensures stop: `StopsFeeding D.split D.into (stream_pending self.old) piece.now
     ///   (stream_pending self.new) result.read (length to.new - result.written) result.stop`
     /// - ensures done: `(result.stop ≡ Done) ↔ (length (flat_map D.into (decided D.split
     ///   (stream_pending self.old ++ piece.now))) ≤ length to.new)`
@@ -168,7 +168,7 @@ impl Stream {
 // - requires `length pending.now ≤ 3`
 // - ensures decodes: `DecodesAsTo D.split D.into (pending.now ++ piece.now) to.new result.read
 //   result.written`
-// - ensures stop: `StopsLossyAs D.split D.into (drop result.read (pending.now ++ piece.now))
+// - ensures stop: `StopsPartial D.split D.into (drop result.read (pending.now ++ piece.now))
 //   (length to.new - result.written) result.stop`
 fn transcode_joined<D: LossyDirection>(pending: &[u8], piece: &[u8], to: &mut [u8]) -> Progress {
     D::lossy_laws();

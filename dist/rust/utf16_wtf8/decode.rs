@@ -17,8 +17,8 @@ use crate::proved::utf16_wtf8::direction::ToWtf8;
 /// Proved:
 ///
 /// - ensures decodes: `DecodesToWtf8 E.BIG raw.now to.new result.read result.written`
-/// - ensures stop: `StopsBeforeTail E.BIG (drop result.read raw.now) (length to.new -
-///   result.written) result.stop`
+/// - ensures stop: `StopsPartial (wtf8_split E.BIG) generalized_utf8 (drop result.read raw.now)
+///   (length to.new - result.written) result.stop`
 pub fn to_wtf8_partial<E: Utf16Order>(raw: &[u8], to: &mut [u8]) -> Progress {
     transcode_partial::<ToWtf8<E>>(raw, to)
 }
