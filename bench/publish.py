@@ -2,7 +2,7 @@
 # Compares what the programs of a script printed, and publishes it. A ratio above 1 means that
 # Dethrux is faster.
 #
-#     publish.py SCRIPT FILE   reads what run, real, walks or worst printed: writes
+#     publish.py SCRIPT FILE   reads what run, real or worst printed: writes
 #                              bench/out/SCRIPT.csv, and prints the ratios of each call, and each
 #                              row in which a competitor is faster
 #     publish.py               fills in the rows of results/results.csv from bench/out, and draws
@@ -89,22 +89,6 @@ def real(lines):
                 yield call, order, text, size, "GB/s", library, *speeds
 
 
-def walks(lines):
-    best, found = {}, {}
-    for line in lines:
-        call, text, size, order, result, time, times = line.split()
-        its = best.setdefault((call.replace(",", ", "), text, size), {})
-        its[order] = min(int(time) / int(times), its.get(order, float("inf")))
-        # Offsets and hashes depend on the encoding.
-        kind = order if call == "hash" else call == "char_indices" and order == "std"
-        if found.setdefault((call, text, size, kind), result) != result:
-            sys.exit(f"walks: a call and std differ: {line}")
-    for (call, text, size), its in best.items():
-        for order in ("LE", "BE"):
-            times = f"{its[order]:.1f}", "std", f"{its['std']:.1f}"
-            yield call, order.lower(), text, f"{size} bytes", "ns", "", *times
-
-
 def worst(lines):
     """Of each call and capacity, the text that costs most."""
     most = {}
@@ -119,7 +103,7 @@ def worst(lines):
             yield f"{call}, {kind}", "", text, f"buffer of {capacity}", "ns a byte", "v2", *times
 
 
-SCRIPTS = {it.__name__: it for it in (run, real, walks, worst)}
+SCRIPTS = {it.__name__: it for it in (run, real, worst)}
 
 
 def compared(script, lines):
