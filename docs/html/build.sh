@@ -32,16 +32,14 @@ printf 'Python\n======\n\n.. automodule:: dethrux\n' > "$room/source/reference/p
 PYTHON=/usr/bin/python3 bindings/python/build.sh "$room/python"
 site/build.py "$room/source/extra/see/index.html" ../index.html
 
-# A copy, since cargo writes a file next to a crate. A setting replaces the build script, which
-# needs the library.
-git ls-files -z bindings/rust dist/rust | xargs -0 cp -P --parents -t "$room"
-host=$(rustc -vV | sed -n 's/^host: //p')
+# A copy, since cargo writes a file next to a crate. As on docs.rs, no library is linked.
+git ls-files -z bindings/rust dist/rust | xargs -0 cp --parents -t "$room"
 settings=('source.crates-io.replace-with="debian"')
 settings+=('source.debian.directory="/usr/share/cargo/registry"')
-settings+=("target.$host.dethrux.rustc-link-lib=[\"dethrux\"]")
 for crate in dethrux utf16string; do
-    (cd "$room/bindings/rust/$crate" && CARGO_TARGET_DIR=$room/target RUSTDOCFLAGS='-D warnings' \
-        cargo doc --quiet --no-deps --offline "${settings[@]/#/--config=}") || status=1
+    (cd "$room/bindings/rust/$crate" && DOCS_RS=1 CARGO_TARGET_DIR=$room/target \
+        RUSTDOCFLAGS="-D warnings" cargo doc --quiet --no-deps --offline \
+        "${settings[@]/#/--config=}") || status=1
 done
 cp -r "$room/target/doc/." "$room/source/extra/rust"
 
