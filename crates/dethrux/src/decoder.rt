@@ -26,7 +26,8 @@ pub extern "C" fn dethrux_decoder_feed(
 ) -> Progress
     ensures feeds { Feeds (is_big byte_order) (stream_pending decoder.old) chunk.now
         (stream_pending decoder.new) to.new result.read result.written }
-    ensures stop { StopsFeeding (utf16_split (is_big byte_order)) encode_utf8 (stream_pending decoder.old) chunk.now
+    ensures stop { StopsFeeding (utf16_split (is_big byte_order)) encode_utf8
+        (stream_pending decoder.old) chunk.now
         (stream_pending decoder.new) result.read (length to.new - result.written) (stop_of result) }
     ensures done { (stop_of result ≡ Done) ↔ (length (encode_utf8_all (decided_text (is_big
         byte_order) (stream_pending decoder.old ++ chunk.now))) ≤ length to.new) }

@@ -27,7 +27,8 @@ pub extern "C" fn dethrux_encoder_feed(
 ) -> Progress
     ensures feeds { FeedsUtf8 (is_big byte_order) (stream_pending encoder.old) chunk.now
         (stream_pending encoder.new) to.new result.read result.written }
-    ensures stop { StopsFeeding utf8_split (char_bytes (is_big byte_order)) (stream_pending encoder.old) chunk.now
+    ensures stop { StopsFeeding utf8_split (char_bytes (is_big byte_order))
+        (stream_pending encoder.old) chunk.now
         (stream_pending encoder.new) result.read (length to.new - result.written) (stop_of result) }
     ensures done { (stop_of result ≡ Done)
         ↔ (size (decided_text (stream_pending encoder.old ++ chunk.now)) ≤ length to.new) }

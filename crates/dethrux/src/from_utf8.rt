@@ -31,7 +31,8 @@ use utf16_transcode::{
 pub extern "C" fn dethrux_from_utf8(byte_order: u32, utf8: &[u8], to: &mut [u8]) -> Progress
     ensures wrote { Writes (TranscodesToUtf16 (is_big byte_order)) utf8.now to.new result.read
         result.written }
-    ensures stop { Stops encode_utf8 (char_bytes (is_big byte_order)) IsIllFormedUtf8 utf8.now result.read
+    ensures stop { Stops encode_utf8 (char_bytes (is_big byte_order)) IsIllFormedUtf8 utf8.now
+        result.read
         (length to.new - result.written) (stop_of result) }
     ensures succeeds { 2 * length utf8.now ≤ length to.new → stop_of result ≢ NoSpace }
     ensures numbers { AreNumbers result.status result.error_len }
@@ -63,7 +64,8 @@ pub extern "C" fn dethrux_from_utf8_lossy(byte_order: u32, utf8: &[u8], to: &mut
 pub extern "C" fn dethrux_from_utf8_partial(byte_order: u32, utf8: &[u8], to: &mut [u8]) -> Progress
     ensures decodes { DecodesUtf8To (is_big byte_order) utf8.now to.new result.read
         result.written }
-    ensures stop { StopsPartial utf8_split (char_bytes (is_big byte_order)) (drop result.read utf8.now)
+    ensures stop { StopsPartial utf8_split (char_bytes (is_big byte_order))
+        (drop result.read utf8.now)
         (length to.new - result.written) (stop_of result) }
     ensures succeeds { 2 * length utf8.now ≤ length to.new → stop_of result ≢ NoSpace }
     ensures filled { stop_of result ≡ NoSpace → length to.new < result.written + 4 }

@@ -47,7 +47,8 @@ pub extern "C" fn dethrux_to_utf8_replacements(byte_order: u32, utf16: &[u8]) ->
 pub extern "C" fn dethrux_to_utf8(byte_order: u32, utf16: &[u8], to: &mut [u8]) -> Progress
     ensures wrote { Writes (TranscodesToUtf8 (is_big byte_order)) utf16.now to.new result.read
         result.written }
-    ensures stop { Stops (char_bytes (is_big byte_order)) encode_utf8 (IsIllFormedUtf16 (is_big byte_order)) utf16.now result.read
+    ensures stop { Stops (char_bytes (is_big byte_order)) encode_utf8
+        (IsIllFormedUtf16 (is_big byte_order)) utf16.now result.read
         (length to.new - result.written) (stop_of result) }
     ensures succeeds { length utf16.now / 2 * 3 ≤ length to.new → stop_of result ≢ NoSpace }
     ensures numbers { AreNumbers result.status result.error_len }
@@ -78,7 +79,8 @@ pub extern "C" fn dethrux_to_utf8_lossy(byte_order: u32, utf16: &[u8], to: &mut 
 #[unsafe(no_mangle)]
 pub extern "C" fn dethrux_to_utf8_partial(byte_order: u32, utf16: &[u8], to: &mut [u8]) -> Progress
     ensures decodes { DecodesTo (is_big byte_order) utf16.now to.new result.read result.written }
-    ensures stop { StopsPartial (utf16_split (is_big byte_order)) encode_utf8 (drop result.read utf16.now)
+    ensures stop { StopsPartial (utf16_split (is_big byte_order)) encode_utf8
+        (drop result.read utf16.now)
         (length to.new - result.written) (stop_of result) }
     ensures succeeds { length utf16.now / 2 * 3 ≤ length to.new → stop_of result ≢ NoSpace }
     ensures filled { stop_of result ≡ NoSpace → length to.new < result.written + 4 }

@@ -26,7 +26,8 @@ use utf16_fixed::{
 pub extern "C" fn dethrux_to_utf32(byte_order: u32, utf16: &[u8], to: &mut [u32]) -> Progress
     ensures wrote { Writes (TranscodesToUtf32 (is_big byte_order)) utf16.now to.new result.read
         result.written }
-    ensures stop { Stops (char_bytes (is_big byte_order)) utf32_units (IsIllFormedUtf16 (is_big byte_order)) utf16.now result.read
+    ensures stop { Stops (char_bytes (is_big byte_order)) utf32_units
+        (IsIllFormedUtf16 (is_big byte_order)) utf16.now result.read
         (length to.new - result.written) (stop_of result) }
     ensures succeeds { length utf16.now / 2 ≤ length to.new → stop_of result ≢ NoSpace }
     ensures numbers { AreNumbers result.status result.error_len }
@@ -92,7 +93,8 @@ pub extern "C" fn dethrux_validate_utf32(utf32: &[u32]) -> Validity
 pub extern "C" fn dethrux_from_utf32(byte_order: u32, utf32: &[u32], to: &mut [u8]) -> Progress
     ensures wrote { Writes (TranscodesFromUtf32 (is_big byte_order)) utf32.now to.new result.read
         result.written }
-    ensures stop { Stops utf32_units (char_bytes (is_big byte_order)) IsIllFormedUtf32 utf32.now result.read
+    ensures stop { Stops utf32_units (char_bytes (is_big byte_order)) IsIllFormedUtf32 utf32.now
+        result.read
         (length to.new - result.written) (stop_of result) }
     ensures succeeds { 4 * length utf32.now ≤ length to.new → stop_of result ≢ NoSpace }
     ensures numbers { AreNumbers result.status result.error_len }

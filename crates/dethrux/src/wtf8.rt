@@ -58,7 +58,8 @@ pub extern "C" fn dethrux_to_wtf8_len(byte_order: u32, utf16: &[u8]) -> usize
 pub extern "C" fn dethrux_to_wtf8_partial(byte_order: u32, utf16: &[u8], to: &mut [u8]) -> Progress
     ensures decodes { DecodesToWtf8 (is_big byte_order) utf16.now to.new result.read
         result.written }
-    ensures stop { StopsPartial (wtf8_split (is_big byte_order)) generalized_utf8 (drop result.read utf16.now)
+    ensures stop { StopsPartial (wtf8_split (is_big byte_order)) generalized_utf8
+        (drop result.read utf16.now)
         (length to.new - result.written) (stop_of result) }
     ensures succeeds { length utf16.now / 2 * 3 ≤ length to.new → stop_of result ≢ NoSpace }
     ensures filled { stop_of result ≡ NoSpace → length to.new < result.written + 4 }

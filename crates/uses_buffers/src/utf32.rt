@@ -61,7 +61,9 @@ pub fn to_utf32_through<E: Utf16Order, A: Allocator>(
     ensures within { IfOk result (λ done. done.1 ≤ length utf16.now) }
     ensures text { IfOk result (λ done.
         TranscodesToUtf32 E.BIG (take done.1 utf16.now) (vec_items done.0)) }
-    ensures stop { IfOk result (λ done. Stops (char_bytes E.BIG) utf32_units (IsIllFormedUtf16 E.BIG) utf16.now done.1 0 done.2) }
+    ensures stop { IfOk result
+        (λ done. Stops (char_bytes E.BIG) utf32_units (IsIllFormedUtf16 E.BIG) utf16.now done.1 0
+        done.2) }
     ensures whole { IfOk result (λ done. done.2 ≢ NoSpace) }
 {
     call_through::<ToUtf32<E>, A>(alloc, utf16, buffer)
@@ -151,7 +153,8 @@ pub fn from_utf32_through<E: Utf16Order, A: Allocator>(
     ensures within { IfOk result (λ done. done.1 ≤ length utf32.now) }
     ensures text { IfOk result (λ done.
         TranscodesFromUtf32 E.BIG (take done.1 utf32.now) (vec_items done.0)) }
-    ensures stop { IfOk result (λ done. Stops utf32_units (char_bytes E.BIG) IsIllFormedUtf32 utf32.now done.1 0 done.2) }
+    ensures stop { IfOk result
+        (λ done. Stops utf32_units (char_bytes E.BIG) IsIllFormedUtf32 utf32.now done.1 0 done.2) }
     ensures whole { IfOk result (λ done. done.2 ≢ NoSpace) }
 {
     call_through::<FromUtf32<E>, A>(alloc, utf32, buffer)

@@ -29,7 +29,8 @@ use utf16_units::{Moved, Utf16Order, first_char_len};
 /// Linear time in the number of bytes read.
 pub fn to_utf32<E: Utf16Order>(raw: &[u8], to: &mut [u32]) -> Progress
     ensures wrote { Writes (TranscodesToUtf32 E.BIG) raw.now to.new result.read result.written }
-    ensures stop { Stops (char_bytes E.BIG) utf32_units (IsIllFormedUtf16 E.BIG) raw.now result.read (length to.new - result.written)
+    ensures stop { Stops (char_bytes E.BIG) utf32_units (IsIllFormedUtf16 E.BIG) raw.now result.read
+        (length to.new - result.written)
         result.stop }
     ensures succeeds { length raw.now / 2 ≤ length to.new → result.stop ≢ NoSpace }
 {

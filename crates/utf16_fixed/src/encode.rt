@@ -29,7 +29,8 @@ use utf16_units::{Moved, Utf16CharExt, Utf16Order};
 /// Linear time in the number of code units read.
 pub fn from_utf32<E: Utf16Order>(utf32: &[u32], to: &mut [u8]) -> Progress
     ensures wrote { Writes (TranscodesFromUtf32 E.BIG) utf32.now to.new result.read result.written }
-    ensures stop { Stops utf32_units (char_bytes E.BIG) IsIllFormedUtf32 utf32.now result.read (length to.new - result.written)
+    ensures stop { Stops utf32_units (char_bytes E.BIG) IsIllFormedUtf32 utf32.now result.read
+        (length to.new - result.written)
         result.stop }
     ensures succeeds { 4 * length utf32.now ≤ length to.new → result.stop ≢ NoSpace }
 {

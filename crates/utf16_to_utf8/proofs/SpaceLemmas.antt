@@ -1,7 +1,10 @@
 -- How much space a text in UTF-8 takes and leaves.
-use Rattle.std.proofs.Common.{◌≡◌, ℕ, ◌+◌, ◌*◌, ◌/◌, ◌%◌, ◌<◌, ◌≤◌, ◌⊎◌, ◌++◌, Bool, List, ⊎_elim, ap, append-nil, arith, drop, encode_utf8_all, length, length-append, length-drop, length-take, length-take-le, subst, sym, take, take-append-drop, take_all, ◌∙◌}
+use Rattle.std.proofs.Common.{◌≡◌, ℕ, ◌+◌, ◌-◌, ◌*◌, ◌/◌, ◌%◌, ◌<◌, ◌≤◌, ◌⊎◌, ◌++◌, Bool, List, ⊎_elim, ap, append-nil, arith, drop, encode_utf8_all, length, length-append, length-drop, length-take, length-take-le, refl, subst, sym, take, take-append-drop, take_all, ◌∙◌}
 use Rattle.std.proofs.lemmas.Bool.{cases_lt}
-use Rattle.std.proofs.lemmas.List.{nil_from_length}
+use Rattle.std.proofs.Math.Seq.{take-append-add}
+use Rattle.std.proofs.lemmas.List.{nil_from_length, take-take}
+use Rattle.std.proofs.lemmas.Slice.{take-put_mid}
+use borrow.Rule.Slice.PartMut.{put_mid}
 use Rattle.std.specs.Prelude.{min}
 use Rattle.utf16_units.specs.Encoding.{IsUtf16, text_of, utf8_of}
 use Rattle.utf16_units.proofs.BackChar.{size-even}
@@ -62,3 +65,20 @@ little-behind space size end to new room at written most is long short even with
     let part = length-take room to in
     let less = little-left space (length to) (length new) size at end most (omega (arith, long, part, is)) short even within full in
     omega (arith, less, near, length-append new (drop room to), length-drop room to, long, part, is)
+
+-- what is written after the first bytes is within a buffer of the same length
+pub written-within : (at n : ℕ) (old new : List ℕ) → at ≤ length old → n ≤ length new → at + n ≤ length (put_mid at (length old - at) old new)
+written-within at n old new within fits =
+    let head = take at old in
+    let tail = drop (length old - at) (drop at old) in
+    let long : at + n ≤ length (head ++ (new ++ tail)) = omega (arith, length-append head (new ++ tail), length-append new tail, length-take-le at old within, fits) in
+    long
+
+-- the first bytes of a buffer, and then what is written after them
+pub written-twice : (at n : ℕ) (old new : List ℕ) → at ≤ length old → n ≤ length new
+    → take (at + n) (put_mid at (length old - at) old new) ≡ take at old ++ take n new
+written-twice at n old new within fits =
+    let head = take at old in
+    sym (take-take (at + n) (at + length new) _ (omega (arith, fits)))
+    ∙ ap (take (at + n)) (take-put_mid at (length old - at) old new (at + length new) refl within)
+    ∙ ap (λ k. take (k + n) (head ++ new)) (sym (length-take-le at old within)) ∙ take-append-add head new n

@@ -32,7 +32,8 @@ use utf16_units::{Moved, Utf16Order, first_char_len, utf16_len, validate_raw_utf
 #[inline(always)]
 pub fn to_utf8<E: Utf16Order>(raw: &[u8], to: &mut [u8]) -> Progress
     ensures wrote { Writes (TranscodesToUtf8 E.BIG) raw.now to.new result.read result.written }
-    ensures stop { Stops (char_bytes E.BIG) encode_utf8 (IsIllFormedUtf16 E.BIG) raw.now result.read (length to.new - result.written)
+    ensures stop { Stops (char_bytes E.BIG) encode_utf8 (IsIllFormedUtf16 E.BIG) raw.now result.read
+        (length to.new - result.written)
         result.stop }
 {
     transcode::<ToUtf8<E>>(raw, to)

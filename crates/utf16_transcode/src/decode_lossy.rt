@@ -37,7 +37,8 @@ const ASCII_LEN: usize = 128;
 /// Linear time in the number of bytes read.
 pub fn to_utf8_partial<E: Utf16Order>(raw: &[u8], to: &mut [u8]) -> Progress
     ensures decodes { DecodesTo E.BIG raw.now to.new result.read result.written }
-    ensures stop { StopsPartial (utf16_split E.BIG) encode_utf8 (drop result.read raw.now) (length to.new - result.written)
+    ensures stop { StopsPartial (utf16_split E.BIG) encode_utf8 (drop result.read raw.now)
+        (length to.new - result.written)
         result.stop }
 {
     transcode_partial::<ToUtf8<E>>(raw, to)

@@ -40,7 +40,8 @@ const SHORT_LEN: usize = 32;
 #[inline(always)]
 pub fn from_utf8<E: Utf16Order>(text: &[u8], to: &mut [u8]) -> Progress
     ensures wrote { Writes (TranscodesToUtf16 E.BIG) text.now to.new result.read result.written }
-    ensures stop { Stops encode_utf8 (char_bytes E.BIG) IsIllFormedUtf8 text.now result.read (length to.new - result.written)
+    ensures stop { Stops encode_utf8 (char_bytes E.BIG) IsIllFormedUtf8 text.now result.read
+        (length to.new - result.written)
         result.stop }
 {
     transcode::<FromUtf8<E>>(text, to)

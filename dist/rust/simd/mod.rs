@@ -435,7 +435,7 @@ shifts! {
     u16 Shl shl shl16; u16 Shr shr shr16; u32 Shl shl shl32; u32 Shr shr shr32;
 }
 
-/// There is no shift of bytes, so the bits that a byte gets from the next one are cleared.
+/// No instruction shifts bytes, so the bits that a byte gets from the next one are cleared.
 impl<const N: usize> Shl for Simd<u8, N> {
     type Output = Self;
 

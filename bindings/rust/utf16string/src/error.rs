@@ -86,7 +86,7 @@ macro_rules! errors {
 
 errors!(Utf16Error FromUtf16Error);
 
-/// Returns what was made, or does what [`Vec`] does if there is no memory for so many bytes.
+/// Returns what was made, or does what [`Vec`] does if there is no memory for this many bytes.
 #[inline]
 pub(crate) fn allocated<T>(made: Result<T, AllocError>, len: usize, additional: usize) -> T {
     match made {

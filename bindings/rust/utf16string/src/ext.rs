@@ -224,7 +224,7 @@ pub trait WStringExt<E: 'static + ByteOrder>: BorrowMut<WString<E>> {
             let len = it.len();
             allocated(it.text.insert_str(idx, string), len, 2 * string.len())
         };
-        /// Puts another string in place of a range. Panics if the range is not a substring.
+        /// Replaces a range with another string. Panics if the range is not a substring.
         #[doc = example!("abcd", "text.replace_range(2..6, &WString::from(\"😀\"));", "a😀d")]
         fn replace_range[R: SliceIndex<E>](&mut self, range: R, replace_with: &WStr<E>) = {
             let it = self.borrow_mut();
@@ -238,10 +238,10 @@ pub trait WStringExt<E: 'static + ByteOrder>: BorrowMut<WString<E>> {
             let (range, len) = (part(range, it), it.len());
             WString::of(allocated(it.text.drain(range), 0, len))
         };
-        /// Puts the small letters of ASCII in place of the capital ones.
+        /// Changes capital letters of ASCII to small ones.
         #[doc = example!("AÄ", "text.make_ascii_lowercase();", "aÄ")]
         fn make_ascii_lowercase(&mut self) = self.borrow_mut().text.make_ascii_lowercase();
-        /// Puts the capital letters of ASCII in place of the small ones.
+        /// Changes small letters of ASCII to capital ones.
         #[doc = example!("aä", "text.make_ascii_uppercase();", "Aä")]
         fn make_ascii_uppercase(&mut self) = self.borrow_mut().text.make_ascii_uppercase();
     }

@@ -29,7 +29,7 @@ macro_rules! by_length {
         if bytes.is_empty() || !$is_pair(E::read_u16(&bytes[$unit(bytes.len())..])) {
             $call
         } else {
-            // SAFETY: no surrogate of a pair is alone.
+            // SAFETY: each surrogate of a text is half of a pair.
             unsafe { assert_unchecked(bytes.len() >= 4) };
             $call
         }
