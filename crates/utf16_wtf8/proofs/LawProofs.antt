@@ -8,14 +8,16 @@ use Rattle.utf16_units.specs.Encoding.{units_of}
 use Rattle.utf16_units.specs.Split.{split_items, split_tail}
 use Rattle.utf16_units.proofs.EncodingLemmas.{All-from_all_scalars, all_scalars-from_All}
 use Rattle.utf16_units.proofs.SplitJoin.{split_items-append, split_tail-append}
-use Rattle.utf16_wtf8.specs.Laws.{AreWellFormed, BackAndThere, Concatenates, CutAnywhere, LenIsMaximal, NoneIfTruncated, PairHasThree, RestIsWtf8, ReturnsToWtf8, ThereAndBack, UnitsAreUnique, UnitsAreWtf8, Utf8IfWellFormed, Wtf8HasUnits}
+use Rattle.utf16_wtf8.specs.Laws.{AreWellFormed, BackAndThere, Concatenates, CutAnywhere, LenIsFew, LenIsMaximal, NoneIfTruncated, PairHasThree, RestIsWtf8, ReturnsToWtf8, ThereAndBack, TruncatedHasNone, UnitsAreUnique, UnitsAreWtf8, Utf8IfWellFormed, Wtf8HasUnits}
 use Rattle.utf16_wtf8.specs.ToWtf8.{item_point, tail_points}
 use Rattle.utf16_wtf8.specs.Wtf8.{IsCodePoint, code_points, generalized_utf8, wtf8_of_units}
 use Rattle.utf16_wtf8.proofs.CodeLemmas.{spelled-unique}
 use Rattle.utf16_wtf8.proofs.ConcatLemmas as concat
+use Rattle.utf16_wtf8.proofs.LongerLemmas as longer
 use Rattle.utf16_wtf8.proofs.MaximalLemmas as maximal
 use Rattle.utf16_wtf8.proofs.PointLemmas.{points_of-split, split_points}
 use Rattle.utf16_wtf8.proofs.ScalarLemmas.{code_point-scalar, no_pair-scalars}
+use Rattle.utf16_wtf8.proofs.TailLemmas as tail
 use Rattle.utf16_wtf8.proofs.UnitsLemmas as units
 
 pub there_and_back : ThereAndBack
@@ -89,6 +91,12 @@ none_if_truncated = maximal.none_if_truncated
 pub pair_has_three : PairHasThree
 pair_has_three = maximal.pair_has_three
 
+pub len_is_few : LenIsFew
+len_is_few = longer.len_is_few
+
+pub truncated_has_none : TruncatedHasNone
+truncated_has_none = tail.truncated_has_none
+
 -- laws, for the functions that state them
 pub ruleset laws = (
   there_and_back,
@@ -101,4 +109,6 @@ pub ruleset laws = (
   rest_is_wtf8,
   none_if_truncated,
   pair_has_three,
+  len_is_few,
+  truncated_has_none,
 )

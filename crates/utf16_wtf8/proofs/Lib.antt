@@ -16,4 +16,5 @@ pub mod PartialLemmas
 pub mod FewLemmas
 pub mod LongerLemmas
 pub mod SeamLemmas
+pub mod TailLemmas
 pub mod StreamLemmas

@@ -1,5 +1,5 @@
 -- Why a call stops in the first bytes of WTF-8, if that does not depend on the bytes after them.
-use Rattle.std.proofs.Common.{◌≡◌, ◌⊎◌, ℕ, ◌+◌, ◌<◌, ◌≤◌, Bool, true, List, [], ◌∷◌, ◌++◌, Option, None, Some, length, take, drop, refl, sym, ap, ◌∙◌, subst, ⊎_elim, arith, append_assoc, length-append, length-drop, take-append-drop, take_at, le-ltb, ne_eqb}
+use Rattle.std.proofs.Common.{◌≡◌, ◌⊎◌, inl, inr, ℕ, ◌+◌, ◌<◌, ◌≤◌, Bool, true, List, [], ◌∷◌, ◌++◌, Option, None, Some, length, take, drop, refl, sym, ap, ◌∙◌, subst, ⊎_elim, arith, append_assoc, length-append, length-drop, take-append-drop, take_at, le-ltb, ne_eqb}
 use Rattle.std.proofs.lemmas.Bool.{cases_lt}
 use Rattle.std.proofs.lemmas.Bool.Decides.{nat_tests}
 use Rattle.std.proofs.lemmas.List.{drop-append-le, take-append-le}
@@ -31,14 +31,22 @@ module _ (bytes : List ℕ) (read : ℕ) (valid : IsWtf8ValidUpTo bytes read) wh
     is_pair : (ends_leading points ≡ true) × IsTrailing point
     is_pair = grind (arith, not_longer)
 
-  none_continues : NoPointContinues (ends_leading points) (drop read bytes)
+  pub none_continues : NoPointContinues (ends_leading points) (drop read bytes)
   none_continues point more below e = is_pair point more below e
+
+-- the length by the tests of three bytes: they begin a surrogate, the first byte begins a character,
+-- the second may follow it, the third continues it. `end` is what all that gives
+abbrev by_tests : Bool → Bool → Bool → Bool → Option ℕ → Option ℕ
+by_tests surrogate first second third end =
+    if surrogate then (if third then Some 3 else Some 2) else (if first then (if second then (if third then end else Some 2) else Some 1) else Some 1)
+
+abbrev len_of_three : ℕ → ℕ → ℕ → Option ℕ → Option ℕ
+len_of_three x y z end =
+    by_tests ((x == 0xED) && is_in_range 0xA0 0xBF y) (is_in_range 0xC2 0xF4 x) (is_in_range (second_byte_min x) (second_byte_max x) y) (is_in_range 0x80 0xBF z) end
 
 -- the first three of four bytes and more decide the length of an ill-formed sequence
 abbrev len_of_four : ℕ → ℕ → ℕ → Option ℕ
-len_of_four x y z =
-    if (x == 0xED) && is_in_range 0xA0 0xBF y then (if is_in_range 0x80 0xBF z then Some 3 else Some 2)
-    else (if is_in_range 0xC2 0xF4 x then (if is_in_range (second_byte_min x) (second_byte_max x) y then (if is_in_range 0x80 0xBF z then Some 3 else Some 2) else Some 1) else Some 1)
+len_of_four x y z = len_of_three x y z (Some 3)
 
 error_len_of_four : (bytes : List ℕ) → 4 ≤ length bytes → wtf8_error_len bytes ≡ len_of_four (slice_index bytes 0) (slice_index bytes 1) (slice_index bytes 2)
 unfolding utf8_error_len
@@ -64,6 +72,50 @@ error_stays (x ∷ y ∷ []) back len is = grind (arith, nat_tests)
 error_stays (x ∷ y ∷ z ∷ []) back len is = grind (arith, nat_tests)
 error_stays (x ∷ y ∷ z ∷ w ∷ rest) back len is =
     error_len_of_four (x ∷ y ∷ z ∷ w ∷ (rest ++ back)) (omega arith) ∙ sym (error_len_of_four (x ∷ y ∷ z ∷ w ∷ rest) (omega arith)) ∙ is
+
+few_of_three : (x y z : ℕ) (end : Option ℕ) (len : ℕ) → (end ≡ None) ⊎ (end ≡ Some 3) → len_of_three x y z end ≡ Some len → (1 ≤ len) × (len ≤ 3)
+few_of_three x y z end len either is = by_test ((x == 0xED) && is_in_range 0xA0 0xBF y) (is_in_range 0xC2 0xF4 x) (is_in_range (second_byte_min x) (second_byte_max x) y) (is_in_range 0x80 0xBF z) is where
+  by_test : (surrogate first second third : Bool) → by_tests surrogate first second third end ≡ Some len → (1 ≤ len) × (len ≤ 3)
+  by_test surrogate first second third is = grind arith
+
+longer_than_three : (x y z len : ℕ) → len_of_three x y z None ≡ None → len_of_three x y z (Some 3) ≡ Some len → 3 ≤ len
+longer_than_three x y z len none is = by_test ((x == 0xED) && is_in_range 0xA0 0xBF y) (is_in_range 0xC2 0xF4 x) (is_in_range (second_byte_min x) (second_byte_max x) y) (is_in_range 0x80 0xBF z) none is where
+  by_test : (surrogate first second third : Bool) → by_tests surrogate first second third None ≡ None → by_tests surrogate first second third (Some 3) ≡ Some len → 3 ≤ len
+  by_test surrogate first second third none is = grind arith
+
+-- the same of two bytes
+abbrev of_two : Bool → Bool → Bool → Option ℕ
+of_two surrogate first second = if surrogate then None else (if first then (if second then None else Some 1) else Some 1)
+
+longer_than_two : (x y z : ℕ) (end : Option ℕ) (len : ℕ) → (end ≡ None) ⊎ (end ≡ Some 3) → wtf8_error_len (x ∷ y ∷ []) ≡ None → len_of_three x y z end ≡ Some len → 2 ≤ len
+unfolding utf8_error_len
+longer_than_two x y z end len either none is = by_test ((x == 0xED) && is_in_range 0xA0 0xBF y) (is_in_range 0xC2 0xF4 x) (is_in_range (second_byte_min x) (second_byte_max x) y) none (is_in_range 0x80 0xBF z) is where
+  by_test : (surrogate first second : Bool) → of_two surrogate first second ≡ None
+      → (third : Bool) → by_tests surrogate first second third end ≡ Some len → 2 ≤ len
+  by_test surrogate first second none third is = grind arith
+
+-- it has one to three bytes
+pub len_is_few : (bytes : List ℕ) (len : ℕ) → wtf8_error_len bytes ≡ Some len → (1 ≤ len) × (len ≤ 3) × (len ≤ length bytes)
+unfolding utf8_error_len
+len_is_few [] len is = absurd (cc)
+len_is_few (x ∷ []) len is = grind (arith, nat_tests)
+len_is_few (x ∷ y ∷ []) len is = grind (arith, nat_tests)
+len_is_few (x ∷ y ∷ z ∷ []) len is = let few = few_of_three x y z None len (inl refl) is in (few.0, few.1, omega (arith, few.1))
+len_is_few (x ∷ y ∷ z ∷ w ∷ bytes) len is =
+    let few = few_of_three x y z (Some 3) len (inr refl) (sym (error_len_of_four (x ∷ y ∷ z ∷ w ∷ bytes) (omega arith)) ∙ is) in (few.0, few.1, omega (arith, few.1))
+
+-- and at least those that are the beginning of a code point
+pub error_longer : (part back : List ℕ) (len : ℕ) → wtf8_error_len part ≡ None → wtf8_error_len (part ++ back) ≡ Some len → length part ≤ len
+unfolding utf8_error_len
+error_longer [] back len none is = omega arith
+error_longer (x ∷ []) back len none is = let few = len_is_few (x ∷ back) len is in omega (arith, few.0)
+error_longer (x ∷ y ∷ []) [] len none is = let bad : None ≡ Some len = sym none ∙ is in absurd (cc)
+error_longer (x ∷ y ∷ []) (z ∷ []) len none is = longer_than_two x y z None len (inl refl) none is
+error_longer (x ∷ y ∷ []) (z ∷ w ∷ back) len none is =
+    longer_than_two x y z (Some 3) len (inr refl) none (sym (error_len_of_four (x ∷ y ∷ z ∷ w ∷ back) (omega arith)) ∙ is)
+error_longer (x ∷ y ∷ z ∷ []) [] len none is = let bad : None ≡ Some len = sym none ∙ is in absurd (cc)
+error_longer (x ∷ y ∷ z ∷ []) (w ∷ back) len none is = longer_than_three x y z len none (sym (error_len_of_four (x ∷ y ∷ z ∷ w ∷ back) (omega arith)) ∙ is)
+error_longer (x ∷ y ∷ z ∷ w ∷ part) back len none is = absurd (omega (arith, truncated_few (x ∷ y ∷ z ∷ w ∷ part) none))
 
 module _ (front back : List ℕ) (read len : ℕ) (fault : IsIllFormedWtf8 front read (Some len)) where
   abbrev rest : List ℕ

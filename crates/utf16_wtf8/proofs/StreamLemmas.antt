@@ -1,7 +1,7 @@
 -- A chunk of a stream of WTF-8: the bytes at its boundary, and what is pending after it.
-use Rattle.std.proofs.Common.{◌≡◌, ◌⊎◌, inl, inr, ℕ, ◌+◌, ◌-◌, ◌<◌, ◌≤◌, Bool, false, List, [], ◌++◌, None, length, take, drop, refl, sym, ap, ap₂, ◌∙◌, subst, ⊎_elim, arith, append_assoc, append-nil, length-append, length-drop, length-take, take-append-drop, take_all}
+use Rattle.std.proofs.Common.{◌≡◌, ◌⊎◌, inl, inr, ℕ, ◌+◌, ◌-◌, ◌<◌, ◌≤◌, Bool, false, List, [], ◌++◌, None, length, take, drop, refl, sym, ap, ap₂, ◌∙◌, subst, ⊎_elim, arith, append_assoc, append-nil, length-append, length-drop, length-take, take-append-drop, take_all, take_at}
 use borrow.Rule.Slice.PartMut.{put_mid}
-use Rattle.std.proofs.lemmas.List.{drop-append-le, drop_all}
+use Rattle.std.proofs.lemmas.List.{drop-append-le, drop_all, drop_at}
 use Rattle.utf16_units.proofs.IllFormedLemmas.{rest_from}
 use Rattle.utf16_transcode.specs.Transcoded.{Writes}
 use Rattle.utf16_transcode.specs.declared.progress.Stop.{Stop}
@@ -221,3 +221,31 @@ Feeds-wrote big pending chunk left to at read written wrote within rest = record
   splits = sym (take-append-drop at (pending ++ chunk)) ∙ ap (λ b. take at (pending ++ chunk) ++ b) (sym rest);
   gives = wrote.gives;
 }
+
+-- and the other way: what a call did with the pending bytes and the chunk together
+module _ (big : Bool) (pending chunk left to : List ℕ) (read written : ℕ) (fed : FeedsWtf8 big pending chunk left to read written) where
+  abbrev encoded : ℕ
+  encoded = encoded_len pending left read
+
+  long : length fed.front ≡ encoded
+  long =
+      let within = fed.within in
+      omega (
+        arith,
+        ap length fed.splits,
+        length-append pending chunk,
+        length-append fed.front (left ++ drop read chunk),
+        length-append left (drop read chunk),
+        length-drop read chunk,
+      )
+
+  pub Writes-fed : Writes (TranscodesFromWtf8 big) (pending ++ chunk) to encoded written
+  Writes-fed = record {
+    within = omega (arith, ap length fed.splits, long, length-append fed.front (left ++ drop read chunk));
+    fits = fed.fits;
+    gives = subst (λ b. TranscodesFromWtf8 big b (take written to)) (sym (ap (take encoded) fed.splits ∙ take_at fed.front (left ++ drop read chunk) encoded long)) fed.gives;
+  }
+
+  -- what is left
+  pub rest-fed : left ++ drop read chunk ≡ drop encoded (pending ++ chunk)
+  rest-fed = sym (ap (drop encoded) fed.splits ∙ drop_at fed.front (left ++ drop read chunk) encoded long)

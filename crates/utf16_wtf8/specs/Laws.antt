@@ -80,6 +80,15 @@ LenIsMaximal = (bytes : List ℕ) (len : ℕ) → StartsWithNoPoint bytes
 abbrev pub NoneIfTruncated : Type 0
 NoneIfTruncated = (bytes : List ℕ) → StartsWithNoPoint bytes → (wtf8_error_len bytes ≡ None) ↔ IsTruncated bytes
 
+-- an ill-formed sequence has one to three bytes, and no more than there are
+abbrev pub LenIsFew : Type 0
+LenIsFew = (bytes : List ℕ) (len : ℕ) → wtf8_error_len bytes ≡ Some len → (1 ≤ len) × (len ≤ 3) × (len ≤ length bytes)
+
+-- the beginning of a code point has no length, even if the code point is a trailing surrogate and
+-- follows a leading one
+abbrev pub TruncatedHasNone : Type 0
+TruncatedHasNone = (part : List ℕ) → IsTruncated part → wtf8_error_len part ≡ None
+
 -- the ill-formed sequence at a surrogate, which is trailing and follows a leading one, is its three
 -- bytes
 abbrev pub PairHasThree : Type 0

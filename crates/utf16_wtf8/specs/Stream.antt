@@ -1,13 +1,32 @@
 -- A stream of WTF-8 that comes in chunks: what is pending between them, and what a chunk adds.
-use Rattle.std.specs.Prelude.{◌≡◌, ℕ, ◌+◌, ◌-◌, ◌≤◌, ◌⊎◌, Bool, List, [], ◌++◌, length, take, drop}
+use Rattle.std.specs.Prelude.{◌≡◌, ℕ, ◌+◌, ◌-◌, ◌≤◌, ◌⊎◌, Bool, List, [], ◌∷◌, ◌++◌, All, length, take, drop}
+use Rattle.std.specs.List.{flat_map}
+use Rattle.utf16_units.specs.Unit.{IsLeading}
 use Rattle.utf16_transcode.specs.declared.progress.Stop.{Stop}
 use Rattle.utf16_transcode.specs.declared.progress.Stop.TheVariants.{Incomplete, Done, IllFormed, NoSpace}
 use Rattle.utf16_wtf8.specs.FromWtf8.{StopsFromWtf8Partial, TranscodesFromWtf8}
+use Rattle.utf16_wtf8.specs.Laws.{IsTruncated}
+use Rattle.utf16_wtf8.specs.Wtf8.{generalized_utf8}
 use Rattle.utf16_wtf8.specs.declared.stream.Wtf8Stream.{Wtf8Stream}
 
 -- `stream.pending()`
 abbrev pub wtf8_pending : Wtf8Stream → List ℕ
 wtf8_pending stream = take stream.len stream.bytes
+
+-- what a call leaves pending: at most one leading surrogate, and then the beginning of a code point,
+-- which may have no bytes
+pub record IsWtf8Tail (pending : List ℕ) : Type 0 where
+  pub leads : List ℕ
+  pub leading : All IsLeading leads
+  pub one : length leads ≤ 1
+  pub part : List ℕ
+  pub truncated : IsTruncated part
+  pub is : pending ≡ flat_map generalized_utf8 leads ++ part
+
+-- why a stream ends with these bytes of a code point pending
+abbrev pub end_stop : List ℕ → Stop
+end_stop [] = Done
+end_stop (byte ∷ bytes) = Incomplete
 
 -- the first bytes of a chunk were taken: the first of the pending bytes and the chunk are encoded,
 -- and their UTF-16 is at the start of the buffer; the rest is the bytes that are pending afterwards

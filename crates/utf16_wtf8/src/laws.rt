@@ -5,7 +5,7 @@
 //! `specs/Laws.antt`. They depend only on the definitions, and hold for all code units.
 #![tactic(auto, using(crate::proofs::LawProofs::laws))]
 
-ghost use Rattle.utf16_wtf8.specs.Laws.{BackAndThere, Concatenates, CutAnywhere, LenIsMaximal, NoneIfTruncated, PairHasThree, RestIsWtf8, ReturnsToWtf8, ThereAndBack, UnitsAreUnique, UnitsAreWtf8, Utf8IfWellFormed, Wtf8HasUnits};
+ghost use Rattle.utf16_wtf8.specs.Laws.{BackAndThere, Concatenates, CutAnywhere, LenIsFew, LenIsMaximal, NoneIfTruncated, PairHasThree, RestIsWtf8, ReturnsToWtf8, ThereAndBack, TruncatedHasNone, UnitsAreUnique, UnitsAreWtf8, Utf8IfWellFormed, Wtf8HasUnits};
 
 /// The code units of the code points of any code units are these units: nothing is lost.
 pub fn there_and_back()
@@ -77,4 +77,15 @@ pub fn none_if_truncated()
 /// The ill-formed sequence at a trailing surrogate after a leading one is its three bytes.
 pub fn pair_has_three()
     ensures { PairHasThree }
+{}
+
+/// An ill-formed sequence has one to three bytes, and no more than there are.
+pub fn len_is_few()
+    ensures { LenIsFew }
+{}
+
+/// The beginning of a code point is incomplete and not ill-formed, even if it is the beginning of a
+/// trailing surrogate after a leading one.
+pub fn truncated_has_none()
+    ensures { TruncatedHasNone }
 {}

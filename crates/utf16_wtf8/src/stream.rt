@@ -1,11 +1,13 @@
 //! A stream of WTF-8 that comes in chunks, cut anywhere. Its pending bytes are in a value that you
 //! own.
 
-ghost use Rattle.std.specs.Prelude.{◌≡◌, ◌≢◌, ◌+◌, ◌-◌, ◌≤◌, [], ◌∷◌, ◌++◌, drop, length, take};
+ghost use Rattle.std.specs.Prelude.{◌≡◌, ◌≢◌, ℕ, ◌+◌, ◌-◌, ◌*◌, ◌<◌, ◌≤◌, [], ◌∷◌, ◌++◌, drop, length, take};
+ghost use Rattle.std.specs.List.{flat_map};
+ghost use Rattle.utf16_units.specs.Encoding.{char_bytes};
 ghost use Rattle.utf16_transcode.specs.Transcoded.{Writes};
-ghost use Rattle.utf16_transcode.specs.declared.progress.Stop.TheVariants.{Done, Incomplete, NoSpace};
+ghost use Rattle.utf16_transcode.specs.declared.progress.Stop.TheVariants.{Done, IllFormed, Incomplete, NoSpace};
 ghost use Rattle.utf16_wtf8.specs.FromWtf8.{LeavesLeading, StopsFromWtf8, StopsFromWtf8Partial, TranscodesFromWtf8};
-ghost use Rattle.utf16_wtf8.specs.Stream.{FeedsWtf8, StopsFeedingWtf8, encoded_len, wtf8_pending};
+ghost use Rattle.utf16_wtf8.specs.Stream.{FeedsWtf8, IsWtf8Tail, StopsFeedingWtf8, encoded_len, end_stop, wtf8_pending};
 
 use crate::encode::{from_wtf8, from_wtf8_partial};
 use utf16_transcode::joined::{joined_start, rest_of};
@@ -29,8 +31,10 @@ pub struct Wtf8Stream {
 
 impl Wtf8Stream {
     /// Returns a stream at its beginning. All of its fields are zero.
+    #[tactic(auto, using(crate::proofs::TailLemmas::tail_nil))]
     pub fn new() -> Self
         ensures pending { wtf8_pending result ≡ [] }
+        ensures tail { IsWtf8Tail (wtf8_pending result) }
         ensures zero { (result.bytes ≡ 0 ∷ 0 ∷ 0 ∷ 0 ∷ 0 ∷ 0 ∷ []) × (result.len ≡ 0) }
     {
         Wtf8Stream {
@@ -58,6 +62,10 @@ impl Wtf8Stream {
     /// are still pending, and continues in the rest of the chunk. It never returns `Incomplete`.
     /// Bytes of the buffer after the written ones may have been overwritten.
     ///
+    /// In a stream whose fields only `new`, `feed` and `finish` set, `2 * chunk.len() + 4` bytes of
+    /// space suffice, and an ill-formed sequence has all bytes that are still pending. With any
+    /// fields, two bytes of space suffice for each byte that is pending or in the chunk.
+    ///
     /// # Complexity
     ///
     /// Linear time in the number of bytes read.
@@ -70,6 +78,15 @@ impl Wtf8Stream {
             (encoded_len (wtf8_pending self.old) (wtf8_pending self.new) result.read)
             → 2 ≤ length to.new - result.written }
         ensures few { self.new.len ≤ 6 }
+        ensures filled { result.stop ≡ NoSpace → length to.new < result.written + 4 }
+        ensures tail { IsWtf8Tail (wtf8_pending self.old) → IsWtf8Tail (wtf8_pending self.new) }
+        ensures succeeds { IsWtf8Tail (wtf8_pending self.old)
+            → 2 * length chunk.now + 4 ≤ length to.new → result.stop ≢ NoSpace }
+        ensures succeeds_always { 2 * (length (wtf8_pending self.old) + length chunk.now)
+            ≤ length to.new → result.stop ≢ NoSpace }
+        ensures resumes { IsWtf8Tail (wtf8_pending self.old) → (len : ℕ)
+            → result.stop ≡ IllFormed len → (length (wtf8_pending self.new) ≤ len)
+            × (len ≤ length (wtf8_pending self.new) + (length chunk.now - result.read)) }
     {
         let held = *self;
         let pending = held.pending();
@@ -99,8 +116,12 @@ impl Wtf8Stream {
     /// Ends the stream: writes the pending bytes in UTF-16 to the start of a buffer, like
     /// `from_wtf8`. `read` counts the pending bytes that were written. With `NoSpace`, a character
     /// does not fit, and only the bytes before it are no longer pending. Otherwise a new stream
-    /// begins. With `Incomplete`, the stream ends inside a code point, which was left out.
-    /// `IllFormed` is returned only if `feed` did not set the fields of the stream.
+    /// begins, and all of its fields are zero.
+    ///
+    /// In a stream whose fields only `new`, `feed` and `finish` set, this writes the leading
+    /// surrogate that is pending, if there is one, and two bytes of space suffice. It returns
+    /// `Incomplete` if the stream ends inside a code point, which was left out, and never
+    /// `IllFormed`.
     pub fn finish<E: Utf16Order>(&mut self, to: &mut [u8]) -> Progress
         ensures wrote { Writes (TranscodesFromWtf8 E.BIG) (wtf8_pending self.old) to.new result.read
             result.written }
@@ -110,6 +131,17 @@ impl Wtf8Stream {
         ensures left { result.stop ≡ NoSpace
             → wtf8_pending self.new ≡ drop result.read (wtf8_pending self.old) }
         ensures few { self.new.len ≤ 6 }
+        ensures fresh { result.stop ≢ NoSpace → (self.new.bytes ≡ 0 ∷ 0 ∷ 0 ∷ 0 ∷ 0 ∷ 0 ∷ [])
+            × (self.new.len ≡ 0) }
+        ensures tail { IsWtf8Tail (wtf8_pending self.old) → IsWtf8Tail (wtf8_pending self.new) }
+        ensures leading { (tail : IsWtf8Tail (wtf8_pending self.old)) → result.stop ≢ NoSpace
+            → take result.written to.new ≡ flat_map (char_bytes E.BIG) tail.leads }
+        ensures truncated { (tail : IsWtf8Tail (wtf8_pending self.old)) → result.stop ≢ NoSpace
+            → result.stop ≡ end_stop tail.part }
+        ensures succeeds { IsWtf8Tail (wtf8_pending self.old) → 2 ≤ length to.new
+            → result.stop ≢ NoSpace }
+        ensures succeeds_always { 2 * length (wtf8_pending self.old) ≤ length to.new
+            → result.stop ≢ NoSpace }
     {
         let held = *self;
         let pending = held.pending();

@@ -102,3 +102,18 @@ pub fn none_if_truncated() {}
 ///
 /// - ensures `PairHasThree`
 pub fn pair_has_three() {}
+
+/// An ill-formed sequence has one to three bytes, and no more than there are.
+///
+/// Proved:
+///
+/// - ensures `LenIsFew`
+pub fn len_is_few() {}
+
+/// The beginning of a code point is incomplete and not ill-formed, even if it is the beginning of a
+/// trailing surrogate after a leading one.
+///
+/// Proved:
+///
+/// - ensures `TruncatedHasNone`
+pub fn truncated_has_none() {}

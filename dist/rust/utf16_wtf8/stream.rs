@@ -28,6 +28,7 @@ impl Wtf8Stream {
     /// Proved:
     ///
     /// - ensures pending: `wtf8_pending result ≡ []`
+    /// - ensures tail: `IsWtf8Tail (wtf8_pending result)`
     /// - ensures zero: `(result.bytes ≡ 0 ∷ 0 ∷ 0 ∷ 0 ∷ 0 ∷ 0 ∷ []) × (result.len ≡ 0)`
     pub fn new() -> Self {
         Wtf8Stream {
@@ -57,6 +58,10 @@ impl Wtf8Stream {
     /// are still pending, and continues in the rest of the chunk. It never returns `Incomplete`.
     /// Bytes of the buffer after the written ones may have been overwritten.
     ///
+    /// In a stream whose fields only `new`, `feed` and `finish` set, `2 * chunk.len() + 4` bytes of
+    /// space suffice, and an ill-formed sequence has all bytes that are still pending. With any
+    /// fields, two bytes of space suffice for each byte that is pending or in the chunk.
+    ///
     /// # Complexity
     ///
     /// Linear time in the number of bytes read.
@@ -71,6 +76,15 @@ impl Wtf8Stream {
     ///   (encoded_len (wtf8_pending self.old) (wtf8_pending self.new) result.read) → 2 ≤ length
     ///   to.new - result.written`
     /// - ensures few: `self.new.len ≤ 6`
+    /// - ensures filled: `result.stop ≡ NoSpace → length to.new < result.written + 4`
+    /// - ensures tail: `IsWtf8Tail (wtf8_pending self.old) → IsWtf8Tail (wtf8_pending self.new)`
+    /// - ensures succeeds: `IsWtf8Tail (wtf8_pending self.old) → 2 * length chunk.now + 4 ≤ length
+    ///   to.new → result.stop ≢ NoSpace`
+    /// - ensures succeeds_always: `2 * (length (wtf8_pending self.old) + length chunk.now) ≤ length
+    ///   to.new → result.stop ≢ NoSpace`
+    /// - ensures resumes: `IsWtf8Tail (wtf8_pending self.old) → (len : ℕ) → result.stop ≡ IllFormed
+    ///   len → (length (wtf8_pending self.new) ≤ len) × (len ≤ length (wtf8_pending self.new) +
+    ///   (length chunk.now - result.read))`
     pub fn feed<E: Utf16Order>(&mut self, chunk: &[u8], to: &mut [u8]) -> Progress {
         let held = *self;
         let pending = held.pending();
@@ -100,8 +114,12 @@ impl Wtf8Stream {
     /// Ends the stream: writes the pending bytes in UTF-16 to the start of a buffer, like
     /// `from_wtf8`. `read` counts the pending bytes that were written. With `NoSpace`, a character
     /// does not fit, and only the bytes before it are no longer pending. Otherwise a new stream
-    /// begins. With `Incomplete`, the stream ends inside a code point, which was left out.
-    /// `IllFormed` is returned only if `feed` did not set the fields of the stream.
+    /// begins, and all of its fields are zero.
+    ///
+    /// In a stream whose fields only `new`, `feed` and `finish` set, this writes the leading
+    /// surrogate that is pending, if there is one, and two bytes of space suffice. It returns
+    /// `Incomplete` if the stream ends inside a code point, which was left out, and never
+    /// `IllFormed`.
     ///
     /// Proved:
     ///
@@ -113,6 +131,17 @@ impl Wtf8Stream {
     /// - ensures left: `result.stop ≡ NoSpace → wtf8_pending self.new ≡ drop result.read
     ///   (wtf8_pending self.old)`
     /// - ensures few: `self.new.len ≤ 6`
+    /// - ensures fresh: `result.stop ≢ NoSpace → (self.new.bytes ≡ 0 ∷ 0 ∷ 0 ∷ 0 ∷ 0 ∷ 0 ∷ []) ×
+    ///   (self.new.len ≡ 0)`
+    /// - ensures tail: `IsWtf8Tail (wtf8_pending self.old) → IsWtf8Tail (wtf8_pending self.new)`
+    /// - ensures leading: `(tail : IsWtf8Tail (wtf8_pending self.old)) → result.stop ≢ NoSpace →
+    ///   take result.written to.new ≡ flat_map (char_bytes E.BIG) tail.leads`
+    /// - ensures truncated: `(tail : IsWtf8Tail (wtf8_pending self.old)) → result.stop ≢ NoSpace →
+    ///   result.stop ≡ end_stop tail.part`
+    /// - ensures succeeds: `IsWtf8Tail (wtf8_pending self.old) → 2 ≤ length to.new → result.stop ≢
+    ///   NoSpace`
+    /// - ensures succeeds_always: `2 * length (wtf8_pending self.old) ≤ length to.new → result.stop
+    ///   ≢ NoSpace`
     pub fn finish<E: Utf16Order>(&mut self, to: &mut [u8]) -> Progress {
         let held = *self;
         let pending = held.pending();
