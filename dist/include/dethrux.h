@@ -239,8 +239,9 @@ typedef char dethrux_enum_has_four_bytes[sizeof(dethrux_byte_order) == 4 ? 1 : -
 /**
  * How far a call came.
  *
- * `read` and `written` end between characters. The bytes of `to` after `written` have no meaning
- * and may have been overwritten. If a call can return DETHRUX_ILL_FORMED, it does so if an
+ * `written` ends between characters. So does `read`, except in a call that feeds a decoder or an
+ * encoder, which also reads the bytes that it keeps. The bytes of `to` after `written` have no
+ * meaning and may have been overwritten. If a call can return DETHRUX_ILL_FORMED, it does so if an
  * ill-formed sequence follows `read`, even if no space is left.
  */
 typedef struct dethrux_progress {
@@ -747,15 +748,16 @@ DETHRUX_NODISCARD dethrux_progress dethrux_wtf8_decoder_finish(
 /**
  * Converts WTF-8 to UTF-16, up to the first ill-formed sequence, of 1 to 3 bytes.
  *
- * Each surrogate becomes one code unit. A trailing surrogate directly after a leading one is ill
- * formed: in WTF-8 a pair has the 4 bytes of its character. So do not append one text of WTF-8 to
- * another: convert both to UTF-16 first.
+ * Each surrogate becomes one code unit. A trailing surrogate directly after a leading one is an
+ * ill-formed sequence of 3 bytes: in WTF-8 a pair has the 4 bytes of its character. So do not append
+ * one text of WTF-8 to another: convert both to UTF-16 first.
  *
  * @param capacity DETHRUX_UTF16_MAX(len) suffices; a loop needs 4
  * @return how far the call came, with one of these statuses:
  * - DETHRUX_DONE: all of the input was read
  * - DETHRUX_ILL_FORMED: an ill-formed sequence follows `read`
- * - DETHRUX_INCOMPLETE: the input ends inside a character or surrogate, which follows `read`
+ * - DETHRUX_INCOMPLETE: the input ends inside a character or surrogate, which follows `read`, even
+ *   inside a trailing surrogate after a leading one
  * - DETHRUX_NO_SPACE: the next character or surrogate does not fit: call again with the rest
  * @ingroup dethrux_wtf8
  */
@@ -802,8 +804,9 @@ DETHRUX_NODISCARD dethrux_progress dethrux_from_wtf8_partial(
  * @return how far the call came (`read` counts bytes of the chunk), with one of these statuses:
  * - DETHRUX_DONE: all of the chunk was read
  * - DETHRUX_ILL_FORMED: an ill-formed sequence begins with the pending bytes, if there are any, and
- *   continues after `read`: to resume after it, skip `error_len - pending_len` bytes of the chunk
- *   and set `pending_len` to 0
+ *   continues after `read`. To resume after it, skip `error_len - pending_len` bytes of the chunk
+ *   and set `pending_len` to 0. That many bytes are left of the chunk, and the difference is not
+ *   below 0, if only these calls have set the fields of the encoder
  * - DETHRUX_NO_SPACE: the next character or surrogate does not fit, even if it is a leading
  *   surrogate at the end: call again with the rest; with a capacity of 4 or more, something was
  *   written
@@ -816,14 +819,16 @@ DETHRUX_NODISCARD dethrux_progress dethrux_wtf8_encoder_feed(
 /**
  * Ends a stream of dethrux_wtf8_encoder_feed whose last chunk was read.
  *
- * Writes the pending leading surrogate, of 2 bytes, or nothing if none is pending. The encoder
- * begins a new stream, except with DETHRUX_NO_SPACE.
+ * Converts the pending bytes like dethrux_from_wtf8. If only these calls have set the fields of the
+ * encoder, that writes a pending leading surrogate, of 2 bytes, or nothing. Then all fields are
+ * zero, and a new stream begins, except with DETHRUX_NO_SPACE.
  *
  * @param byte_order the same for a whole stream
- * @param capacity DETHRUX_WTF8_ENCODER_FINISH_MAX suffices
+ * @param capacity DETHRUX_WTF8_ENCODER_FINISH_MAX suffices for an encoder whose fields only these
+ *   calls have set, and `2 * pending_len` for any
  * @return how far the call came (`read` counts pending bytes), with one of these statuses:
  * - DETHRUX_DONE: the stream has ended
- * - DETHRUX_ILL_FORMED: pending bytes that no call left are ill formed, and were dropped
+ * - DETHRUX_ILL_FORMED: an ill-formed sequence is pending, which no call leaves, and was dropped
  * - DETHRUX_INCOMPLETE: the stream has ended inside a character or surrogate, which was left out
  * - DETHRUX_NO_SPACE: the next character or surrogate does not fit, and is still pending
  * @ingroup dethrux_wtf8
