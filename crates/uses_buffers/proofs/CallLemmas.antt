@@ -17,7 +17,7 @@ use Rattle.uses_buffers.specs.FormCalls as forms
 use Rattle.uses_buffers.specs.FormCalls.{Completes, Conversion, IsCall, Joined}
 use Rattle.uses_buffers.proofs.FormLemmas.{decodes_onto}
 use Rattle.uses_buffers.proofs.LoopLemmas.{composes}
-use Rattle.uses_buffers.specs.Calls.{Call, Continue, EndWith, Feed, Feeding, FeedsAll, all_output, all_read, feed_output, output}
+use Rattle.uses_buffers.specs.Calls.{Call, Continue, EndWith, Feed, Feeding, FeedsAll, IsFeed, all_output, all_read, feed_output, output}
 
 -- ---- calls of a conversion
 
@@ -135,7 +135,7 @@ module _ (parts : StreamSplit) (into : ℕ → List ℕ) (split : IsSplitInChunk
       (Decodes-more parts into split (pending ++ chunk) (left ++ drop read chunk) after [] (take written to) feeds.decodes)
       ∙ ap (λ b. take written to ++ flat_map into (parts.whole b)) back
 
-  fed_calls : (pending bytes : List ℕ) (feeds : List Feed) (last left : List ℕ) → Feeding parts into pending bytes feeds last left
+  fed_calls : (pending bytes : List ℕ) (feeds : List Feed) (last left : List ℕ) → Feeding (IsFeed parts into) pending bytes feeds last left
       → flat_map into (parts.whole (pending ++ bytes)) ≡ flat_map feed_output feeds ++ flat_map into (parts.whole (last ++ left))
   fed_calls pending bytes [] last left same = ap₂ (λ p b. flat_map into (parts.whole (p ++ b))) (sym same.0) (sym same.1)
   fed_calls pending bytes (feed ∷ feeds) last left steps =
@@ -143,7 +143,7 @@ module _ (parts : StreamSplit) (into : ℕ → List ℕ) (split : IsSplitInChunk
       ∙ ap (λ t. feed_output feed ++ t) (fed_calls feed.pending (drop feed.read bytes) feeds last left steps.1)
       ∙ sym (append_assoc (feed_output feed) (flat_map feed_output feeds) (flat_map into (parts.whole (last ++ left))))
 
-  pub stream_calls : (bytes : List ℕ) (feeds : List Feed) (last : Feed) → FeedsAll parts into bytes feeds last
+  pub stream_calls : (bytes : List ℕ) (feeds : List Feed) (last : Feed) → FeedsAll (IsFeed parts into) bytes feeds last
       → (flat_map feed_output feeds ++ feed_output last) ++ flat_map into (parts.at_end last.pending) ≡ flat_map into (parts.whole bytes)
   stream_calls bytes feeds last run =
       let done = subst (StopsFeeding parts into run.pending (take last.offered run.left) last.pending last.read (length last.to - last.written)) run.done run.fed.1 in

@@ -51,26 +51,26 @@ certain_of (IllFormed len) space other = absurd (other len refl)
 certain_of Incomplete space other = inr refl
 certain_of NoSpace space other = absurd (space refl)
 
-module _ (big : Bool) (joined all unread part input next grown rest : List ℕ) (kept : Kept big joined all unread) (read : ℕ) (stop : Stop) (same : grown ≡ all ++ part) (left : rest ≡ drop read input) where
+module _ (big : Bool) (joined all unread part input next grown rest : List ℕ) (kept : Kept big joined all unread) (read room : ℕ) (stop : Stop) (same : grown ≡ all ++ part) (left : rest ≡ drop read input) where
   -- one chunk more
-  pub chunk_step : (chunk : List ℕ) → input ≡ unread ++ chunk → next ≡ joined ++ chunk → IsCall (from_wtf8_partial big) input part read 0 stop
-      → IsCall (from_wtf8_partial big) next grown (kept.at + read) 0 stop × (rest ≡ drop (kept.at + read) next)
+  pub chunk_step : (chunk : List ℕ) → input ≡ unread ++ chunk → next ≡ joined ++ chunk → IsCall (from_wtf8_partial big) input part read room stop
+      → IsCall (from_wtf8_partial big) next grown (kept.at + read) room stop × (rest ≡ drop (kept.at + read) next)
   chunk_step chunk is more call =
       let given = is ∙ ap (λ r. r ++ chunk) kept.rest in (
-        subst (λ b. IsCall (from_wtf8_partial big) b grown (kept.at + read) 0 stop) (sym more)
-            (subst (λ out. IsCall (from_wtf8_partial big) (joined ++ chunk) out (kept.at + read) 0 stop) (sym same)
-            (from_wtf8_partial_cuts big joined chunk all part kept.at read kept.left 0 kept.stop stop kept.call kept.certain
-            (subst (λ b. IsCall (from_wtf8_partial big) b part read 0 stop) given call))),
+        subst (λ b. IsCall (from_wtf8_partial big) b grown (kept.at + read) room stop) (sym more)
+            (subst (λ out. IsCall (from_wtf8_partial big) (joined ++ chunk) out (kept.at + read) room stop) (sym same)
+            (from_wtf8_partial_cuts big joined chunk all part kept.at read kept.left room kept.stop stop kept.call kept.certain
+            (subst (λ b. IsCall (from_wtf8_partial big) b part read room stop) given call))),
         left ∙ ap (drop read) (given ∙ sym (drop-append-le kept.at joined chunk kept.call.within)) ∙ drop-drop read kept.at (joined ++ chunk) ∙ ap (drop (kept.at + read)) (sym more),
       )
 
   -- the end of the stream
-  pub end_step : input ≡ unread → next ≡ joined → IsCall (from_wtf8 big) input part read 0 stop → IsCall (from_wtf8 big) next grown (kept.at + read) 0 stop × (rest ≡ drop (kept.at + read) next)
+  pub end_step : input ≡ unread → next ≡ joined → IsCall (from_wtf8 big) input part read room stop → IsCall (from_wtf8 big) next grown (kept.at + read) room stop × (rest ≡ drop (kept.at + read) next)
   end_step is more call = (
-    subst (λ b. IsCall (from_wtf8 big) b grown (kept.at + read) 0 stop) (append-nil joined ∙ sym more)
-        (subst (λ out. IsCall (from_wtf8 big) (joined ++ []) out (kept.at + read) 0 stop) (sym same)
-        (from_wtf8_cuts big joined [] all part kept.at read kept.left 0 kept.stop stop kept.call kept.certain
-        (subst (λ b. IsCall (from_wtf8 big) b part read 0 stop) (is ∙ kept.rest ∙ sym (append-nil (drop kept.at joined))) call))),
+    subst (λ b. IsCall (from_wtf8 big) b grown (kept.at + read) room stop) (append-nil joined ∙ sym more)
+        (subst (λ out. IsCall (from_wtf8 big) (joined ++ []) out (kept.at + read) room stop) (sym same)
+        (from_wtf8_cuts big joined [] all part kept.at read kept.left room kept.stop stop kept.call kept.certain
+        (subst (λ b. IsCall (from_wtf8 big) b part read room stop) (is ∙ kept.rest ∙ sym (append-nil (drop kept.at joined))) call))),
     left ∙ ap (drop read) (is ∙ kept.rest) ∙ drop-drop read kept.at joined ∙ ap (drop (kept.at + read)) (sym more),
   )
 

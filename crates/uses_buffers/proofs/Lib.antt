@@ -6,6 +6,7 @@ pub mod Wtf8Lemmas
 pub mod SeamLemmas
 pub mod CutLemmas
 pub mod ChunkLemmas
+pub mod Wtf8StreamLemmas
 pub mod ReadLemmas
 mod CutsJoined
 mod CutsStarts

@@ -1,5 +1,5 @@
 -- An input that is converted in several calls, each with the bytes that the call before left.
-use Rattle.std.specs.Prelude.{◌≡◌, ◌≢◌, ℕ, ◌+◌, ◌-◌, ◌≤◌, List, [], ◌∷◌, ◌++◌, Option, None, Some, length, take, drop, sum_by}
+use Rattle.std.specs.Prelude.{◌≡◌, ◌≢◌, ℕ, ◌+◌, ◌-◌, ◌≤◌, Bool, List, [], ◌∷◌, ◌++◌, Option, None, Some, length, take, drop, sum_by}
 use Rattle.std.specs.List.{flat_map}
 use Rattle.utf16_transcode.specs.StreamSplit.{StreamSplit}
 use Rattle.utf16_transcode.specs.WholeText.{WritesWhole}
@@ -8,6 +8,7 @@ use Rattle.utf16_transcode.specs.Stream.{FeedsAs, StopsFeeding}
 use Rattle.utf16_transcode.specs.Transcoded.{DecodesAsTo, SameText, Writes}
 use Rattle.utf16_transcode.specs.declared.progress.Stop.{Stop}
 use Rattle.utf16_transcode.specs.declared.progress.Stop.TheVariants.{Incomplete, Done, IllFormed, NoSpace}
+use Rattle.utf16_wtf8.specs.Stream.{FeedsWtf8, StopsFeedingWtf8}
 
 -- one call: the number of bytes that it read, its buffer after the call, the number of bytes
 -- written to the start of the buffer, and why it stopped
@@ -93,23 +94,35 @@ pub record Feed : Type 0 where
 abbrev pub feed_output : Feed → List ℕ
 feed_output feed = take feed.written feed.to
 
-module _ (parts : StreamSplit) (into : ℕ → List ℕ) where
-  -- what `feed` promises of a call, after pending bytes and with these bytes of the stream left
-  abbrev pub IsFeed : List ℕ → List ℕ → Feed → Type 0
-  IsFeed pending bytes feed =
-      FeedsAs parts into pending (take feed.offered bytes) feed.pending feed.to feed.read feed.written
-      × StopsFeeding parts into pending (take feed.offered bytes) feed.pending feed.read (length feed.to - feed.written) feed.stop
+-- what `Stream::feed` promises of a call, after pending bytes and with these bytes of the stream
+-- left
+abbrev pub IsFeed : StreamSplit → (ℕ → List ℕ) → List ℕ → List ℕ → Feed → Type 0
+IsFeed parts into pending bytes feed =
+    FeedsAs parts into pending (take feed.offered bytes) feed.pending feed.to feed.read feed.written
+    × StopsFeeding parts into pending (take feed.offered bytes) feed.pending feed.read (length feed.to - feed.written) feed.stop
 
+-- what `Wtf8Stream::feed` promises
+abbrev pub IsWtf8Feed : Bool → List ℕ → List ℕ → Feed → Type 0
+IsWtf8Feed big pending bytes feed =
+    FeedsWtf8 big pending (take feed.offered bytes) feed.pending feed.to feed.read feed.written
+    × StopsFeedingWtf8 big pending (take feed.offered bytes) feed.pending feed.read (length feed.to - feed.written) feed.stop
+
+-- such a call that found no ill-formed sequence
+abbrev pub GoesOnWtf8 : Bool → List ℕ → List ℕ → Feed → Type 0
+GoesOnWtf8 big pending bytes feed = IsWtf8Feed big pending bytes feed × ((len : ℕ) → feed.stop ≢ IllFormed len)
+
+-- what a stream promises of a call
+module _ (Promised : List ℕ → List ℕ → Feed → Type 0) where
   -- calls one after another, each given a chunk at the start of what the call before left
   abbrev pub Feeding : List ℕ → List ℕ → List Feed → List ℕ → List ℕ → Type 0
   Feeding pending bytes [] last left = (last ≡ pending) × (left ≡ bytes)
-  Feeding pending bytes (feed ∷ feeds) last left = IsFeed pending bytes feed × Feeding feed.pending (drop feed.read bytes) feeds last left
+  Feeding pending bytes (feed ∷ feeds) last left = Promised pending bytes feed × Feeding feed.pending (drop feed.read bytes) feeds last left
 
   -- such calls from the start of a stream, and one more that takes all that is left of it
   pub record FeedsAll (bytes : List ℕ) (feeds : List Feed) (last : Feed) : Type 0 where
     pub pending : List ℕ
     pub left : List ℕ
     pub before : Feeding [] bytes feeds pending left
-    pub fed : IsFeed pending left last
+    pub fed : Promised pending left last
     pub done : last.stop ≡ Done
     pub all : last.read ≡ length left

@@ -116,3 +116,16 @@ abbrev pub Cuts : Bool → Conversion ℕ ℕ Stop → Type 0
 Cuts big next = (chunk bytes out more : List ℕ) (at read left room : ℕ) (stop last : Stop)
     → IsCall (from_wtf8_partial big) chunk out at left stop → (stop ≡ Done) ⊎ (stop ≡ Incomplete)
     → IsCall next (drop at chunk ++ bytes) more read room last → IsCall next (chunk ++ bytes) (out ++ more) (at + read) room last
+
+-- a stream took a chunk in one call or more, which did together what one call of
+-- `from_wtf8_partial` does that is given the pending bytes and the chunk. What it would leave is
+-- pending, if it finds no ill-formed sequence
+pub record TakesWtf8 (big : Bool) (pending chunk left old new : List ℕ) (stop : Stop) : Type 0 where
+  pub out : List ℕ
+  pub read : ℕ
+  pub room : ℕ
+  pub last : Stop
+  pub call : IsCall (from_wtf8_partial big) (pending ++ chunk) out read room last
+  pub appended : new ≡ old ++ out
+  pub ends : ((stop ≡ Done) × ((last ≡ Done) ⊎ (last ≡ Incomplete)) × (left ≡ drop read (pending ++ chunk)))
+      ⊎ ((len : ℕ) × (stop ≡ IllFormed len) × (last ≡ IllFormed len))

@@ -6,7 +6,7 @@
 ghost use Rattle.std.specs.Prelude.{◌≡◌, ◌++◌, ℕ, List};
 ghost use Rattle.std.specs.List.{flat_map};
 ghost use Rattle.utf16_transcode.specs.StreamSplit.{decided};
-ghost use Rattle.uses_buffers.specs.Calls.{Call, ConvertsUpTo, EndWith, Feed, FeedsAll, IsLossyCall, IsPartialCall, IsStrictCall, all_output, all_read, feed_output};
+ghost use Rattle.uses_buffers.specs.Calls.{Call, ConvertsUpTo, EndWith, Feed, FeedsAll, IsFeed, IsLossyCall, IsPartialCall, IsStrictCall, all_output, all_read, feed_output};
 
 use utf16_transcode::{Direction, LossyDirection};
 
@@ -43,7 +43,7 @@ pub fn strict_calls<D: Direction>()
 /// replacement of what is pending at its end.
 pub fn stream_calls<D: LossyDirection>()
     ensures { (bytes : List ℕ) (feeds : List Feed) (last : Feed)
-        → FeedsAll D.split D.into bytes feeds last
+        → FeedsAll (IsFeed D.split D.into) bytes feeds last
         → (flat_map feed_output feeds ++ feed_output last) ++ flat_map D.into
         (D.split.at_end last.pending)
         ≡ flat_map D.into (D.split.whole bytes) }

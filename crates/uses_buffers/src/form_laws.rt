@@ -4,7 +4,12 @@
 //! C in `dethrux`. For `to_wtf8_partial` and the feeds of a stream to WTF-8 they are
 //! `partial_calls` and `stream_calls` of `call_laws`, in the direction `ToWtf8`.
 
-ghost use Rattle.uses_buffers.specs.FormCalls.{Composes};
+ghost use Rattle.std.specs.Prelude.{◌≡◌, ℕ, ◌+◌, ◌-◌, List, [], ◌++◌, drop, length};
+ghost use Rattle.std.specs.List.{flat_map};
+ghost use Rattle.utf16_transcode.specs.declared.progress.Stop.{Stop};
+ghost use Rattle.utf16_transcode.specs.declared.progress.Stop.TheVariants.{IllFormed};
+ghost use Rattle.uses_buffers.specs.Calls.{Feed, Feeding, FeedsAll, GoesOnWtf8, IsWtf8Feed, feed_output};
+ghost use Rattle.uses_buffers.specs.FormCalls.{Composes, IsCall};
 ghost use Rattle.uses_buffers.specs.Forms.{Cuts, from_latin1, from_utf32, from_utf32_lossy, from_wtf8, from_wtf8_partial, to_latin1, to_utf32, to_utf32_lossy, to_wtf8};
 
 use crate::buffer_call::calls_compose;
@@ -82,4 +87,22 @@ pub fn from_wtf8_partial_calls<E: Utf16Order>()
 pub fn from_wtf8_cuts<E: Utf16Order>()
     ensures chunk { Cuts E.BIG (from_wtf8_partial E.BIG) }
     ensures end { Cuts E.BIG (from_wtf8 E.BIG) }
+{}
+
+/// A stream of WTF-8: calls of `Wtf8Stream::feed`, for any chunks and in buffers of any capacities,
+/// do together what one call of `from_wtf8` does that is given the whole stream. If all of it was
+/// taken, `from_wtf8` for what is pending does the rest, and `Wtf8Stream::finish` is that call.
+/// Otherwise a call found the ill-formed sequence that the one call finds.
+pub fn wtf8_stream_calls<E: Utf16Order>()
+    ensures end { (bytes : List ℕ) (feeds : List Feed) (last : Feed) (out : List ℕ) (n left : ℕ)
+        (stop : Stop) → FeedsAll (GoesOnWtf8 E.BIG) bytes feeds last
+        → IsCall (from_wtf8 E.BIG) last.pending out n left stop
+        → IsCall (from_wtf8 E.BIG) bytes ((flat_map feed_output feeds ++ feed_output last) ++ out)
+        (length bytes - length last.pending + n) left stop }
+    ensures fault { (bytes : List ℕ) (feeds : List Feed) (last : Feed) (pending left : List ℕ)
+        (len : ℕ) → Feeding (GoesOnWtf8 E.BIG) [] bytes feeds pending left
+        → IsWtf8Feed E.BIG pending left last → last.stop ≡ IllFormed len
+        → (n : ℕ) × IsCall (from_wtf8 E.BIG) bytes (flat_map feed_output feeds ++ feed_output last)
+        n (length last.to - last.written) last.stop
+        × (last.pending ++ drop last.read left ≡ drop n bytes) }
 {}

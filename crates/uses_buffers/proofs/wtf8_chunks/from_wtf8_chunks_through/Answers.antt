@@ -23,7 +23,7 @@ step g c =
     let given = input ∙ joined_as (vec_items c.extend_from_slice.new.self) (vec_items c.loop-chunk.unread) _ _ c.deref.ensures.value c.in_ok-extend_from_slice.ensures.items in
     let grown = joined_as (vec_items c.extend_from_slice-in-loop-chunk.new.self) (vec_items c.loop-chunk.utf16) _ _ c.deref-in-loop-chunk-2.ensures.value c.in_ok-extend_from_slice-2.ensures.items in
     let left = c.remove_front.ensures ∙ ap (drop part.read) (sym input) in
-    chunk_step g.E.Utf16Order.BIG _ _ (vec_items c.loop-chunk.unread) (vec_items part.part) c.deref-in-loop-chunk.result.now _ _ _ c.loop-chunk.invariant.2 part.read part.stop grown left
+    chunk_step g.E.Utf16Order.BIG _ _ (vec_items c.loop-chunk.unread) (vec_items part.part) c.deref-in-loop-chunk.result.now _ _ _ c.loop-chunk.invariant.2 part.read 0 part.stop grown left
     (vec_items c.chunk-item.result) given
     (joined-more vec_items c.args.chunks.now c.loop-chunk.chunk-index c.chunk-item.result c.loop-chunk-test.true c.chunk-item.is)
     (record { within = part.ensures.within; writes = part.ensures.text; stops = part.ensures.stop })
@@ -54,7 +54,7 @@ returns-clause-converts g c =
     let part = c.in_ok-part-2 in
     let input = c.deref-2.ensures.value in
     let grown = joined_as (vec_items c.extend_from_slice-2.new.self) (vec_items c.loop-chunk.utf16) _ _ c.deref-3.ensures.value c.in_ok-extend_from_slice-3.ensures.items in
-    let ended = end_step g.E.Utf16Order.BIG _ _ (vec_items c.loop-chunk.unread) (vec_items part.part) c.deref-2.result.now _ _ _ c.loop-chunk.invariant.2 part.read part.stop grown
+    let ended = end_step g.E.Utf16Order.BIG _ _ (vec_items c.loop-chunk.unread) (vec_items part.part) c.deref-2.result.now _ _ _ c.loop-chunk.invariant.2 part.read 0 part.stop grown
     (c.remove_front-2.ensures ∙ ap (drop part.read) (sym input)) input (ap (λ k. flat_map vec_items (take k c.args.chunks.now)) c.loop-chunk.invariant.1)
     (record { within = part.ensures.within; writes = part.ensures.text; stops = part.ensures.stop }) in
     (c.loop-chunk.invariant.2.at + part.read, ended.0, ended.1)
