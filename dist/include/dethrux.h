@@ -777,8 +777,8 @@ DETHRUX_NODISCARD size_t dethrux_from_wtf8_len(const void *wtf8, size_t len);
 /**
  * Converts the next chunk of a stream of WTF-8, cut anywhere, to UTF-16.
  *
- * This is like dethrux_from_wtf8, but does not read what more bytes could change at the end: a
- * leading surrogate, the beginning of a character or surrogate, or both.
+ * This is like dethrux_from_wtf8, but at the end it does not read a leading surrogate, the beginning
+ * of a character or surrogate, or one and then the other.
  *
  * @param capacity DETHRUX_UTF16_MAX(len) suffices; a loop needs 4
  * @return how far the call came, with one of these statuses:
@@ -796,7 +796,7 @@ DETHRUX_NODISCARD dethrux_progress dethrux_from_wtf8_partial(
 /**
  * Encodes the next chunk of a stream of WTF-8, cut anywhere, in UTF-16.
  *
- * This is like dethrux_from_wtf8_partial, but what more bytes could change is kept in the encoder.
+ * This is like dethrux_from_wtf8_partial, but what that call does not read is kept in the encoder.
  *
  * @param byte_order the same for a whole stream
  * @param capacity DETHRUX_WTF8_ENCODER_FEED_MAX(len) suffices for an encoder whose fields only

@@ -154,10 +154,9 @@ pub extern "C" fn dethrux_from_wtf8_len(wtf8: &[u8]) -> usize
     from_wtf8_len(wtf8)
 }
 
-/// Converts the next chunk of a stream of WTF-8 like `dethrux_from_wtf8`, but does not read what
-/// more bytes could change at the end: a leading surrogate, or the beginning of a code point, or
-/// both, at most six bytes. In that case the status is 2, or 3 if that leading surrogate does not
-/// fit.
+/// Converts the next chunk of a stream of WTF-8 like `dethrux_from_wtf8`, but at the end it does
+/// not read a leading surrogate, the beginning of a code point, or one and then the other, at most
+/// six bytes. In that case the status is 2, or 3 if that leading surrogate does not fit.
 #[unsafe(no_mangle)]
 pub extern "C" fn dethrux_from_wtf8_partial(byte_order: u32, wtf8: &[u8], to: &mut [u8]) -> Progress
     ensures wrote { Writes (TranscodesFromWtf8 (is_big byte_order)) wtf8.now to.new result.read

@@ -102,8 +102,8 @@ StopsFromWtf8 big bytes read left (IllFormed len) = IsIllFormedWtf8 bytes read (
 StopsFromWtf8 big bytes read left Incomplete = IsIllFormedWtf8 bytes read None
 StopsFromWtf8 big bytes read left NoSpace = NextPointDoesNotFit big bytes read left
 
--- why a call stopped that leaves what more bytes could change: a truncated code point, or a leading
--- surrogate, which a trailing one may follow, or both
+-- why a call stopped that leaves a truncated code point at the end, or a leading surrogate, which a
+-- trailing one may follow, or one and then the other
 abbrev pub StopsFromWtf8Partial : Bool → List ℕ → ℕ → ℕ → Stop → Type 0
 StopsFromWtf8Partial big bytes read left Done = (read ≡ length bytes) × EndsLeading (take read bytes) false
 StopsFromWtf8Partial big bytes read left (IllFormed len) = IsIllFormedWtf8 bytes read (Some len)

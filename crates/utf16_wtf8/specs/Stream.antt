@@ -42,7 +42,7 @@ pub record FeedsWtf8 (big : Bool) (pending chunk left to : List ℕ) (read writt
 abbrev pub encoded_len : List ℕ → List ℕ → ℕ → ℕ
 encoded_len pending left read = length pending + read - length left
 
--- why it stopped: all was taken, and what more bytes could change is pending; or only the encoded
+-- why it stopped: all was taken, and what a call leaves at the end is pending; or only the encoded
 -- bytes were taken, first the pending ones and then the chunk's
 abbrev pub StopsFeedingWtf8 : Bool → List ℕ → List ℕ → List ℕ → ℕ → ℕ → Stop → Type 0
 StopsFeedingWtf8 big pending chunk left read room Done =

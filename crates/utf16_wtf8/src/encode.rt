@@ -34,8 +34,8 @@ pub fn from_wtf8<E: Utf16Order>(wtf8: &[u8], to: &mut [u8]) -> Progress
 }
 
 /// Writes a chunk of a stream of WTF-8 in UTF-16 to the start of a buffer, like `from_wtf8`. It
-/// stops with `Incomplete` before what more bytes could change at the end: a leading surrogate, or
-/// the beginning of a code point, or both. These are at most six bytes: put them before the next
+/// stops with `Incomplete` before a leading surrogate at the end, before the beginning of a code
+/// point, or before one and then the other. These are at most six bytes: put them before the next
 /// chunk, and pass those at the end of the stream to `from_wtf8`. If that leading surrogate does
 /// not fit, it stops with `NoSpace` instead.
 ///

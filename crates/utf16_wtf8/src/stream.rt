@@ -18,10 +18,9 @@ use utf16_units::Utf16Order;
 // leave pending.
 const JOINED_LEN: usize = 12;
 
-/// The pending bytes of a stream of WTF-8 between two chunks: its last bytes, at most six, that
-/// more bytes could change. They are a leading surrogate, or the beginning of a code point, or
-/// both. Any contents are safe: a `len` above six is read as six, and no call leaves one above six.
-/// All zeros are a stream at its beginning.
+/// The pending bytes of a stream of WTF-8 between two chunks, at most six: a leading surrogate, or
+/// the beginning of a code point, or one and then the other. Any contents are safe: a `len` above
+/// six is read as six, and no call leaves one above six. All zeros are a stream at its beginning.
 #[repr(C)]
 #[derive(Clone, Copy, Debug)]
 pub struct Wtf8Stream {
@@ -55,7 +54,7 @@ impl Wtf8Stream {
     /// unit, as far as whole characters fit and up to the first ill-formed sequence. `read` counts
     /// the bytes of the chunk that were taken. Pass the same byte order for all chunks of a stream.
     ///
-    /// With `Done`, all of the chunk was taken, and what more bytes could change is pending. With
+    /// With `Done`, all of the chunk was taken, and what `from_wtf8_partial` leaves is pending. With
     /// `NoSpace`, the next character does not fit, or the leading surrogate that would be pending:
     /// call again with the rest of the chunk and more space. In that case fewer than four bytes of
     /// the buffer are left. With `IllFormed`, the ill-formed sequence begins with the bytes that

@@ -147,10 +147,9 @@ pub fn dethrux_from_wtf8_len(wtf8: &[u8]) -> usize {
     from_wtf8_len(wtf8)
 }
 
-/// Converts the next chunk of a stream of WTF-8 like `dethrux_from_wtf8`, but does not read what
-/// more bytes could change at the end: a leading surrogate, or the beginning of a code point, or
-/// both, at most six bytes. In that case the status is 2, or 3 if that leading surrogate does not
-/// fit.
+/// Converts the next chunk of a stream of WTF-8 like `dethrux_from_wtf8`, but at the end it does
+/// not read a leading surrogate, the beginning of a code point, or one and then the other, at most
+/// six bytes. In that case the status is 2, or 3 if that leading surrogate does not fit.
 ///
 /// Proved:
 ///
