@@ -9,7 +9,6 @@ use lib.Lanes.{Each1, digits_l, number_l}
 use Rattle.utf16_units.specs.Encoding.{units_of}
 use Rattle.utf16_units.specs.Unit.{unit_bytes}
 use Rattle.utf16_units.proofs.BlockUnits.{bytes-written}
-use Rattle.utf16_units.specs.Lanes.{IsNoSurrogate}
 use Rattle.utf16_fixed.specs.Progress.{IsBasicLow, IsNarrowed, low_unit}
 use Rattle.utf16_fixed.specs.Utf32.{AreBasic, TranscodesFromUtf32}
 use Rattle.utf16_fixed.proofs.LaneLemmas.{AreBasic-lows, AreBasic-of, low-all}
@@ -23,8 +22,7 @@ pub AreBasic-take : (n : ℕ) (units : List ℕ) → AreBasic units → AreBasic
 AreBasic-take n units basic = record { valid = All-take IsScalar n units basic.valid; low = All-take IsUnit n units basic.low }
 
 pub IsNarrowed-none : (big : Bool) (units old : List ℕ) → IsNarrowed big units old 0
-IsNarrowed-none big units old =
-    record { within = omega arith; fits = omega arith; basic = record { valid = All-nil IsScalar; low = All-nil IsUnit }; wrote = refl }
+IsNarrowed-none big units old = grind (arith, All-nil)
 
 -- the bytes of the first units
 bytes-front : (big : Bool) (n : ℕ) (units : List ℕ) → take (2 * n) (flat_map (unit_bytes big) units) ≡ flat_map (unit_bytes big) (take n units)
@@ -34,23 +32,15 @@ bytes-front big n units =
 
 -- the low units of the first units of a block
 pub lows-front : (m n : ℕ) (units : List ℕ) → m ≤ n → AreBasic (take m (take n units)) → (take m (map low_unit (take n units)) ≡ take m units) × AreBasic (take m units)
-lows-front m n units few basic =
-    let same = take-take m n units few in
-    let here = subst AreBasic same basic in
-    let le = All-weaker IsUnit (λ unit. unit ≤ 0xFFFF) (λ unit below. omega (arith, below)) (take m units) here.low in
-    (take-map low_unit m (take n units) ∙ ap (map low_unit) same ∙ low-all (take m units) le, here)
+lows-front m n units few basic = grind (arith, take-take, All-weaker, take-map, low-all)
 
 -- the bytes of units, read in an order as the bytes of little endian
 in_order-bytes : (big : Bool) (units : List ℕ) → Each1 (Fits w16) units
     → flat_map (unit_bytes false) (units_of big (flat_map (unit_bytes false) units)) ≡ flat_map (unit_bytes big) units
 unfolding units_of
 in_order-bytes big [] fit = refl
-in_order-bytes true (u ∷ units) fit =
-    let below = fit.0.fits in
-    ap₂ (λ x xs. x ∷ xs) (omega (arith, below)) (ap₂ (λ x xs. x ∷ xs) (omega (arith, below)) (in_order-bytes true units fit.1))
-in_order-bytes false (u ∷ units) fit =
-    let below = fit.0.fits in
-    ap₂ (λ x xs. x ∷ xs) (omega (arith, below)) (ap₂ (λ x xs. x ∷ xs) (omega (arith, below)) (in_order-bytes false units fit.1))
+in_order-bytes true (u ∷ units) fit = grind (arith, in_order-bytes true units fit.1)
+in_order-bytes false (u ∷ units) fit = grind (arith, in_order-bytes false units fit.1)
 
 in_order-fit : (big : Bool) (units : List ℕ) → Each1 (Fits w16) units → Each1 (Fits w16) (units_of big (flat_map (unit_bytes false) units))
 unfolding units_of
@@ -66,9 +56,7 @@ module _ (big : Bool) (units read : List ℕ) (long : length units ≡ 8) (fit :
 
 -- a unit by itself
 pub one-basic : (unit : ℕ) → unit ≤ 0xFFFF → unit / 0x800 ≢ 0x1B → AreBasic (unit ∷ [])
-one-basic unit le none =
-    AreBasic-of (unit ∷ []) (All-cons (λ unit. unit ≤ 0xFFFF) unit [] le (All-nil (λ unit. unit ≤ 0xFFFF)))
-    (All-cons IsNoSurrogate unit [] (IsNoSurrogate-of unit none) (All-nil IsNoSurrogate))
+one-basic unit le none = grind (arith, AreBasic-of, All-cons, All-nil, IsNoSurrogate-of)
 
 module _ (big : Bool) (units old : List ℕ) (at : ℕ) (done : IsNarrowed big units old at) where
   -- the first m of n more units

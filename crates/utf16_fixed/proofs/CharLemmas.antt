@@ -1,12 +1,11 @@
 -- Latin-1 as a text, and the character at the start of bytes by its first unit.
-use Rattle.std.proofs.Common.{◌≡◌, ◌↔◌, ℕ, ◌<◌, ◌≤◌, Bool, List, [], ◌∷◌, ◌++◌, length, take, drop, slice_index, All, Fits, w8, sym, ap, ap₂, ◌∙◌, ⊎_elim, arith, flat_map, append-nil, drop-cons, take-append-drop}
+use Rattle.std.proofs.Common.{◌≡◌, ◌↔◌, ℕ, ◌<◌, ◌≤◌, Bool, List, [], ◌∷◌, ◌++◌, length, take, drop, slice_index, All, Fits, w8, sym, ap, ◌∙◌, arith, flat_map, append-nil, drop-cons, take-append-drop}
 use Rattle.std.proofs.lemmas.Bool.{cases_lt}
 use Rattle.std.proofs.lemmas.List.Elements.{All-cons, All-nil}
 use Rattle.std.proofs.lemmas.Simd.{chunk-fits}
 use Rattle.std.proofs.Math.Utf8.{low_scalar}
 use Rattle.std.proofs.str.Utf16.{one_unit, two_units}
 use Rattle.std.specs.Char.{IsScalar}
-use Rattle.std.specs.Char.Escape.{encode_utf16}
 use lib.Lanes.{Each1}
 use Rattle.utf16_units.specs.Unit.{unit_bytes}
 use Rattle.utf16_units.specs.Encoding.{char_bytes, encode, units_of}
@@ -25,54 +24,31 @@ bytes-scalars (c ∷ text) fits = All-cons IsScalar c text (low_scalar c (omega 
 -- and each is the one unit of its character
 pub encode-bytes : (big : Bool) (text : List ℕ) → Each1 (Fits w8) text → flat_map (unit_bytes big) text ≡ encode big text
 encode-bytes big [] fits = sym (encode-nil big)
-encode-bytes big (c ∷ text) fits =
-    ap₂ (λ x y. x ++ y) (sym (one_unit_bytes big c (omega (arith, fits.0.fits)))) (encode-bytes big text fits.1) ∙ sym (encode-cons big c text)
+encode-bytes big (c ∷ text) fits = grind (arith, one_unit_bytes, encode-cons, encode-bytes big text fits.1)
 
 -- ---- the first character
 
 head_unit : (big : Bool) (bytes units : List ℕ) (unit : ℕ) → units_of big bytes ≡ unit ∷ units → first_unit big bytes ≡ unit
 unfolding units_of
-head_unit big [] units unit is = cc
-head_unit big (last ∷ []) units unit is = cc
 head_unit big (first ∷ second ∷ bytes) units unit is = cc
+head_unit big bytes units unit is = cc
 
 -- the first unit is the character, or a leading surrogate, which Latin-1 does not have
 first_is : (big : Bool) (bytes more : List ℕ) (c : ℕ) → bytes ≡ char_bytes big c ++ more → (first_unit big bytes < 0x100) ↔ (c < 0x100)
-first_is big bytes more c is =
-    let units : units_of big bytes ≡ encode_utf16 c ++ units_of big more = ap (units_of big) is ∙ units_of-units big (encode_utf16 c) more in
-    ⊎_elim
-    (λ (one : c < 0x1_0000).
-    let e = head_unit big bytes _ c (units ∙ ap (λ us. us ++ units_of big more) (one_unit c one)) in
-    (λ low. omega (arith, e), λ low. omega (arith, e)))
-    (λ (two : 0x1_0000 ≤ c).
-    let e = head_unit big bytes _ _ (units ∙ ap (λ us. us ++ units_of big more) (two_units c two)) in
-    (λ low. absurd (omega (arith, e)), λ low. absurd (omega arith)))
-    (cases_lt c 0x1_0000)
+first_is big bytes more c is = grind (arith, units_of-units, head_unit, one_unit, two_units, cases_lt)
 
 module _ (big : Bool) (rest : List ℕ) (n : ℕ) (first : BeginsWithChar big rest n) where
   begins : rest ≡ char_bytes big first.char ++ drop n rest
   begins = sym (take-append-drop n rest) ∙ ap (λ front. front ++ drop n rest) first.spelled
 
+  begins_with : (Kind : ℕ → Type 0) → Kind first.char → BeginsWithA Kind big rest
+  begins_with Kind kind = record { char = first.char; more = drop n rest; scalar = first.scalar; begins = begins; kind = kind }
+
   pub begins_latin1 : first_unit big rest < 0x100 → BeginsWithA IsLatin1 big rest
-  begins_latin1 low = record {
-    char = first.char;
-    more = drop n rest;
-    scalar = first.scalar;
-    begins = begins;
-    kind = (first_is big rest (drop n rest) first.char begins).0 low;
-  }
+  begins_latin1 low = begins_with IsLatin1 ((first_is big rest (drop n rest) first.char begins).0 low)
 
   pub begins_above : 0x100 ≤ first_unit big rest → BeginsWithA IsAboveLatin1 big rest
-  begins_above high = record {
-    char = first.char;
-    more = drop n rest;
-    scalar = first.scalar;
-    begins = begins;
-    kind = ⊎_elim
-        (λ (low : first.char < 0x100). absurd (omega (arith, high, (first_is big rest (drop n rest) first.char begins).1 low)))
-        (λ (above : 0x100 ≤ first.char). above)
-        (cases_lt first.char 0x100);
-  }
+  begins_above high = begins_with IsAboveLatin1 (grind (arith, (first_is big rest (drop n rest) first.char begins).1))
 
 -- bytes that begin with a character of Latin-1 have its unit
 pub latin1_unit : (big : Bool) (rest : List ℕ) → BeginsWithA IsLatin1 big rest → first_unit big rest < 0x100
@@ -81,6 +57,4 @@ latin1_unit big rest begins = (first_is big rest begins.more begins.char begins.
 -- the bytes of one character
 pub one-byte : (big : Bool) (latin1 : List ℕ) (at : ℕ) → at < length latin1 → ((k : ℕ) → Fits w8 (slice_index latin1 k))
     → unit_bytes big (slice_index latin1 at) ≡ encode big (take 1 (drop at latin1))
-one-byte big latin1 at within fits =
-    let alone : take 1 (drop at latin1) ≡ slice_index latin1 at ∷ [] = ap (take 1) (drop-cons latin1 at 0 within) in
-    sym (append-nil (unit_bytes big (slice_index latin1 at))) ∙ ap (flat_map (unit_bytes big)) (sym alone) ∙ encode-bytes big (take 1 (drop at latin1)) (chunk-fits w8 at 1 latin1 fits)
+one-byte big latin1 at within fits = grind (arith, drop-cons, append-nil, encode-bytes, chunk-fits)

@@ -1,6 +1,6 @@
 -- Characters of one or two units of UTF-16, written as two units of which the first or both count.
 use Rattle.std.proofs.lemmas.Bool.Decides.{nat_tests}
-use Rattle.std.proofs.Common.{All, ◌≡◌, ℕ, ◌+◌, ◌-◌, ◌*◌, ◌/◌, ◌%◌, ◌^◌, ◌<◌, ◌≤◌, ◌==◌, Bool, true, false, cond, List, [], ◌∷◌, ◌++◌, flat_map, length, ltb, lt-ltb, le-ltb, map, replicate, append-nil, append_assoc, refl, sym, ap, ap₂, ◌∙◌, ⊎_elim, subst, arith, w16, w32}
+use Rattle.std.proofs.Common.{All, ◌≡◌, ℕ, ◌+◌, ◌-◌, ◌/◌, ◌%◌, ◌^◌, ◌<◌, ◌==◌, Bool, true, false, cond, List, [], ◌∷◌, ◌++◌, flat_map, length, ltb, lt-ltb, le-ltb, map, replicate, append-nil, append_assoc, refl, sym, ap, ap₂, ◌∙◌, subst, arith, w16, w32}
 use Rattle.std.proofs.lemmas.Bool.{cases_lt}
 use Rattle.std.proofs.lemmas.List.{length-map}
 use Rattle.std.proofs.lemmas.List.Elements.{All-head, All-tail}
@@ -8,12 +8,12 @@ use Rattle.std.proofs.lemmas.Simd.{mask_l-lt, mask_l-mod, tops_compared, zip2_sp
 use Rattle.std.specs.Char.{IsScalar}
 use lib.Lanes.{mask_l, sel_l, top, zip2}
 use Rattle.std.proofs.str.Utf16.{two_units}
-use Rattle.utf16_units.specs.Encoding.{char_bytes, encode}
+use Rattle.utf16_units.specs.Encoding.{encode}
 use Rattle.utf16_units.specs.Unit.{unit_bytes}
 use Rattle.utf16_units.proofs.CharLemmas.{no_surrogate, one_unit_bytes}
 use Rattle.utf16_units.proofs.EncodingLemmas.{encode-cons, encode-nil}
 use Rattle.utf16_from_utf8.specs.Lanes.{kept_pairs}
-use Rattle.utf16_fixed.specs.Pairs.{char_lane, halved, kept_lane, pair_of, pair_offset}
+use Rattle.utf16_fixed.specs.Pairs.{char_lane, halved, kept_lane}
 use Rattle.utf16_fixed.specs.Utf32.{above}
 
 -- ---- lanes chosen
@@ -52,10 +52,7 @@ two-kept false a b bits more = refl
 
 kept-by : (big : Bool) (a b bits first second rest : ℕ) (more : List ℕ) → bits % 2 ≡ first → bits / 2 % 2 ≡ second → bits / 2 / 2 ≡ rest
     → kept_pairs bits (unit_bytes big a ++ (unit_bytes big b ++ more)) ≡ cond (first == 1) (unit_bytes big a) [] ++ (cond (second == 1) (unit_bytes big b) [] ++ kept_pairs rest more)
-kept-by big a b bits first second rest more e f g =
-    two-kept big a b bits more
-    ∙ ap₂ (λ (x y : ℕ). cond (x == 1) (unit_bytes big a) [] ++ (cond (y == 1) (unit_bytes big b) [] ++ kept_pairs (bits / 2 / 2) more)) e f
-    ∙ ap (λ n. cond (first == 1) (unit_bytes big a) [] ++ (cond (second == 1) (unit_bytes big b) [] ++ kept_pairs n more)) g
+kept-by big a b bits first second rest more e f g = grind (arith, two-kept)
 
 abbrev pub bits_of : List ℕ → ℕ
 bits_of cs = mask_l (map (above 0) (halved (map kept_lane cs)))
@@ -67,34 +64,6 @@ bytes_of big cs = flat_map (unit_bytes big) (halved (map char_lane cs))
 pub kept-chars : (big : Bool) (cs : List ℕ) → All IsScalar cs → kept_pairs (bits_of cs) (bytes_of big cs) ≡ encode big cs
 unfolding halved
 kept-chars big [] scalars = sym (encode-nil big)
-kept-chars big (c ∷ cs) scalars = ⊎_elim
-    (λ (two : 0xFFFF < c).
-    let bits = mask_l (map (above 0) (halved (map kept_lane cs))) in
-    let top : c < 0x11_0000 = ⊎_elim (λ (low : c < 0xD800). omega (arith, two, low)) (λ (high : (0xE000 ≤ c) × (c < 0x11_0000)). high.1) (no_surrogate c (All-head IsScalar c cs scalars)) in
-    ap (λ (t : Bool). kept_pairs (mask_l (map (above 0) (halved (cond t 0x1_0001 1 ∷ map kept_lane cs)))) (flat_map (unit_bytes big) (halved (cond t (pair_of (pair_offset c)) c ∷ map char_lane cs)))) (lt-ltb 0xFFFF c two)
-    ∙ append_assoc' big (pair_of (pair_offset c)) (map char_lane cs) (1 + 2 * (1 + 2 * bits))
-    ∙ kept-by big (pair_of (pair_offset c) % 0x1_0000) (pair_of (pair_offset c) / 0x1_0000) (1 + 2 * (1 + 2 * bits)) 1 1 bits (bytes_of big cs) (omega arith) (omega arith) (omega arith)
-    ∙ ap₂ (λ us more. us ++ more) (ap (unit_bytes big) (lead two top)) (ap₂ (λ us more. us ++ more) (ap (unit_bytes big) (trail two top)) (kept-chars big cs (All-tail IsScalar c cs scalars)))
-    ∙ pair-char two (encode big cs) ∙ sym (encode-cons big c cs))
-    (λ (one : c ≤ 0xFFFF).
-    let bits = mask_l (map (above 0) (halved (map kept_lane cs))) in
-    let low : c % 0x1_0000 ≡ c = omega (arith, one) in
-    ap (λ (t : Bool). kept_pairs (mask_l (map (above 0) (halved (cond t 0x1_0001 1 ∷ map kept_lane cs)))) (flat_map (unit_bytes big) (halved (cond t (pair_of (pair_offset c)) c ∷ map char_lane cs)))) (le-ltb 0xFFFF c one)
-    ∙ append_assoc' big c (map char_lane cs) (1 + 2 * (0 + 2 * bits))
-    ∙ kept-by big (c % 0x1_0000) (c / 0x1_0000) (1 + 2 * (0 + 2 * bits)) 1 0 bits (bytes_of big cs) (omega arith) (omega arith) (omega arith)
-    ∙ ap₂ (λ us more. us ++ more) (ap (unit_bytes big) low ∙ sym (one_unit_bytes big c (omega (arith, one)))) (kept-chars big cs (All-tail IsScalar c cs scalars))
-    ∙ sym (encode-cons big c cs))
-    (cases_lt 0xFFFF c)
-  where
-    append_assoc' : (big : Bool) (lane : ℕ) (lanes : List ℕ) (bits : ℕ)
-        → kept_pairs bits (flat_map (unit_bytes big) (halved (lane ∷ lanes))) ≡ kept_pairs bits (unit_bytes big (lane % 0x1_0000) ++ (unit_bytes big (lane / 0x1_0000) ++ flat_map (unit_bytes big) (halved lanes)))
-    append_assoc' big lane lanes bits = refl
-
-    lead : 0xFFFF < c → c < 0x11_0000 → pair_of (pair_offset c) % 0x1_0000 ≡ 0xD800 + (c - 0x1_0000) / 0x400
-    lead two top = omega (arith, two, top)
-
-    trail : 0xFFFF < c → c < 0x11_0000 → pair_of (pair_offset c) / 0x1_0000 ≡ 0xDC00 + (c - 0x1_0000) % 0x400
-    trail two top = omega (arith, two, top)
-
-    pair-char : 0xFFFF < c → (more : List ℕ) → unit_bytes big (0xD800 + (c - 0x1_0000) / 0x400) ++ (unit_bytes big (0xDC00 + (c - 0x1_0000) % 0x400) ++ more) ≡ char_bytes big c ++ more
-    pair-char two more = grind (arith, nat_tests, two_units, append_assoc, append-nil)
+kept-chars big (c ∷ cs) scalars =
+    let rest = kept-chars big cs (All-tail IsScalar c cs scalars) in
+    grind (arith, no_surrogate, All-head, lt-ltb, kept-by, All-tail, encode-cons, le-ltb, one_unit_bytes, cases_lt, nat_tests, two_units, append_assoc, append-nil, rest)

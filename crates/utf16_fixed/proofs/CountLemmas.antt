@@ -1,9 +1,7 @@
 -- Code units counted by a test, and the size of their text in UTF-16.
 use Rattle.std.proofs.lemmas.Bool.Decides.{nat_tests}
-use Rattle.std.proofs.Common.{◌≡◌, ℕ, ◌+◌, ◌*◌, ◌<◌, ◌≤◌, Bool, true, false, cond, List, [], ◌∷◌, length, take, drop, refl, subst, sym, arith, count_by, ⊎_elim, lt-ltb, le-ltb, take-add}
+use Rattle.std.proofs.Common.{rules, ◌≡◌, ℕ, ◌+◌, ◌*◌, ◌<◌, ◌≤◌, Bool, cond, List, [], ◌∷◌, length, take, drop, refl, arith, count_by, lt-ltb, le-ltb, take-add}
 use Rattle.std.proofs.lemmas.List.Sums.{sum_by-append, sum_by-cons}
-use Rattle.std.specs.Char.{IsScalar}
-use mir.Val.{bool_byte}
 use Rattle.utf16_units.proofs.FirstChar.{high_scalar}
 use Rattle.utf16_units.specs.Encoding.{char_size, size}
 use Rattle.utf16_units.proofs.CharLemmas.{char_size_four, char_size_two}
@@ -16,10 +14,6 @@ module _ (p : ℕ → Bool) where
   pub counted-next : (units : List ℕ) (at n count more : ℕ) → count ≡ count_by p (take at units) → more ≡ count_by p (take n (drop at units))
       → count + more ≡ count_by p (take (at + n) units)
   counted-next units at n count more is next = grind (arith, nat_tests, count_by, take-add, sum_by-append)
-
-  bit-cond : (b : Bool) → bool_byte b ≡ cond b 1 0
-  bit-cond true = refl
-  bit-cond false = refl
 
 bit-above : (limit unit : ℕ) → limit < unit → ◌≡◌ {A = ℕ} (cond (above limit unit) 1 0) 1
 bit-above limit unit more = rw (lt-ltb limit unit more) refl
@@ -38,10 +32,7 @@ above-fewer low high (u ∷ units) le = omega (arith, above-fewer low high units
   one = grind (arith, nat_tests, bit-above, bit-below)
 
 lossy_unit-small : (unit : ℕ) → unit < 0x1_0000 → lossy_unit unit < 0x1_0000
-lossy_unit-small unit small = ⊎_elim
-    (λ (scalar : IsScalar unit). subst (λ c. c < 0x1_0000) (sym (lossy_unit-scalar unit scalar)) small)
-    (λ (other : ¬ IsScalar unit). subst (λ c. c < 0x1_0000) (sym (lossy_unit-other unit other)) (omega arith))
-    (scalar_or_not unit)
+lossy_unit-small unit small = grind (arith, lossy_unit-scalar, lossy_unit-other, scalar_or_not)
 
 -- a unit that is not a scalar value takes as much space as U+FFFD
 lossy_unit-size : (u : ℕ) → char_size (lossy_unit u) + 2 * cond (above 0x10_FFFF u) 1 0 ≡ 2 + 2 * cond (above 0xFFFF u) 1 0
@@ -49,12 +40,4 @@ lossy_unit-size u = grind (arith, nat_tests, char_size_two, lossy_unit-small, bi
 
 pub lossy_utf32-size : (units : List ℕ) → size (lossy_utf32 units) + 2 * count_by (above 0x10_FFFF) units ≡ 2 * length units + 2 * count_by (above 0xFFFF) units
 lossy_utf32-size [] = omega (arith, size-nil)
-lossy_utf32-size (u ∷ units) =
-    omega (
-      arith,
-      size-cons (lossy_unit u) (lossy_utf32 units),
-      lossy_unit-size u,
-      lossy_utf32-size units,
-      counted-cons 0x10_FFFF u units,
-      counted-cons 0xFFFF u units,
-    )
+lossy_utf32-size (u ∷ units) = search (rules, size-cons, lossy_unit-size, counted-cons, lossy_utf32-size units)

@@ -1,5 +1,5 @@
 -- The lanes before the first above a limit, by a bit for each.
-use Rattle.std.proofs.Common.{◌≡◌, ℕ, All, ◌<◌, ◌≤◌, ◌-◌, ◌%◌, ◌^◌, not, ltb, List, map, length, replicate, take, slice_index, sym, ap, ◌∙◌, subst, arith, w32, cond}
+use Rattle.std.proofs.Common.{◌≡◌, ℕ, All, ◌<◌, ◌≤◌, ◌-◌, ◌%◌, ◌^◌, not, ltb, List, map, length, replicate, take, sym, ap, ◌∙◌, arith, w32, cond}
 use Rattle.std.proofs.lemmas.Bool.{ltb-false, not-true}
 use Rattle.std.proofs.lemmas.List.{get_or-take, length-map, length-take}
 use Rattle.std.proofs.lemmas.List.Elements.{All-from_get_or}
@@ -26,14 +26,10 @@ module _ (units : List ℕ) (n limit bits : ℕ) (long : length units ≡ n) (fe
   front_len-all none = leading_from_mask_l (above limit) units (sym are ∙ none) ∙ long
 
   pub front_len-lowest : 0 < bits → front_len ≡ count_trailing_zeros 64 bits
-  front_len-lowest some =
-      sym (ap (count_trailing_zeros 64) are ∙ trailing_mask_l (above limit) 64 units (omega (arith, long, few)) (subst (λ m. 0 < m) are some))
+  front_len-lowest some = grind (arith, trailing_mask_l)
 
   pub front_len-few : front_len ≤ n
   front_len-few = omega (arith, long, prefix_len-le-length (λ unit. not (above limit unit)) units)
 
   pub front-below : All (λ unit. unit ≤ limit) (take front_len units)
-  front-below = All-from_get_or (λ unit. unit ≤ limit) (take front_len units) 0 (λ i lt.
-      let before : i < front_len = omega (arith, lt, length-take front_len units) in
-      subst (λ unit. unit ≤ limit) (sym (get_or-take front_len units i 0 before))
-      (ltb-false limit (slice_index units i) (not-true _ (prefix_len_passes (λ unit. not (above limit unit)) units i 0 before))))
+  front-below = grind (arith, All-from_get_or, length-take, get_or-take, ltb-false, not-true, prefix_len_passes)

@@ -1,5 +1,5 @@
 -- What a pass over units finds: the greatest units are below a limit exactly if all are.
-use Rattle.std.proofs.Common.{◌≡◌, ◌↔◌, ℕ, zero, suc, ◌+◌, ◌*◌, ◌%◌, ◌<◌, ◌≤◌, Bool, cond, ltb, List, [], ◌∷◌, ◌++◌, length, map, replicate, take, drop, refl, sym, ap, ◌∙◌, subst, arith, append_assoc, count_by, length-take-le, w16}
+use Rattle.std.proofs.Common.{rules, ◌≡◌, ◌↔◌, ℕ, zero, suc, ◌+◌, ◌*◌, ◌%◌, ◌<◌, ◌≤◌, Bool, cond, ltb, List, [], ◌∷◌, ◌++◌, length, map, replicate, take, drop, refl, sym, ap, ◌∙◌, subst, arith, append_assoc, count_by, length-take-le, w16}
 use Rattle.std.proofs.lemmas.Bool.Decides.{nat_tests}
 use Rattle.std.proofs.lemmas.List.{length-map}
 use Rattle.std.proofs.lemmas.List.Elements.{All-append, All-cons, All-head, All-nil, All-replicate, All-tail}
@@ -21,8 +21,6 @@ greater_below limit x y = (λ below. (grind (arith, nat_tests), grind (arith, na
 
 pub lanes_below : (limit : ℕ) (xs ys : List ℕ) → length xs ≡ length ys → AllBelow limit (sel_l (zip2 ltb xs ys) ys xs) ↔ (AllBelow limit xs × AllBelow limit ys)
 lanes_below limit [] [] same = (λ all. (all, all), λ both. both.0)
-lanes_below limit [] (y ∷ ys) same = absurd (omega (arith, same))
-lanes_below limit (x ∷ xs) [] same = absurd (omega (arith, same))
 lanes_below limit (x ∷ xs) (y ∷ ys) same =
     let here = greater_below limit x y in
     let rest = lanes_below limit xs ys (omega (arith, same)) in (
@@ -35,6 +33,7 @@ lanes_below limit (x ∷ xs) (y ∷ ys) same =
           (here.1 (All-head (λ u. u < limit) x xs both.0, All-head (λ u. u < limit) y ys both.1))
           (rest.1 (All-tail (λ u. u < limit) x xs both.0, All-tail (λ u. u < limit) y ys both.1)),
     )
+lanes_below limit xs ys same = absurd (omega (arith, same))
 
 -- the lanes of two vectors, the greater ones
 abbrev pub greater_lanes : List ℕ → List ℕ → List ℕ
@@ -45,19 +44,12 @@ greater_lanes-below limit xs ys same =
     subst (λ bits. AllBelow limit (sel_l bits ys xs) ↔ (AllBelow limit xs × AllBelow limit ys)) (sym (tops_compared w16 ltb xs ys)) (lanes_below limit xs ys same)
 
 length-greater_lanes : (xs ys : List ℕ) → length xs ≡ length ys → length (greater_lanes xs ys) ≡ length xs
-length-greater_lanes xs ys same =
-    let greater = zip2 (λ a b. cond (ltb a b) 65535 0) xs ys in
-    let bits : length (map (top 15) greater) ≡ length xs = length-map greater (top 15) ∙ length-zip2 (λ a b. cond (ltb a b) 65535 0) xs ys same in
-    length-sel_l (map (top 15) greater) ys xs (bits ∙ same) bits ∙ bits
+length-greater_lanes xs ys same = grind (arith, length-map, length-zip2, length-sel_l)
 
 -- ---- what a pass finds
 
 pub IsScanOf-none : IsScanOf [] 0 (replicate 32 0)
-IsScanOf-none = record {
-  counted = refl;
-  long = refl;
-  below = λ limit some. (λ all. All-replicate (λ u. u < limit) 32 0 some, λ zeros. All-nil (λ u. u < limit));
-}
+IsScanOf-none = search (rules, All-replicate, All-nil)
 
 -- all of two lists are below a limit exactly if those of each are
 append_below : (limit : ℕ) (xs ys : List ℕ) → AllBelow limit (xs ++ ys) ↔ (AllBelow limit xs × AllBelow limit ys)
@@ -91,10 +83,7 @@ IsScanOf-with before units trailing bits greatest was long is =
 -- none of the units is trailing
 no_low_plain : (units : List ℕ) → HasNoSurrogate units → 0 ≡ count_by is_low_surrogate units
 no_low_plain [] plain = refl
-no_low_plain (unit ∷ units) plain =
-    let whole : count_by is_low_surrogate (unit ∷ units) ≡ (0 + cond (is_low_surrogate unit) 1 0) + count_by is_low_surrogate units = counted_append (unit ∷ []) units in
-    let here = All-head IsNoSurrogate unit units plain in
-    omega (arith, whole, no_low_plain units (All-tail IsNoSurrogate unit units plain), ap {B = ℕ} (λ (low : Bool). 0 + cond low 1 0) here.1)
+no_low_plain (unit ∷ units) plain = grind (arith, counted_append, All-head, All-tail, no_low_plain units (All-tail IsNoSurrogate unit units plain))
 
 pub IsScanOf-plain : (before units : List ℕ) (trailing : ℕ) (greatest : List ℕ) → IsScanOf before trailing greatest → length units ≡ 32
     → HasNoSurrogate units → IsScanOf (before ++ units) trailing (greater_lanes greatest units)
@@ -133,21 +122,13 @@ ScannedTo-none big raw trailing greatest none = record { within = omega arith; e
 
 -- the trailing units are at most half as many as the bytes, so the count does not overflow
 pub ScannedTo-few : (big : Bool) (raw : List ℕ) (at trailing : ℕ) (greatest : List ℕ) → ScannedTo big raw at trailing greatest → 2 * trailing ≤ at
-ScannedTo-few big raw at trailing greatest done =
-    omega (arith, done.scan.counted, count_by-le-length is_low_surrogate (units_of big (take at raw)), length-units_of big (take at raw), length-take-le at raw done.within)
+ScannedTo-few big raw at trailing greatest done = grind (arith, count_by-le-length, length-units_of, length-take-le)
 
 module _ (big : Bool) (raw : List ℕ) (at trailing : ℕ) (greatest : List ℕ) (done : ScannedTo big raw at trailing greatest) (units : List ℕ)
     (more : ℕ) (now : List ℕ) (scan : (before : List ℕ) → IsScanOf before trailing greatest → IsScanOf (before ++ units) more now) where
   -- a block
   pub ScannedTo-block : at + 64 ≤ length raw → units ≡ units_of big (take 64 (drop at raw)) → ScannedTo big raw (at + 64) more now
-  ScannedTo-block within is =
-      record {
-        within = within;
-        even = omega arith;
-        scan =
-            subst (λ us. IsScanOf us more now) (ap (λ us. units_of big (take at raw) ++ us) is ∙ sym (units_of-next big raw at 64 done.even done.within))
-            (scan (units_of big (take at raw)) done.scan);
-      }
+  ScannedTo-block within is = grind (arith, units_of-next)
 
   -- the last units, and zeros after them
   pub ScannedTo-all : (n : ℕ) → units ≡ units_of big (drop at raw) ++ replicate n 0 → IsScanOf (units_of big raw) more now

@@ -1,15 +1,15 @@
 -- Low units of UTF-32 in lanes, and how they are compared.
-use Rattle.std.proofs.Common.{◌≡◌, ℕ, All, ◌+◌, ◌-◌, ◌%◌, ◌^◌, ◌<◌, ◌≤◌, true, false, cond, ltb, List, [], ◌∷◌, length, map, replicate, ⊎_elim, refl, sym, ap, ap₂, ◌∙◌, subst, arith, Fits, w16, w32, lt-ltb, le-ltb}
+use Rattle.std.proofs.Common.{◌≡◌, ℕ, All, ◌+◌, ◌-◌, ◌%◌, ◌^◌, ◌<◌, ◌≤◌, false, cond, ltb, List, [], ◌∷◌, length, map, replicate, ⊎_elim, refl, sym, ap, ◌∙◌, subst, arith, Fits, w16, w32, lt-ltb, le-ltb}
 use lib.Lanes.{Each1, mask_l, sel_l, top, zip2}
 use Rattle.std.proofs.lemmas.Bool.{cases_lt, ltb-false}
 use Rattle.std.proofs.lemmas.Bool.Decides.{nat_tests}
 use Rattle.std.proofs.lemmas.List.Elements.{All-cons, All-head, All-nil, All-tail, All-weaker}
 use Rattle.std.proofs.lemmas.Simd.{bitmask_splat, tops_compared, zip2_splat}
-use Rattle.utf16_units.specs.Lanes.{HasNoSurrogate, IsNoSurrogate}
+use Rattle.utf16_units.specs.Lanes.{HasNoSurrogate}
 use Rattle.utf16_fixed.specs.Progress.{IsBasicLow, from_surrogates, low_unit}
 use Rattle.utf16_fixed.specs.Utf32.{AreBasic}
 use Rattle.utf16_fixed.proofs.PlainLemmas.{IsNoSurrogate-of}
-use Rattle.utf16_fixed.proofs.TextLemmas.{Encodes-plain, IsUnit}
+use Rattle.utf16_fixed.proofs.TextLemmas.{Encodes-plain}
 use Rattle.utf16_fixed.proofs.ValidLemmas.{none_set}
 
 -- ---- low units
@@ -23,8 +23,7 @@ low-same u le = grind (arith, nat_tests)
 
 pub low-all : (units : List ℕ) → All (λ unit. unit ≤ 0xFFFF) units → map low_unit units ≡ units
 low-all [] le = refl
-low-all (u ∷ units) le =
-    ap₂ (λ x xs. x ∷ xs) (low-same u (All-head (λ unit. unit ≤ 0xFFFF) u units le)) (low-all units (All-tail (λ unit. unit ≤ 0xFFFF) u units le))
+low-all (u ∷ units) le = grind (arith, low-same, All-head, All-tail, low-all units (All-tail (λ unit. unit ≤ 0xFFFF) u units le))
 
 lowest : (units : List ℕ) → sel_l (zip2 ltb units (replicate (length units) 0xFFFF)) units (replicate (length units) 0xFFFF) ≡ map low_unit units
 lowest [] = refl
@@ -50,31 +49,20 @@ low-below u below = grind (arith, nat_tests)
 lows-below : (units : List ℕ) → All IsBasicLow (map low_unit units) → All (λ unit. unit ≤ 0xFFFF) units
 lows-below [] lows = All-nil (λ unit. unit ≤ 0xFFFF)
 lows-below (u ∷ units) lows =
-    let here = low-below u (All-head IsBasicLow (low_unit u) (map low_unit units) lows).below in
-    All-cons (λ unit. unit ≤ 0xFFFF) u units (omega (arith, here)) (lows-below units (All-tail IsBasicLow (low_unit u) (map low_unit units) lows))
+    grind (arith, low-below, All-head, All-cons, All-tail, lows-below units (All-tail IsBasicLow (low_unit u) (map low_unit units) lows))
 
 -- units whose low units are not surrogates
 pub AreBasic-of : (units : List ℕ) → All (λ unit. unit ≤ 0xFFFF) units → HasNoSurrogate units → AreBasic units
-AreBasic-of units le plain =
-    let low = All-weaker (λ unit. unit ≤ 0xFFFF) IsUnit (λ unit le. omega (arith, le)) units le in
-    record { valid = (Encodes-plain true units low plain).scalars; low = low }
+AreBasic-of units le plain = grind (arith, All-weaker, Encodes-plain)
 
 pub AreBasic-lows : (units : List ℕ) → All IsBasicLow (map low_unit units) → (map low_unit units ≡ units) × AreBasic units
-AreBasic-lows units lows =
-    let le = lows-below units lows in
-    let same = low-all units le in (
-      same,
-      AreBasic-of units le
-          (All-weaker IsBasicLow IsNoSurrogate (λ unit is. IsNoSurrogate-of unit is.plain) units (subst (All IsBasicLow) same lows)),
-    )
+AreBasic-lows units lows = grind (arith, lows-below, low-all, AreBasic-of, All-weaker, IsNoSurrogate-of)
 
 -- ---- the least and the greatest lanes of two vectors
 
 pub least-both : (limit : ℕ) (a b : List ℕ) → length a ≡ length b → All (λ unit. limit ≤ unit) (sel_l (zip2 ltb a b) a b)
     → All (λ unit. limit ≤ unit) a × All (λ unit. limit ≤ unit) b
 least-both limit [] [] same all = (All-nil (λ unit. limit ≤ unit), All-nil (λ unit. limit ≤ unit))
-least-both limit [] (y ∷ b) same all = absurd (omega (arith, same))
-least-both limit (x ∷ a) [] same all = absurd (omega (arith, same))
 least-both limit (x ∷ a) (y ∷ b) same all =
     let P : ℕ → Type 0 = λ unit. limit ≤ unit in
     let here = All-head P (cond (ltb x y) x y) (sel_l (zip2 ltb a b) a b) all in
@@ -84,6 +72,7 @@ least-both limit (x ∷ a) (y ∷ b) same all =
     (λ (le : y ≤ x). let one : limit ≤ y = subst (λ c. limit ≤ cond c x y) (le-ltb x y le) here in (omega (arith, one, le), one))
     (cases_lt x y) in
     (All-cons P x a two.0 rest.0, All-cons P y b two.1 rest.1)
+least-both limit a b same all = absurd (omega (arith, same))
 
 pub compared : (a b c d : List ℕ) → sel_l (map (top 15) (zip2 (λ (x y : ℕ). cond (ltb x y) (2 ^ 16 - 1) 0) a b)) c d ≡ sel_l (zip2 ltb a b) c d
 compared a b c d = ap (λ flags. sel_l flags c d) (tops_compared w16 ltb a b)
@@ -104,7 +93,6 @@ from_surrogates-lanes units long = zip2_splat (λ (a b : ℕ). (a + (2 ^ 16 - b)
 pub lows-basic : (units : List ℕ) → All (λ unit. unit < 0xFFFF) units → All (λ unit. 0x800 ≤ unit) (map from_surrogates units) → All IsBasicLow units
 lows-basic [] below past = All-nil IsBasicLow
 lows-basic (u ∷ units) below past =
-    let one = All-head (λ unit. unit < 0xFFFF) u units below in
-    let far = All-head (λ unit. 0x800 ≤ unit) (from_surrogates u) (map from_surrogates units) past in
-    All-cons IsBasicLow u units (record { below = one; plain = λ same. omega (arith, one, far, same) })
-    (lows-basic units (All-tail (λ unit. unit < 0xFFFF) u units below) (All-tail (λ unit. 0x800 ≤ unit) (from_surrogates u) (map from_surrogates units) past))
+    let far = All-tail (λ unit. 0x800 ≤ unit) (from_surrogates u) (map from_surrogates units) past in
+    let rest = lows-basic units (All-tail (λ unit. unit < 0xFFFF) u units below) far in
+    grind (arith, All-head, All-cons, All-tail, rest)

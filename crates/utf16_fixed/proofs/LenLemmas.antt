@@ -16,7 +16,7 @@ use Rattle.utf16_units.proofs.UnitLemmas.{length-unit_bytes}
 use Rattle.utf16_transcode.specs.WholeText.{WritesWhole}
 use Rattle.utf16_transcode.specs.Stops.{StopsLossy}
 use Rattle.utf16_transcode.specs.declared.progress.Stop.{Stop}
-use Rattle.utf16_transcode.specs.declared.progress.Stop.TheVariants.{Incomplete, Done, IllFormed, NoSpace}
+use Rattle.utf16_transcode.specs.declared.progress.Stop.TheVariants.{Done, NoSpace}
 use Rattle.utf16_fixed.specs.Utf32.{utf32_units}
 use Rattle.utf16_fixed.proofs.LossyLemmas.{units_of_text}
 
@@ -28,8 +28,7 @@ item-least big (lone_lead unit) = omega (arith, length-unit_bytes big unit)
 
 items-least : (big : Bool) (items : List Item) → 2 * length items ≤ length (items_bytes big items)
 items-least big [] = omega arith
-items-least big (item ∷ items) =
-    omega (arith, length-append (item_bytes big item) (items_bytes big items), item-least big item, items-least big items)
+items-least big (item ∷ items) = grind (arith, length-append, item-least, items-least big items)
 
 whole-most : (items : List Item) (tail : List ℕ) → 2 * length (whole_lossy_chars items tail) ≤ 2 * length items + length tail + 1
 whole-most items [] = omega (arith, length-map items lossy_char)
@@ -51,8 +50,6 @@ lossy_text-most big raw are =
 pub to_utf32_lossy_fits : (big : Bool) (raw to : List ℕ) (read written : ℕ) (stop : Stop) → AreBytes raw → WritesWhole (lossy_text big) utf32_units raw to read written
     → StopsLossy (lossy_text big) utf32_units (drop read raw) (length to - written) stop → (length raw + 1) / 2 ≤ length to → stop ≡ Done
 to_utf32_lossy_fits big raw to read written Done are shows here room = refl
-to_utf32_lossy_fits big raw to read written (IllFormed len) are shows here room = absurd here
-to_utf32_lossy_fits big raw to read written Incomplete are shows here room = absurd here
 to_utf32_lossy_fits big raw to read written NoSpace are shows here room =
     let all = sym (units_of_text (lossy_text big raw)) ∙ shows.shown ∙ ap (λ t. take written to ++ t) (units_of_text (lossy_text big (drop read raw)) ∙ here.begins) in
     absurd (omega (
@@ -64,6 +61,7 @@ to_utf32_lossy_fits big raw to read written NoSpace are shows here room =
       length-take-le written to shows.fits,
       here.too_long,
     ))
+to_utf32_lossy_fits big raw to read written stop are shows here room = absurd here
 
 -- ---- part by part
 

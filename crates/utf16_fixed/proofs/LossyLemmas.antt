@@ -17,7 +17,7 @@ use Rattle.utf16_transcode.specs.StreamSplit.{decided}
 use Rattle.utf16_transcode.specs.Stops.{IsIllFormedUtf16, TextDoesNotFit, Stops, StopsPartial}
 use Rattle.utf16_transcode.specs.Transcoded.{Writes}
 use Rattle.utf16_transcode.specs.declared.progress.Stop.{Stop}
-use Rattle.utf16_transcode.specs.declared.progress.Stop.TheVariants.{Incomplete, Done, IllFormed, NoSpace}
+use Rattle.utf16_transcode.specs.declared.progress.Stop.TheVariants.{IllFormed, NoSpace}
 use Rattle.utf16_transcode.proofs.DecodesSteps.{Decodes-then}
 use Rattle.utf16_units.proofs.IllFormedLemmas.{rest_from}
 use Rattle.utf16_units.specs.Encoding.{char_bytes}
@@ -55,13 +55,12 @@ full_before into text k left next full = record { char = next.char; more = next.
 -- why a call stopped, if not at an ill-formed sequence
 pub stops_lossy_to_utf32 : (big : Bool) (raw : List ℕ) (n left : ℕ) (stop : Stop) → ((len : ℕ) → ¬ (stop ≡ IllFormed len)) → Stops (char_bytes big) utf32_units (IsIllFormedUtf16 big) raw n left stop
     → StopsPartial (utf16_split big) utf32_units (drop n raw) left stop
-stops_lossy_to_utf32 big raw n left Done other here = stops_lossy big raw n left Done other here
 stops_lossy_to_utf32 big raw n left (IllFormed len) other here = absurd (other len refl)
-stops_lossy_to_utf32 big raw n left Incomplete other here = stops_lossy big raw n left Incomplete other here
 stops_lossy_to_utf32 big raw n left NoSpace other here =
     let size : 0 < length (encode_utf8 here.char) = omega (arith, length-encode here.char, len_utf8_bounds here.char) in
     full_before encode_utf8 _ 0 left
     (stops_lossy big raw n 0 NoSpace other (record { char = here.char; more = here.more; scalar = here.scalar; begins = here.begins; too_long = size })) here.too_long
+stops_lossy_to_utf32 big raw n left stop other here = stops_lossy big raw n left stop other here
 
 -- a unit that more bytes can't change is whole
 two_bytes : (big : Bool) (rest : List ℕ) → 0 < length rest → ¬ (IsIncomplete big rest) → 2 ≤ length rest
@@ -108,10 +107,7 @@ module _ (big : Bool) (raw : List ℕ) (read len : ℕ) (are : AreBytes raw) (so
   pub DecodesToUtf32-lone : (to : List ℕ) (at : ℕ) → DecodesToUtf32 big raw to read at → at < length to → DecodesToUtf32 big raw (slice_set to at 0xFFFD) (read + len) (at + 1)
   unfolding rest lone
   DecodesToUtf32-lone to at before room = record {
-    within =
-        let many = length-drop read raw in
-        let two = two_bytes big (drop read raw) (omega (arith, many, some)) here.1.1 in
-        omega (arith, many, two, here.1.0);
+    within = grind (arith, length-drop, two, two_bytes);
     fits = omega (arith, room, length-set to at 0xFFFD);
     decodes =
         Decodes-then (utf16_split big) utf32_units raw rest (drop (read + len) raw) [] (take at to) (take (at + 1) (slice_set to at 0xFFFD)) before.decodes
@@ -126,12 +122,7 @@ module _ (big : Bool) (raw : List ℕ) (read len : ℕ) (are : AreBytes raw) (so
   -- or does not fit
   pub replacement_is_too_long : (left : ℕ) → left < 1 → TextDoesNotFit utf32_units (decided (utf16_split big) (drop read raw)) left
   unfolding rest lone
-  replacement_is_too_long left full = record {
-    char = 0xFFFD;
-    more = lossy_chars (split_items big (drop (read + len) raw));
-    begins = ap lossy_chars items_here ∙ ap (λ c. c ∷ lossy_chars (split_items big (drop (read + len) raw))) (lossy_char-lone_item (first_unit big rest));
-    too_long = full;
-  }
+  replacement_is_too_long left full = grind (arith, items_here, lossy_char-lone_item, first_unit, rest)
 
 -- U+FFFD is written for a tail
 pub tail_units : (tail : List ℕ) → tail ≢ [] → flat_map utf32_units (whole_lossy_chars [] tail) ≡ 0xFFFD ∷ []

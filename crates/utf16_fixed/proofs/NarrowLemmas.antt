@@ -1,5 +1,5 @@
 -- Units written as bytes of Latin-1.
-use Rattle.std.proofs.Common.{◌≡◌, ℕ, ◌+◌, ◌*◌, ◌%◌, ◌≤◌, Bool, List, [], ◌∷◌, ◌++◌, length, take, drop, slice_index, Fits, w8, refl, sym, ap, ap₂, ◌∙◌, arith, flat_map, drop-drop, length-take-le}
+use Rattle.std.proofs.Common.{◌≡◌, ℕ, ◌+◌, ◌*◌, ◌%◌, ◌≤◌, Bool, List, [], ◌∷◌, ◌++◌, length, take, drop, slice_index, Fits, w8, refl, sym, ap, ◌∙◌, arith, flat_map, drop-drop, length-take-le}
 use Rattle.std.proofs.lemmas.List.{drop-set-lt, length-set, take_more_set}
 use Rattle.std.proofs.lemmas.Simd.{chunk-fits, length-put_chunk, put_chunk_is, take_more_put_chunk}
 use Rattle.std.proofs.lemmas.Slice.{drop-put_mid}
@@ -14,8 +14,7 @@ use Rattle.utf16_fixed.proofs.CharLemmas.{bytes-scalars, encode-bytes}
 
 -- what is after a vector that was stored stays
 pub drop-put_chunk : (at : ℕ) (old v : List ℕ) (m : ℕ) → m ≡ at + length v → m ≤ length old → drop m (put_chunk at old v) ≡ drop m old
-drop-put_chunk at old v m is fits =
-    ap (drop m) (put_chunk_is at old v (omega (arith, is, fits))) ∙ drop-put_mid at (length v) old v m (omega (arith, is)) (omega (arith, is, fits)) refl
+drop-put_chunk at old v m is fits = grind (arith, put_chunk_is, drop-put_mid)
 
 pub IsNarrowed-none : (big : Bool) (raw old : List ℕ) → IsNarrowed big raw old old 0
 unfolding units_of
@@ -32,10 +31,7 @@ module _ (big : Bool) (raw before old : List ℕ) (at : ℕ) (done : IsNarrowed 
       record {
         within = within;
         fits = fits;
-        wrote =
-            wrote ∙ ap₂ (λ x y. x ++ y) done.wrote is
-            ∙ sym (units_of-next big raw (2 * at) (2 * n) even was)
-            ∙ ap (λ m. units_of big (take m raw)) (sym on);
+        wrote = grind (arith, units_of-next);
         rest =
             rest ∙ sym (drop-drop n at old) ∙ ap (drop n) done.rest ∙ drop-drop n at before;
       }

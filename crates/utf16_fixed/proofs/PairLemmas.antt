@@ -7,7 +7,7 @@ use lib.Lanes.{Each1, digits_l, number_l, zip2}
 use Rattle.std.specs.Char.{IsScalar}
 use Rattle.std.specs.Char.Utf16.{surrogate_pair_char}
 use Rattle.utf16_units.proofs.FirstChar.{high_scalar}
-use Rattle.utf16_units.specs.Encoding.{Encodes, char_bytes, units_of}
+use Rattle.utf16_units.specs.Encoding.{Encodes, units_of}
 use Rattle.utf16_units.specs.Unit.{IsLeading, IsTrailing, unit_bytes}
 use Rattle.utf16_units.proofs.EncodingLemmas.{encode-cons, encode-nil}
 use Rattle.utf16_units.proofs.SplitLemmas.{pair_bytes}
@@ -20,14 +20,8 @@ pub joined-read : (n : ℕ) (units : List ℕ) → length units ≡ n + n → Ea
     → digits_l (2 ^ 32) n (number_l 256 (flat_map (unit_bytes false) units)) ≡ joined units
 unfolding joined
 joined-read zero [] long fit = refl
-joined-read zero (u ∷ units) long fit = absurd (omega (arith, long))
-joined-read (suc n) [] long fit = absurd (omega (arith, long))
-joined-read (suc n) (l ∷ []) long fit = absurd (omega (arith, long))
-joined-read (suc n) (l ∷ t ∷ units) long fit =
-    let low = fit.0.fits in
-    let high = fit.1.0.fits in
-    ap₂ (λ x xs. x ∷ xs) (omega (arith, low, high))
-    (ap (digits_l (2 ^ 32) n) (omega (arith, low, high)) ∙ joined-read n units (omega (arith, long)) fit.1.1)
+joined-read (suc n) (l ∷ t ∷ units) long fit = grind (arith, joined-read n units (omega (arith, long)) fit.1.1)
+joined-read n units long fit = absurd (omega (arith, long))
 
 -- ---- characters
 
@@ -60,12 +54,7 @@ module _ (l t : ℕ) (low : l < 0x1_0000) (high : t < 0x1_0000) (pair : pair_tes
   -- the character and a text after it
   pub Encodes-pair : (big : Bool) (text bytes : List ℕ) → Encodes big text bytes
       → Encodes big (pair_char (pair_bits (l + 0x1_0000 * t)) ∷ text) (unit_bytes big l ++ (unit_bytes big t ++ bytes))
-  Encodes-pair big text bytes e = record {
-    scalars = All-cons IsScalar (pair_char (pair_bits (l + 0x1_0000 * t))) text (subst IsScalar (sym char_is) scalar) e.scalars;
-    spelled =
-        encode-cons big (pair_char (pair_bits (l + 0x1_0000 * t))) text ∙ ap₂ (λ c rest. char_bytes big c ++ rest) char_is e.spelled
-        ∙ pair_bytes l t leads trails big bytes;
-  }
+  Encodes-pair big text bytes e = grind (arith, All-cons, char_is, scalar, encode-cons, pair_bytes, leads, trails)
 
 -- the pairs at the start of a block
 pub Encodes-pairs : (big : Bool) (n : ℕ) (units : List ℕ) → n + n ≤ length units → Each1 (Fits w16) units
@@ -73,34 +62,33 @@ pub Encodes-pairs : (big : Bool) (n : ℕ) (units : List ℕ) → n + n ≤ leng
     → Encodes big (take n (map pair_char (map pair_bits (joined units)))) (flat_map (unit_bytes big) (take (n + n) units))
 unfolding joined
 Encodes-pairs big zero units room fit tests = record { scalars = All-nil IsScalar; spelled = encode-nil big }
-Encodes-pairs big (suc n) [] room fit tests = absurd (omega (arith, room))
-Encodes-pairs big (suc n) (l ∷ []) room fit tests = absurd (omega (arith, room))
 Encodes-pairs big (suc n) (l ∷ t ∷ units) room fit tests =
     let two : suc n + suc n ≡ suc (suc (n + n)) = omega arith in
     let here = All-head (λ test. test ≤ 0x3FF) (pair_test (pair_bits (l + 0x1_0000 * t))) (take n (map pair_test (map pair_bits (joined units)))) tests in
     let rest = All-tail (λ test. test ≤ 0x3FF) (pair_test (pair_bits (l + 0x1_0000 * t))) (take n (map pair_test (map pair_bits (joined units)))) tests in
     subst (λ k. Encodes big (pair_char (pair_bits (l + 0x1_0000 * t)) ∷ take n (map pair_char (map pair_bits (joined units)))) (flat_map (unit_bytes big) (take k (l ∷ t ∷ units)))) (sym two)
     (Encodes-pair l t (omega (arith, fit.0.fits)) (omega (arith, fit.1.0.fits)) here big _ _ (Encodes-pairs big n units (omega (arith, room)) fit.1.1 rest))
+Encodes-pairs big (suc n) units room fit tests = absurd (omega (arith, room))
 
 -- units fit in sixteen bits
 pub units-fit : (big : Bool) (bytes : List ℕ) → Each1 (Fits w8) bytes → Each1 (Fits w16) (units_of big bytes)
 unfolding units_of
-units-fit big [] fit = tt
-units-fit big (x ∷ []) fit = tt
 units-fit true (x ∷ y ∷ bytes) fit = (record { fits = omega (arith, fit.0.fits, fit.1.0.fits) }, units-fit true bytes fit.1.1)
 units-fit false (x ∷ y ∷ bytes) fit = (record { fits = omega (arith, fit.0.fits, fit.1.0.fits) }, units-fit false bytes fit.1.1)
+units-fit big bytes fit = tt
 
 -- ---- lane by lane
+
+masked : (bits : ℕ) (v : List ℕ) → map (λ (a : ℕ). bit_and a (2 ^ bits - 1)) v ≡ map (λ a. a % 2 ^ bits) v
+masked bits [] = refl
+masked bits (x ∷ v) = ap₂ (λ y ys. y ∷ ys) (and_mask x bits) (masked bits v)
 
 module _ (v : List ℕ) (long : length v ≡ 8) where
   pub bits-lanes : zip2 (λ (a b : ℕ). (a + (2 ^ 32 - b)) % 2 ^ 32) v (replicate 8 0xDC00_D800) ≡ map pair_bits v
   bits-lanes = zip2_splat (λ (a b : ℕ). (a + (2 ^ 32 - b)) % 2 ^ 32) v 8 0xDC00_D800 long
 
   low : zip2 (λ (a b : ℕ). bit_and a b) v (replicate 8 0xFFFF) ≡ map (λ a. a % 0x1_0000) v
-  low = zip2_splat (λ (a b : ℕ). bit_and a b) v 8 0xFFFF long ∙ each v where
-    each : (xs : List ℕ) → map (λ (a : ℕ). bit_and a 0xFFFF) xs ≡ map (λ a. a % 0x1_0000) xs
-    each [] = refl
-    each (x ∷ xs) = ap₂ (λ y ys. y ∷ ys) (and_mask x 16) (each xs)
+  low = zip2_splat (λ (a b : ℕ). bit_and a b) v 8 0xFFFF long ∙ masked 16 v
 
   high : zip2 (λ (a b : ℕ). a / 2 ^ b) v (replicate 8 16) ≡ map (λ a. a / 2 ^ 16) v
   high = zip2_splat (λ (a b : ℕ). a / 2 ^ b) v 8 16 long
@@ -126,8 +114,6 @@ pub halved-read : (n : ℕ) (pairs : List ℕ) → length pairs ≡ n → Each1 
     → units_of false (digits_l 256 (n + n + (n + n)) (number_l (2 ^ 32) pairs)) ≡ halved pairs
 unfolding halved units_of
 halved-read zero [] long fit = refl
-halved-read zero (p ∷ pairs) long fit = absurd (omega (arith, long))
-halved-read (suc n) [] long fit = absurd (omega (arith, long))
 halved-read (suc n) (p ∷ pairs) long fit =
     let four : suc n + suc n + (suc n + suc n) ≡ suc (suc (suc (suc (n + n + (n + n))))) = omega arith in
     let rest = number_l (2 ^ 32) pairs in
@@ -135,6 +121,7 @@ halved-read (suc n) (p ∷ pairs) long fit =
     ap (λ k. units_of false (digits_l 256 k (p + 2 ^ 32 * rest))) four
     ∙ ap₂ (λ x xs. x ∷ xs) (omega (arith, below))
     (ap₂ (λ x xs. x ∷ xs) (omega (arith, below)) (ap (λ m. units_of false (digits_l 256 (n + n + (n + n)) m)) (omega (arith, below)) ∙ halved-read n pairs (omega (arith, long)) fit.1))
+halved-read n pairs long fit = absurd (omega (arith, long))
 
 pub digits-fit : (n m : ℕ) → Each1 (Fits w8) (digits_l 256 n m)
 digits-fit zero m = tt
@@ -145,10 +132,7 @@ module _ (v : List ℕ) (long : length v ≡ 8) where
   offsets-lanes = zip2_splat (λ (a b : ℕ). (a + (2 ^ 32 - b)) % 2 ^ 32) v 8 0x1_0000 long
 
   lower : zip2 (λ (a b : ℕ). bit_and a b) v (replicate 8 0x3FF) ≡ map (λ a. a % 0x400) v
-  lower = zip2_splat (λ (a b : ℕ). bit_and a b) v 8 0x3FF long ∙ each v where
-    each : (xs : List ℕ) → map (λ (a : ℕ). bit_and a 0x3FF) xs ≡ map (λ a. a % 0x400) xs
-    each [] = refl
-    each (x ∷ xs) = ap₂ (λ y ys. y ∷ ys) (and_mask x 10) (each xs)
+  lower = zip2_splat (λ (a b : ℕ). bit_and a b) v 8 0x3FF long ∙ masked 10 v
 
   pub pairs-lanes : zip2 (λ (a b : ℕ). (a + b) % 2 ^ 32)
       (zip2 (λ (a b : ℕ). (a + b) % 2 ^ 32) (zip2 (λ (a b : ℕ). a * 2 ^ b % 2 ^ 32) (zip2 (λ (a b : ℕ). bit_and a b) v (replicate 8 0x3FF)) (replicate 8 16)) (zip2 (λ (a b : ℕ). a / 2 ^ b) v (replicate 8 10)))

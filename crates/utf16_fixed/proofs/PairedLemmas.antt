@@ -1,17 +1,14 @@
 -- The last units of a text, which are paired if they are with zeros after them.
-use Rattle.std.proofs.Common.{◌≡◌, ℕ, suc, ◌+◌, ◌-◌, ◌%◌, ◌<◌, Bool, false, List, [], ◌∷◌, ◌++◌, length, replicate, take, drop, slice_index, Fits, w8, refl, ap, ap₂, sym, subst, arith, take_all}
+use Rattle.std.proofs.Common.{◌≡◌, ℕ, suc, ◌+◌, ◌-◌, ◌%◌, ◌<◌, Bool, false, List, [], ◌∷◌, ◌++◌, length, replicate, take, drop, slice_index, Fits, w8, refl, ap, sym, subst, arith, take_all}
 use Rattle.std.proofs.lemmas.List.{take_rest}
-use Rattle.std.specs.Char.Utf16.{is_high_surrogate, is_low_surrogate}
+use Rattle.std.specs.Char.Utf16.{is_high_surrogate}
 use Rattle.utf16_units.specs.Encoding.{IsUtf16, units_of}
 use Rattle.utf16_units.specs.Lanes.{Paired, PairedTo}
 use Rattle.utf16_units.proofs.PairLemmas.{PairedTo-next, PairedTo-text}
 
 Paired-zeros : (before after : Bool) (units : List ℕ) (n : ℕ) → Paired before (units ++ replicate (suc n) 0) after → Paired before units false
 Paired-zeros before after [] n p = let here : false ≡ before = cc in ap (λ b. b ∷ []) here
-Paired-zeros before after (unit ∷ units) n p =
-    let here : is_low_surrogate unit ≡ before = cc in
-    let rest : Paired (is_high_surrogate unit) (units ++ replicate (suc n) 0) after = cc in
-    ap₂ (λ b bits. b ∷ bits) here (Paired-zeros (is_high_surrogate unit) after units n rest)
+Paired-zeros before after (unit ∷ units) n p = grind (arith, Paired-zeros (is_high_surrogate unit) after units n)
 
 pub text_from-last : (big : Bool) (raw : List ℕ) (at n : ℕ) (leading after : Bool) → ((k : ℕ) → Fits w8 (slice_index raw k)) → PairedTo big raw at leading
     → length raw % 2 ≡ 0 → 0 < n → Paired leading (units_of big (drop at raw) ++ replicate n 0) after → IsUtf16 big raw

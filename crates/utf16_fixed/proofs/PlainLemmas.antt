@@ -19,8 +19,7 @@ take-after n m xs ys within =
 
 -- a unit that is not from 0xD800 to 0xDFFF
 pub IsNoSurrogate-of : (unit : ℕ) → unit / 0x800 ≢ 0x1B → IsNoSurrogate unit
-IsNoSurrogate-of unit none =
-    (false_from_ne_true _ (λ yes. none (omega (arith, is_of 54 unit yes))), false_from_ne_true _ (λ yes. none (omega (arith, is_of 55 unit yes))))
+IsNoSurrogate-of unit none = grind (arith, false_from_ne_true, is_of)
 
 pub IsWidened-none : (big : Bool) (raw old : List ℕ) → IsWidened big raw old 0
 unfolding units_of

@@ -83,15 +83,7 @@ limits Unicode = inr (inr (inr refl))
 -- those up to one repertoire do not have all characters, and the others are as large as `found`
 least : (text : List ℕ) (smaller found : Repertoire) → HasAll found text → ¬ HasAll smaller text
     → ((other : Repertoire) → limit other < limit found → limit other ≤ limit smaller) → IsLeast text found
-least text smaller found has not below = record {
-  has_all = has;
-  least = λ other all. ⊎_elim
-      (λ (less : limit other < limit found).
-      let few = below other less in
-      absurd (not (All-weaker (λ c. c < limit other) (λ c. c < limit smaller) (λ c (here : c < limit other). omega (arith, here, few)) text all)))
-      (λ (large : limit found ≤ limit other). large)
-      (cases_lt (limit other) (limit found));
-}
+least text smaller found has not below = grind (arith, All-weaker, cases_lt)
 
 pub least_unicode : (text : List ℕ) → HasAll Unicode text → ¬ HasAll Bmp text → IsLeast text Unicode
 least_unicode text has not = least text Bmp Unicode has not (λ other less. omega (arith, less, limits other))

@@ -1,11 +1,11 @@
 -- Lossy UTF-16 of UTF-32: a text that was written, and U+FFFD for the code unit that follows it.
-use Rattle.std.proofs.Common.{◌≡◌, ℕ, ◌-◌, ◌*◌, ◌<◌, ◌≤◌, ◌⊎◌, inl, inr, ⊎_elim, true≢false, Bool, List, [], ◌∷◌, ◌++◌, length, take, drop, slice_index, refl, sym, ap, ap₂, ◌∙◌, arith, length-drop, length-take-le, ◌+◌, subst, Some}
+use Rattle.std.proofs.Common.{◌≡◌, ℕ, ◌-◌, ◌*◌, ◌<◌, ◌≤◌, ◌⊎◌, inl, inr, ⊎_elim, true≢false, Bool, List, [], ◌∷◌, ◌++◌, length, take, drop, slice_index, refl, sym, ap, ◌∙◌, arith, length-drop, length-take-le, ◌+◌, subst, Some}
 use Rattle.std.proofs.lemmas.Bool.{cases_Bool, cond-false, cond-true, false_from_ne_true}
 use Rattle.std.proofs.lemmas.List.{drop_all, length-map, map-append, take_rest}
 use Rattle.std.proofs.lemmas.List.Elements.{All-head, All-tail}
 use borrow.Rule.Slice.PartMut.{put_mid}
 use Rattle.std.specs.Char.{IsScalar}
-use Rattle.utf16_units.specs.Encoding.{char_bytes, encode}
+use Rattle.utf16_units.specs.Encoding.{char_bytes}
 use Rattle.utf16_units.specs.Unit.{unit_bytes}
 use Rattle.utf16_units.proofs.CharLemmas.{char_size_cases, length-char_bytes, one_unit_bytes}
 use Rattle.utf16_units.proofs.EncodingLemmas.{encode-append, encode-nil, encode-one, length-encode}
@@ -34,40 +34,28 @@ scalar_or_not unit = ⊎_elim (λ (yes : IsScalar unit). inl yes) (λ no. inr (�
 
 lossy_utf32-text : (text : List ℕ) → IsUtf32 text → lossy_utf32 text ≡ text
 lossy_utf32-text [] scalars = refl
-lossy_utf32-text (c ∷ text) scalars =
-    ap₂ (λ x xs. x ∷ xs) (lossy_unit-scalar c (All-head IsScalar c text scalars)) (lossy_utf32-text text (All-tail IsScalar c text scalars))
+lossy_utf32-text (c ∷ text) scalars = grind (arith, lossy_unit-scalar, All-head, All-tail, lossy_utf32-text text (All-tail IsScalar c text scalars))
 
 pub shown_joins : (big : Bool) → Joins (ShowsInUtf16 big)
-shown_joins big front back into more first second =
-    ap₂ (λ x y. x ++ y) first second ∙ sym (encode-append big (lossy_utf32 front) (lossy_utf32 back)) ∙ ap (encode big) (sym (map-append lossy_unit front back))
+shown_joins big front back into more first second = grind (arith, encode-append, map-append)
 
 pub shown_empty : (big : Bool) → ShowsInUtf16 big [] []
 shown_empty big = sym (encode-nil big)
 
 -- a text was written
 pub shown_text : (big : Bool) (units to : List ℕ) (n w : ℕ) → Writes (TranscodesFromUtf32 big) units to n w → Writes (ShowsInUtf16 big) units to n w
-shown_text big units to n w wrote = record {
-  within = wrote.within;
-  fits = wrote.fits;
-  gives = sym wrote.gives.spelled ∙ ap (encode big) (sym (lossy_utf32-text (take n units) wrote.gives.scalars));
-}
+shown_text big units to n w wrote = grind (arith, lossy_utf32-text)
 
 -- U+FFFD was written for the first code unit
 pub shown_other : (big : Bool) (rest : List ℕ) → 0 < length rest → ¬ IsScalar (slice_index rest 0) → ShowsInUtf16 big (take 1 rest) (unit_bytes big 0xFFFD)
 shown_other big [] some other = absurd (omega (arith, some))
-shown_other big (u ∷ rest) some other =
-    sym (ap (λ c. encode big (c ∷ [])) (lossy_unit-other u other) ∙ encode-one big 0xFFFD ∙ one_unit_bytes big 0xFFFD (omega arith))
+shown_other big (u ∷ rest) some other = grind (arith, lossy_unit-other, encode-one, one_unit_bytes)
 
 -- or it does not fit
 pub other_does_not_fit : (big : Bool) (rest : List ℕ) (left : ℕ) → 0 < length rest → ¬ IsScalar (slice_index rest 0) → left < 2
     → TextDoesNotFit (char_bytes big) (lossy_utf32 rest) left
 other_does_not_fit big [] left some other few = absurd (omega (arith, some))
-other_does_not_fit big (u ∷ rest) left some other few = record {
-  char = 0xFFFD;
-  more = lossy_utf32 rest;
-  begins = ap (λ c. c ∷ lossy_utf32 rest) (lossy_unit-other u other);
-  too_long = omega (arith, few, length-char_bytes big 0xFFFD, char_size_cases 0xFFFD);
-}
+other_does_not_fit big (u ∷ rest) left some other few = grind (arith, lossy_unit-other, length-char_bytes, char_size_cases)
 
 -- why a call stopped, if not at an ill-formed code unit
 pub stops_lossy_from_utf32 : (big : Bool) (units : List ℕ) (n left : ℕ) (stop : Stop) → ((len : ℕ) → ¬ (stop ≡ IllFormed len)) → Stops utf32_units (char_bytes big) IsIllFormedUtf32 units n left stop
@@ -75,19 +63,12 @@ pub stops_lossy_from_utf32 : (big : Bool) (units : List ℕ) (n left : ℕ) (sto
 stops_lossy_from_utf32 big units n left Done other here = drop_all n units (omega (arith, here))
 stops_lossy_from_utf32 big units n left (IllFormed len) other here = absurd (other len refl)
 stops_lossy_from_utf32 big units n left Incomplete other here = absurd here
-stops_lossy_from_utf32 big units n left NoSpace other here = record {
-  char = here.char;
-  more = lossy_utf32 here.more;
-  begins = ap lossy_utf32 here.begins ∙ ap (λ c. c ∷ lossy_utf32 here.more) (lossy_unit-scalar here.char here.scalar);
-  too_long = here.too_long;
-}
+stops_lossy_from_utf32 big units n left NoSpace other here = grind (arith, lossy_unit-scalar)
 
 -- four bytes for every code unit suffice
 pub from_utf32_lossy_fits : (big : Bool) (units to : List ℕ) (read written : ℕ) (stop : Stop) → Writes (ShowsInUtf16 big) units to read written
     → StopsLossy lossy_utf32 (char_bytes big) (drop read units) (length to - written) stop → 4 * length units ≤ length to → stop ≡ Done
 from_utf32_lossy_fits big units to read written Done wrote here room = refl
-from_utf32_lossy_fits big units to read written (IllFormed len) wrote here room = absurd here
-from_utf32_lossy_fits big units to read written Incomplete wrote here room = absurd here
 from_utf32_lossy_fits big units to read written NoSpace wrote here room =
     let text = lossy_utf32 (take read units) in
     absurd (omega (
@@ -102,6 +83,7 @@ from_utf32_lossy_fits big units to read written NoSpace wrote here room =
       char_size_cases here.char,
       here.too_long,
     ))
+from_utf32_lossy_fits big units to read written stop wrote here room = absurd here
 
 -- a call on the rest of the code units and of the buffer
 module _ (big : Bool) (units old part : List ℕ) (read at n w : ℕ) (before : Writes (ShowsInUtf16 big) units old read at)
@@ -116,11 +98,7 @@ module _ (big : Bool) (units old part : List ℕ) (read at n w : ℕ) (before : 
   -- why it stopped, if not at an ill-formed code unit
   pub stops_shown : (stop : Stop) → ((len : ℕ) → ¬ (stop ≡ IllFormed len)) → Stops utf32_units (char_bytes big) IsIllFormedUtf32 (rest_from units read) n (length part - w) stop
       → StopsLossy lossy_utf32 (char_bytes big) (drop (read + n) units) (length new - (at + w)) stop
-  stops_shown stop other here =
-      let left : length part - w ≡ length new - (at + w) = omega (arith, long, put_end-long at old part before.fits long) in
-      subst (λ k. StopsLossy lossy_utf32 (char_bytes big) (drop (read + n) units) k stop) left
-      (subst (λ rest. StopsLossy lossy_utf32 (char_bytes big) rest (length part - w) stop) (rest_after units read n ∙ take_rest units (read + n))
-      (stops_lossy_from_utf32 big (rest_from units read) n (length part - w) stop other here))
+  stops_shown stop other here = grind (arith, put_end-long, rest_after, take_rest, stops_lossy_from_utf32, rest_from)
 
   module _ (len : ℕ) (found : IsIllFormedUtf32 (rest_from units read) n (Some len)) where
     -- U+FFFD does not fit

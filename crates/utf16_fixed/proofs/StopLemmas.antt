@@ -2,7 +2,7 @@
 use Rattle.std.proofs.Common.{◌≡◌, ℕ, ◌+◌, ◌-◌, ◌*◌, ◌/◌, ◌<◌, ◌≤◌, Bool, List, [], ◌∷◌, ◌++◌, Option, None, Some, length, take, drop, All, refl, take-append-drop, slice_index, ap, ap₂, ◌∙◌, sym, subst, ⊎_elim, arith, get_or-drop, length-append, length-drop}
 use Rattle.std.proofs.lemmas.Bool.{cases_lt}
 use Rattle.std.proofs.lemmas.List.{take_rest}
-use Rattle.utf16_units.specs.Encoding.{Encodes, IsUtf16, char_bytes, text_of}
+use Rattle.utf16_units.specs.Encoding.{Encodes, IsUtf16, text_of}
 use Rattle.utf16_units.specs.IllFormed.{IsIllFormedAt}
 use Rattle.utf16_units.specs.Unit.{unit_of}
 use Rattle.utf16_units.proofs.CharLemmas.{char_size_two, length-char_bytes}
@@ -24,8 +24,7 @@ some_incomplete big (first ∷ rest) here = omega arith
 
 -- a character of Latin-1 has two
 two_bytes : (big : Bool) (rest : List ℕ) → BeginsWithA IsLatin1 big rest → 2 ≤ length rest
-two_bytes big rest begins =
-    omega (arith, ap length begins.begins, length-append (char_bytes big begins.char) begins.more, length-char_bytes big begins.char, char_size_two begins.char (omega arith))
+two_bytes big rest begins = grind (arith, length-append, length-char_bytes, char_size_two)
 
 -- the next unit, if the buffer is not full, is above 0xFF
 abbrev pub IsNextAbove : Bool → List ℕ → List ℕ → ℕ → Type 0
@@ -71,9 +70,8 @@ module _ (big : Bool) (raw to : List ℕ) (read written : ℕ) (wrote : Encodes 
 
   pub all_written : (left : ℕ) (stop : Latin1Stop) → read ≡ 2 * written → length raw / 2 ≤ written + left → StopsLatin1 big raw read left stop → stop ≡ Done
   all_written left Done is room stops = refl
-  all_written left (IllFormed len) is room stops = absurd (stops.1.ill_formed text)
-  all_written left Incomplete is room stops = absurd (stops.1.ill_formed text)
   all_written left NoSpace is room stops =
       let full = stops.0 in
       absurd (omega (arith, full, two_bytes big (drop read raw) stops.1, length-drop read raw))
   all_written left NotLatin1 is room stops = absurd (not_above stops)
+  all_written left stop is room stops = absurd (stops.1.ill_formed text)

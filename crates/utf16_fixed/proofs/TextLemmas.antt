@@ -6,7 +6,7 @@ use Rattle.std.specs.Char.{IsScalar}
 use lib.Lanes.{Each1}
 use Rattle.utf16_units.specs.Encoding.{encode, Encodes, char_bytes, size, units_of}
 use Rattle.utf16_units.specs.Lanes.{HasNoSurrogate, IsNoSurrogate}
-use Rattle.utf16_units.specs.Unit.{unit_bytes, unit_of}
+use Rattle.utf16_units.specs.Unit.{unit_bytes}
 use Rattle.utf16_units.proofs.BlockUnits.{bytes-units_of}
 use Rattle.utf16_units.proofs.CharLemmas.{char_size_cases, one_unit_bytes}
 use Rattle.utf16_units.proofs.EncodingLemmas.{Encodes-append, encode-cons, encode-nil, encode-one, size-cons, size-nil}
@@ -33,24 +33,15 @@ IsUnit unit = unit < 0x1_0000
 -- units are less than 2^16
 units-below : (big : Bool) (bytes : List ℕ) → Each1 (Fits w8) bytes → All IsUnit (units_of big bytes)
 unfolding units_of
-units-below big [] fit = All-nil IsUnit
-units-below big (x ∷ []) fit = All-nil IsUnit
-units-below big (x ∷ y ∷ bytes) fit = All-cons IsUnit (unit_of big x y) (units_of big bytes) (below big) (units-below big bytes fit.1.1) where
-  below : (big : Bool) → IsUnit (unit_of big x y)
-  below true = omega (arith, fit.0.fits, fit.1.0.fits)
-  below false = omega (arith, fit.0.fits, fit.1.0.fits)
+units-below big (x ∷ y ∷ bytes) fit = grind (arith, All-cons, units-below big bytes fit.1.1)
+units-below big bytes fit = All-nil IsUnit
 
 -- units that are not surrogates are a text, and its bytes are theirs
 pub Encodes-plain : (big : Bool) (units : List ℕ) → All IsUnit units → HasNoSurrogate units → Encodes big units (flat_map (unit_bytes big) units)
 Encodes-plain big [] below plain = record { scalars = All-nil IsScalar; spelled = encode-nil big }
 Encodes-plain big (u ∷ units) below plain =
-    let here = All-head IsNoSurrogate u units plain in
-    let one = All-head IsUnit u units below in
     let rest = Encodes-plain big units (All-tail IsUnit u units below) (All-tail IsNoSurrogate u units plain) in
-    record {
-      scalars = All-cons IsScalar u units (scalar_unit u one (is_not_of 54 u here.0) (is_not_of 55 u here.1)) rest.scalars;
-      spelled = encode-cons big u units ∙ ap₂ (λ x y. x ++ y) (one_unit_bytes big u one) rest.spelled;
-    }
+    grind (arith, All-head, All-tail, All-cons, scalar_unit, is_not_of, encode-cons, one_unit_bytes, rest)
 
 -- the first n units of the first 2 * m bytes, if they are not surrogates
 pub Encodes-plain_front : (big : Bool) (raw : List ℕ) (m n : ℕ) → m ≤ length raw → 2 * n ≤ m → ((k : ℕ) → Fits w8 (slice_index raw k))
@@ -81,12 +72,6 @@ size-most (c ∷ text) = omega (arith, size-cons c text, size-most text, char_si
 
 pub utf16_joins : (big : Bool) → Joins (TranscodesFromUtf32 big)
 utf16_joins big front back into more first second = Encodes-append big front back into more first second
-
-pub utf16_empty : (big : Bool) → TranscodesFromUtf32 big [] []
-utf16_empty big = utf32_empty big
-
-pub utf16_char : (big : Bool) (c : ℕ) → IsScalar c → TranscodesFromUtf32 big (utf32_units c) (char_bytes big c)
-utf16_char big c scalar = utf32_char big c scalar
 
 -- the first bytes of units are the bytes of the first units
 pub units_bytes-front : (big : Bool) (n : ℕ) (units : List ℕ) → take (n + n) (flat_map (unit_bytes big) units) ≡ flat_map (unit_bytes big) (take n units)

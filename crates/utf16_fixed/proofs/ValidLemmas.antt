@@ -1,11 +1,11 @@
 -- Well-formed UTF-32, and the first code unit that is not a scalar value.
 use Rattle.std.proofs.lemmas.Bool.Decides.{nat_tests}
-use Rattle.std.proofs.Common.{◌≡◌, ◌≢◌, ℕ, All, ◌<◌, ◌≤◌, ◌+◌, ◌-◌, ◌*◌, ◌/◌, ◌%◌, ◌^◌, Bool, true, false, cond, eqb, ap, ◌∙◌, List, [], ◌∷◌, Option, None, Some, length, length-drop, map, replicate, take, drop, slice_index, refl, sym, subst, arith, ⊎_elim, take-add, true≢false}
+use Rattle.std.proofs.Common.{◌≡◌, ◌≢◌, ℕ, All, ◌<◌, ◌≤◌, ◌+◌, ◌-◌, ◌/◌, ◌%◌, ◌^◌, Bool, false, cond, eqb, ap, ◌∙◌, List, [], ◌∷◌, Option, None, Some, length, length-drop, map, replicate, take, drop, slice_index, refl, sym, subst, arith, take-add, true≢false}
 use mir.Syntax.{Width}
 use mir.Val.{bits, hbits}
 use borrow.Author.Tests.{eq-eqb}
 use lib.Lanes.{mask_l, top, zip2}
-use Rattle.std.proofs.lemmas.Bool.{cases_Bool, ltb-false}
+use Rattle.std.proofs.lemmas.Bool.{ltb-false}
 use Rattle.std.proofs.lemmas.List.Elements.{All-append, All-cons, All-head, All-nil, All-tail, All-weaker}
 use Rattle.std.proofs.lemmas.Simd.{bitmask_splat, map-map, zip2_splat}
 use Rattle.std.proofs.lemmas.List.{get_or-drop, length-map, take_more}
@@ -27,16 +27,7 @@ begins (c ∷ rest) some scalar = record { scalar = scalar; within = omega arith
 pub ill_formed_there : (units : List ℕ) (read : ℕ) (len : Option ℕ) → read < length units → IsUtf32 (take read units) → IsIllFormedUtf32At (drop read units) len
     → IsIllFormedUtf32 units read len
 ill_formed_there units read None within valid here = here
-ill_formed_there units read (Some len) within valid here = (
-  here.0,
-  record {
-    within = within;
-    valid = valid;
-    ill_formed = λ scalar.
-        let same : read + 0 ≡ read = omega arith in
-        here.1 (subst IsScalar (ap (slice_index units) (sym same) ∙ sym (get_or-drop read units 0 0)) scalar);
-  },
-)
+ill_formed_there units read (Some len) within valid here = grind (arith, get_or-drop)
 
 -- an ill-formed code unit, seen from the rest
 pub other_after : (units : List ℕ) (read n len : ℕ) → IsIllFormedUtf32 (rest_from units read) n (Some len)
@@ -54,14 +45,7 @@ other_after units read n len found =
 -- where no bit is set, no lane passes the test
 pub none_set : (p : ℕ → Bool) (units : List ℕ) → mask_l (map p units) ≡ 0 → All (λ unit. p unit ≡ false) units
 none_set p [] zero = All-nil (λ unit. p unit ≡ false)
-none_set p (u ∷ units) zero =
-    let sum : cond (p u) 1 0 + 2 * mask_l (map p units) ≡ 0 = zero in
-    ⊎_elim
-    (λ (set : p u ≡ true).
-    let one : ◌≡◌ {A = ℕ} (cond (p u) 1 0) 1 = rw set refl in
-    absurd (omega (arith, sum, one)))
-    (λ (clear : p u ≡ false). All-cons (λ unit. p unit ≡ false) u units clear (none_set p units (omega (arith, sum))))
-    (cases_Bool (p u))
+none_set p (u ∷ units) zero = grind (arith, nat_tests, All-cons, none_set p units)
 
 pub none_above : (limit : ℕ) (units : List ℕ) (bits : ℕ) → bits ≡ mask_l (map (above limit) units) → bits ≡ 0 → All (λ unit. unit ≤ limit) units
 none_above limit units bits are zero = All-weaker (λ unit. above limit unit ≡ false) (λ unit. unit ≤ limit) (λ unit. ltb-false limit unit) units (none_set (above limit) units (sym are ∙ zero))
@@ -84,9 +68,7 @@ scalar_value unit most none = grind (arith, nat_tests, low_scalar, high_scalar)
 
 pub scalar_values : (units : List ℕ) → All (λ unit. unit ≤ 0x10_FFFF) units → All (λ unit. unit / 0x800 ≢ 0x1B) units → IsUtf32 units
 scalar_values [] most none = All-nil IsScalar
-scalar_values (u ∷ units) most none =
-    All-cons IsScalar u units (scalar_value u (All-head (λ unit. unit ≤ 0x10_FFFF) u units most) (All-head (λ unit. unit / 0x800 ≢ 0x1B) u units none))
-    (scalar_values units (All-tail (λ unit. unit ≤ 0x10_FFFF) u units most) (All-tail (λ unit. unit / 0x800 ≢ 0x1B) u units none))
+scalar_values (u ∷ units) most none = grind (arith, All-cons, scalar_value, All-head, All-tail, scalar_values units)
 
 -- ---- one part after another
 

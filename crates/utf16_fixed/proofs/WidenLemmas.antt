@@ -4,11 +4,11 @@ use Rattle.std.proofs.Math.Seq.{take-add}
 use Rattle.std.proofs.lemmas.List.{take-take, take_at}
 use Rattle.std.proofs.lemmas.Simd.{chunk-fits}
 use Rattle.utf16_units.specs.Unit.{unit_bytes}
-use Rattle.utf16_units.specs.Encoding.{Encodes, encode}
+use Rattle.utf16_units.specs.Encoding.{encode}
 use Rattle.utf16_units.proofs.EncodingLemmas.{encode-append, encode-nil}
 use Rattle.utf16_units.proofs.UnitLemmas.{length-units_bytes}
 use Rattle.utf16_fixed.specs.Written.{IsWidened}
-use Rattle.utf16_fixed.proofs.CharLemmas.{bytes-scalars, encode-bytes, one-byte}
+use Rattle.utf16_fixed.proofs.CharLemmas.{encode-bytes, one-byte}
 
 pub IsWidened-none : (big : Bool) (latin1 old : List ℕ) → IsWidened big latin1 old old 0
 IsWidened-none big latin1 old = record { within = omega arith; fits = omega arith; wrote = sym (encode-nil big); rest = refl }
@@ -21,9 +21,7 @@ pub IsWidened-next : (big : Bool) (latin1 before old new : List ℕ) (at n : ℕ
 IsWidened-next big latin1 before old new at n done within fits wrote rest = record {
   within = within;
   fits = omega (arith, fits);
-  wrote =
-      ap (λ m. take m new) on ∙ wrote ∙ ap (λ t. t ++ encode big (take n (drop at latin1))) done.wrote
-      ∙ sym (encode-append big (take at latin1) (take n (drop at latin1))) ∙ ap (encode big) (sym (take-add at n latin1));
+  wrote = grind (arith, encode-append, take-add);
   rest =
       ap (λ m. drop m new) on ∙ rest ∙ sym (drop-drop (2 * n) (2 * at) old)
       ∙ ap (drop (2 * n)) done.rest ∙ drop-drop (2 * n) (2 * at) before ∙ ap (λ m. drop m before) (sym on);
@@ -74,24 +72,10 @@ widened_front big latin1 before old at m done fits less = record {
 
 -- what stays after a place stays after a later one
 drop-further : (m n : ℕ) (xs ys : List ℕ) → m ≤ n → drop m xs ≡ drop m ys → drop n xs ≡ drop n ys
-drop-further m n xs ys later same =
-    let on : n ≡ m + (n - m) = omega (arith, later) in
-    ap (λ k. drop k xs) on ∙ sym (drop-drop (n - m) m xs) ∙ ap (drop (n - m)) same ∙ drop-drop (n - m) m ys ∙ ap (λ k. drop k ys) (sym on)
+drop-further m n xs ys later same = grind (arith, drop-drop (n - m) m xs, drop-drop (n - m) m ys)
 
 pub IsWidened-again : (big : Bool) (latin1 before old new : List ℕ) (at m n : ℕ) → IsWidened big latin1 before old at → ((k : ℕ) → Fits w8 (slice_index latin1 k))
     → m ≤ at → at ≤ m + n → m + n ≤ length latin1 → 2 * m + 2 * n ≤ length new
     → take (2 * m + 2 * n) new ≡ take (2 * m) old ++ encode big (take n (drop m latin1)) → drop (2 * m + 2 * n) new ≡ drop (2 * m + 2 * n) old
     → IsWidened big latin1 before new (m + n)
-IsWidened-again big latin1 before old new at m n done bytes less later within fits wrote rest =
-    let all = IsWidened-next big latin1 old old new m n (widened_front big latin1 before old at m done bytes less) within fits wrote rest in
-    record {
-      within = all.within;
-      fits = all.fits;
-      wrote = all.wrote;
-      rest = all.rest ∙ drop-further (2 * at) (2 * (m + n)) old before (omega (arith, later)) done.rest;
-    }
-
--- what was written is the encoding of what was read
-pub widened-text : (big : Bool) (latin1 old new : List ℕ) (n : ℕ) → IsWidened big latin1 old new n → ((k : ℕ) → Fits w8 (slice_index latin1 k))
-    → Encodes big (take n latin1) (take (2 * n) new)
-widened-text big latin1 old new n done fits = record { scalars = bytes-scalars (take n latin1) (chunk-fits w8 0 n latin1 fits); spelled = sym done.wrote }
+IsWidened-again big latin1 before old new at m n done bytes less later within fits wrote rest = grind (arith, IsWidened-next, widened_front, drop-further)

@@ -7,13 +7,13 @@ use Rattle.utf16_fixed.specs.Stops32.{IsIllFormedUtf32, IsIllFormedUtf32At}
 use Rattle.utf16_fixed.specs.Utf32.{IsUtf32, TranscodesFromUtf32, utf32_units}
 use Rattle.utf16_fixed.proofs.RoomLemmas.{from_utf32_fits}
 use Rattle.utf16_fixed.proofs.ValidLemmas.{ill_formed_there}
-use Rattle.utf16_fixed.proofs.TextLemmas.{utf16_empty, utf16_joins}
+use Rattle.utf16_fixed.proofs.TextLemmas.{utf16_joins, utf32_empty}
 use Rattle.utf16_fixed.proofs.encode.from_utf32.Given.{Over}
 use Rattle.utf16_fixed.proofs.encode.from_utf32.Goals as goal
 use Rattle.utf16_fixed.proofs.encode.from_utf32.Goals.{In-Err}
 
 pub loop-done-init : goal.loop-done-init
-loop-done-init g c = Writes-none (utf16_empty g.E.Utf16Order.BIG) _ _
+loop-done-init g c = Writes-none (utf32_empty g.E.Utf16Order.BIG) _ _
 
 pub loop-done-preserved : goal.loop-done-preserved
 loop-done-preserved g c = Writes-then (utf16_joins g.E.Utf16Order.BIG) _ _ _ _ _ _ _ c.write_run-done.ensures.wrote c.in-Ok.ensures.wrote
