@@ -3,7 +3,7 @@ use Rattle.std.proofs.Common.{◌≡◌, ◌≢◌, ℕ, Bool, true, false, List
 use Rattle.std.specs.Option.{MatchOption, option_to_list}
 use Rattle.utf16_units.specs.Split.{split_items, split_tail}
 use Rattle.utf16_units.proofs.SplitJoin.{split_items-append, split_tail-append}
-use Rattle.utf16_streams.specs.Bom.{after_bom, begins_with, is_big, has_bom, items_in, byte_order_after, tail_in}
+use Rattle.utf16_streams.specs.Bom.{after_bom, begins_with, has_bom, items_in, byte_order_after, tail_in}
 
 -- one byte or none, as a slice
 pub first_slice : (first : Option ℕ) (bytes : List ℕ) → MatchOption first (bytes ≡ []) (λ byte. bytes ≡ byte ∷ []) → bytes ≡ option_to_list first
@@ -39,29 +39,21 @@ pub items_in-append : (order : Option Bool) (front piece : List ℕ)
     → items_in order (front ++ piece) ≡ items_in order front ++ items_in (byte_order_after order front) (tail_in order front ++ piece)
 unfolding split_items split_tail
 items_in-append (Some big) front piece = split_items-append big front piece
-items_in-append None [] piece = refl
-items_in-append None (first ∷ []) piece = refl
-items_in-append None (first ∷ second ∷ bytes) piece =
-    ap (split_items (is_big (first ∷ second ∷ bytes))) (text_more first second bytes piece)
-    ∙ split_items-append (is_big (first ∷ second ∷ bytes)) (after_bom (first ∷ second ∷ bytes)) piece
+items_in-append None (first ∷ second ∷ bytes) piece = grind (arith, text_more, split_items-append)
+items_in-append None front piece = refl
 
 pub tail_in-append : (order : Option Bool) (front piece : List ℕ)
     → tail_in order (front ++ piece) ≡ tail_in (byte_order_after order front) (tail_in order front ++ piece)
 unfolding split_items split_tail
 tail_in-append (Some big) front piece = split_tail-append big front piece
-tail_in-append None [] piece = refl
-tail_in-append None (first ∷ []) piece = refl
-tail_in-append None (first ∷ second ∷ bytes) piece =
-    ap (split_tail (is_big (first ∷ second ∷ bytes))) (text_more first second bytes piece)
-    ∙ split_tail-append (is_big (first ∷ second ∷ bytes)) (after_bom (first ∷ second ∷ bytes)) piece
+tail_in-append None (first ∷ second ∷ bytes) piece = grind (arith, text_more, split_tail-append)
+tail_in-append None front piece = refl
 
 pub byte_order_after-append : (order : Option Bool) (front piece : List ℕ)
     → byte_order_after order (front ++ piece) ≡ byte_order_after (byte_order_after order front) (tail_in order front ++ piece)
 unfolding split_tail
-byte_order_after-append (Some big) front piece = refl
-byte_order_after-append None [] piece = refl
-byte_order_after-append None (first ∷ []) piece = refl
 byte_order_after-append None (first ∷ second ∷ bytes) piece = refl
+byte_order_after-append order front piece = refl
 
 -- at most one byte has come, with nothing after it: it is pending
 first_order : (first : Option ℕ) → byte_order_after None (option_to_list first) ≡ None
@@ -95,8 +87,7 @@ not_begun a b first second rest other = grind arith
 
 pub no_bom_text : (two rest bytes : List ℕ) → bytes ≡ two ++ rest → length two ≡ 2 → two ≢ 0xFE ∷ 0xFF ∷ [] → two ≢ 0xFF ∷ 0xFE ∷ []
     → (items_in None bytes ≡ split_items true bytes) × (tail_in None bytes ≡ split_tail true bytes)
-no_bom_text (first ∷ second ∷ []) rest bytes is long not_big not_little =
-    rw (is, not_begun 0xFE 0xFF first second rest not_big, not_begun 0xFF 0xFE first second rest not_little) (refl, refl)
+no_bom_text (first ∷ second ∷ []) rest bytes is long not_big not_little = grind (arith, not_begun)
 no_bom_text two rest bytes is long not_big not_little = absurd (omega arith)
 
 pub no_bom_order : (two rest bytes : List ℕ) → bytes ≡ two ++ rest → length two ≡ 2 → two ≢ 0xFF ∷ 0xFE ∷ [] → byte_order_after None bytes ≡ Some true

@@ -1,24 +1,19 @@
 -- The UTF-16 of a stream of UTF-8, and how it continues when more bytes come, with a BOM first and
 -- without one.
-use Rattle.std.proofs.Common.{◌≡◌, ◌≢◌, ◌⊎◌, inl, inr, ⊎_elim, ℕ, ◌+◌, ◌*◌, ◌≤◌, Bool, true, false, List, [], ◌∷◌, ◌++◌, Option, Result, length, if◌then◌else◌, refl, sym, ap, ap₂, ◌∙◌, subst, arith, append-nil, append_assoc, length-append}
+use Rattle.std.proofs.Common.{◌≡◌, ◌≢◌, ◌⊎◌, ℕ, ◌+◌, ◌*◌, ◌≤◌, Bool, true, false, List, [], ◌∷◌, ◌++◌, Option, Result, length, refl, sym, ap, ap₂, ◌∙◌, arith, append-nil, append_assoc, length-append}
 use Rattle.std.proofs.lemmas.List.{length-map, nil_from_length}
-use Rattle.utf16_units.specs.Encoding.{char_size, encode, size}
+use Rattle.utf16_units.specs.Encoding.{encode, size}
 use Rattle.utf16_units.proofs.CharLemmas.{char_size_cases}
 use Rattle.utf16_units.proofs.EncodingLemmas.{encode-append, encode-nil, length-encode, size-cons, size-nil}
 use Rattle.utf8_bytes.specs.Split.{IsTail, decided_text, items_bytes, lossy_char, lossy_chars, lossy_text, split_items, split_tail, whole_lossy_chars}
-use Rattle.utf8_bytes.proofs.LawProofs.{cut_anywhere, shown_after, split_extends, whole_is_lossy}
+use Rattle.utf8_bytes.proofs.LawProofs.{cut_anywhere, shown_after, whole_is_lossy}
 use Rattle.utf8_bytes.proofs.ShownLemmas.{length-IsTail, replacement_size}
 use Rattle.utf8_bytes.proofs.SplitLemmas.{Split-computed}
 use Rattle.utf16_transcode.proofs.DecodesUtf8.{undecided_items}
 use Rattle.utf16_streams.specs.Continues.{Continues}
 use Rattle.utf16_streams.specs.Filter.{FiltersBy}
 use Rattle.utf16_streams.specs.declared.filters.FilterFault.{FilterFault}
-use Rattle.utf16_streams.specs.Encoder.{begins_with_bom, bom, certain, decided_utf16, entire, some_with_bom, whole_utf16, with_bom}
-
--- the tail of a tail is that tail
-pub split_tail-again : (bytes : List ℕ) → split_tail (split_tail bytes) ≡ split_tail bytes
-split_tail-again bytes =
-    ap split_tail (sym (append-nil (split_tail bytes))) ∙ sym (split_extends bytes []).1 ∙ ap split_tail (append-nil bytes)
+use Rattle.utf16_streams.specs.Encoder.{certain, decided_utf16, entire, some_with_bom, whole_utf16, with_bom}
 
 pub nothing_waits : split_tail [] ≡ []
 unfolding split_tail
@@ -41,8 +36,7 @@ module _ (big : Bool) where
   -- more bytes are appended
   module _ (front back : List ℕ) where
     decided-append : decided_utf16 big (front ++ back) ≡ decided_utf16 big front ++ decided_utf16 big (split_tail front ++ back)
-    decided-append =
-        ap (encode big) (cut_anywhere front back).0 ∙ encode-append big (decided_text front) (decided_text (split_tail front ++ back))
+    decided-append = grind (arith, cut_anywhere, encode-append)
 
     whole-append : whole_utf16 big (front ++ back) ≡ decided_utf16 big front ++ whole_utf16 big (split_tail front ++ back)
     whole-append =
@@ -54,30 +48,20 @@ module _ (big : Bool) where
 
   -- the first two bytes decide whether there is a BOM
   with_bom-append : (bytes more : List ℕ) → 2 ≤ length bytes → with_bom big (bytes ++ more) ≡ with_bom big bytes ++ more
-  with_bom-append [] more long = absurd (omega (arith, long))
-  with_bom-append (first ∷ []) more long = absurd (omega (arith, long))
-  with_bom-append (first ∷ second ∷ bytes) more long = by_first (begins_with_bom big (first ∷ second ∷ bytes)) where
-    by_first : (is : Bool) → (if is then first ∷ second ∷ bytes ++ more else bom big ++ (first ∷ second ∷ bytes ++ more))
-        ≡ (if is then first ∷ second ∷ bytes else bom big ++ first ∷ second ∷ bytes) ++ more
-    by_first true = refl
-    by_first false = sym (append_assoc (bom big) (first ∷ second ∷ bytes) more)
+  with_bom-append (first ∷ second ∷ bytes) more long = grind (arith, append_assoc)
+  with_bom-append bytes more long = absurd (omega (arith, long))
 
   pub some_with_bom-some : (bytes : List ℕ) → bytes ≢ [] → some_with_bom big bytes ≡ with_bom big bytes
   some_with_bom-some [] some = absurd (some refl)
   some_with_bom-some (first ∷ bytes) some = refl
 
   with_bom-longer : (bytes : List ℕ) → length bytes ≤ length (with_bom big bytes)
-  with_bom-longer bytes = by_first (begins_with_bom big bytes) where
-    by_first : (is : Bool) → length bytes ≤ length (if is then bytes else bom big ++ bytes)
-    by_first true = omega arith
-    by_first false = omega (arith, length-append (bom big) bytes)
+  with_bom-longer bytes = grind (arith, length-append)
 
   -- a text that is not empty has at least two bytes
   encoded_long : (text : List ℕ) → encode big text ≢ [] → 2 ≤ length (encode big text)
   encoded_long [] some = absurd (some (encode-nil big))
-  encoded_long (c ∷ text) some =
-      let long = length-encode big (c ∷ text) ∙ size-cons c text in
-      ⊎_elim (λ (two : char_size c ≡ 2). omega (arith, long, two)) (λ (four : char_size c ≡ 4). omega (arith, long, four)) (char_size_cases c)
+  encoded_long (c ∷ text) some = omega (arith, length-encode big (c ∷ text), size-cons c text, char_size_cases c)
 
   -- ---- one more chunk after pending bytes
 
@@ -86,36 +70,18 @@ module _ (big : Bool) where
     added = decided_utf16 big (pending ++ piece)
 
     adds : (back : List ℕ) → decided_utf16 big (pending ++ (piece ++ back)) ≡ added ++ decided_utf16 big (kept ++ back)
-    adds back =
-        ap (decided_utf16 big) (sym (append_assoc pending piece back)) ∙ decided-append (pending ++ piece) back
-        ∙ ap (λ t. added ++ decided_utf16 big (t ++ back)) (sym is)
+    adds back = grind (arith, append_assoc, decided-append)
 
     ends : (back : List ℕ) → whole_utf16 big (pending ++ (piece ++ back)) ≡ added ++ whole_utf16 big (kept ++ back)
-    ends back =
-        ap (whole_utf16 big) (sym (append_assoc pending piece back)) ∙ whole-append (pending ++ piece) back
-        ∙ ap (λ t. added ++ whole_utf16 big (t ++ back)) (sym is)
+    ends back = grind (arith, append_assoc, whole-append)
 
     -- no BOM is due, or the chunk adds nothing
     pub Continues-same : (due ≡ false) ⊎ (added ≡ []) → Continues (λ b. certain due big (pending ++ b)) (λ b. entire due big (pending ++ b))
         (λ b. certain due big (kept ++ b)) (λ b. entire due big (kept ++ b)) piece
-    Continues-same = by_due due where
-      by_due : (now : Bool) → (now ≡ false) ⊎ (added ≡ []) → Continues (λ b. certain now big (pending ++ b)) (λ b. entire now big (pending ++ b))
-          (λ b. certain now big (kept ++ b)) (λ b. entire now big (kept ++ b)) piece
-      by_due false why = record { certain = adds; all = ends }
-      by_due true (inl not) = absurd (cc)
-      by_due true (inr none) = record {
-        certain = λ back. ap (some_with_bom big) (adds back ∙ ap (λ a. a ++ decided_utf16 big (kept ++ back)) none)
-            ∙ ap (λ a. some_with_bom big a ++ some_with_bom big (decided_utf16 big (kept ++ back))) (sym none);
-        all = λ back. ap (with_bom big) (ends back ∙ ap (λ a. a ++ whole_utf16 big (kept ++ back)) none)
-            ∙ ap (λ a. some_with_bom big a ++ with_bom big (whole_utf16 big (kept ++ back))) (sym none);
-      }
+    Continues-same = grind (arith, adds, ends)
 
     pub certain-same : (due ≡ false) ⊎ (added ≡ []) → added ≡ certain due big (pending ++ piece)
-    certain-same = by_due due where
-      by_due : (now : Bool) → (now ≡ false) ⊎ (added ≡ []) → added ≡ certain now big (pending ++ piece)
-      by_due false why = refl
-      by_due true (inl not) = absurd (cc)
-      by_due true (inr none) = none ∙ ap (some_with_bom big) (sym none)
+    certain-same = grind (arith)
 
     -- the BOM is due, and comes before what the chunk adds
     module _ (first : due ≡ true) (some : added ≢ []) where
@@ -130,13 +96,7 @@ module _ (big : Bool) where
 
       Continues-first : Continues (λ b. certain true big (pending ++ b)) (λ b. entire true big (pending ++ b)) (λ b. certain false big (kept ++ b))
           (λ b. entire false big (kept ++ b)) piece
-      Continues-first =
-          let long = encoded_long (decided_text (pending ++ piece)) some in record {
-            certain = λ back. ap (some_with_bom big) (adds back) ∙ some_with_bom-some (added ++ decided_utf16 big (kept ++ back)) (longer (decided_utf16 big (kept ++ back)))
-                ∙ with_bom-append added (decided_utf16 big (kept ++ back)) long ∙ ap (λ a. a ++ decided_utf16 big (kept ++ back)) (sym begun);
-            all = λ back. ap (with_bom big) (ends back) ∙ with_bom-append added (whole_utf16 big (kept ++ back)) long
-                ∙ ap (λ a. a ++ whole_utf16 big (kept ++ back)) (sym begun);
-          }
+      Continues-first = grind (arith, encoded_long, adds, some_with_bom-some, longer, with_bom-append, begun, ends)
 
       pub Continues-begun : (later : Bool) → later ≡ false → Continues (λ b. certain due big (pending ++ b)) (λ b. entire due big (pending ++ b))
           (λ b. certain later big (kept ++ b)) (λ b. entire later big (kept ++ b)) piece
@@ -149,10 +109,7 @@ module _ (big : Bool) where
     undecided = ap (decided_utf16 big) (append-nil pending) ∙ ap (λ i. encode big (lossy_chars i)) (undecided_items pending same) ∙ encode-nil big
 
     pub certain-none : certain due big (pending ++ []) ≡ []
-    certain-none = by_due due where
-      by_due : (now : Bool) → certain now big (pending ++ []) ≡ []
-      by_due false = undecided
-      by_due true = ap (some_with_bom big) undecided
+    certain-none = grind (arith, undecided)
 
     pub whole-end : whole_utf16 big (pending ++ []) ≡ encode big (whole_lossy_chars [] pending)
     whole-end =
@@ -177,9 +134,7 @@ module _ (big : Bool) where
         items (nil_from_length (split_items (pending ++ bytes)) (omega (arith, ap length empty, length-map (split_items (pending ++ bytes)) lossy_char))) where
           nil_text : (text : List ℕ) → encode big text ≡ [] → text ≡ []
           nil_text [] none = refl
-          nil_text (c ∷ text) none =
-              let long = length-encode big (c ∷ text) ∙ size-cons c text in
-              absurd (⊎_elim (λ (two : char_size c ≡ 2). omega (arith, long, two, ap length none)) (λ (four : char_size c ≡ 4). omega (arith, long, four, ap length none)) (char_size_cases c))
+          nil_text (c ∷ text) none = absurd (omega (arith, ap length none, length-encode big (c ∷ text), size-cons c text, char_size_cases c))
 
     pub certain-some : certain due big (pending ++ bytes) ≢ []
     certain-some = by_due due where
@@ -193,6 +148,4 @@ module _ (big : Bool) where
   pub from_start : (due now : Bool) (pending : List ℕ) (input left old new : Option (List ℕ)) (result : Result (Unit {0}) FilterFault)
       → now ≡ due → pending ≡ [] → FiltersBy (λ b. certain now big (pending ++ b)) (λ b. entire now big (pending ++ b)) input left old new result
       → FiltersBy (certain due big) (entire due big) input left old new result
-  from_start due now pending input left old new result told none filters =
-      subst (λ d. FiltersBy (certain d big) (entire d big) input left old new result) told
-      (subst (λ p. FiltersBy (λ b. certain now big (p ++ b)) (λ b. entire now big (p ++ b)) input left old new result) none filters)
+  from_start due now pending input left old new result told none filters = grind (arith)

@@ -9,21 +9,11 @@ use Rattle.utf16_streams.specs.Filter.{AppendsPrefix, FiltersAll, FiltersBefore,
 
 -- no bytes have come, and more bytes come after others
 Continues-none : (decided whole : List ℕ → List ℕ) → decided [] ≡ [] → Continues decided whole decided whole []
-Continues-none decided whole nothing = record {
-  certain = λ back. ap (λ d. d ++ decided back) (sym nothing);
-  all = λ back. ap (λ d. d ++ whole back) (sym nothing);
-}
+Continues-none decided whole nothing = grind (arith)
 
 Continues-more : (decided whole mid mid_whole last last_whole : List ℕ → List ℕ) (front piece : List ℕ) → Continues decided whole mid mid_whole front
     → Continues mid mid_whole last last_whole piece → Continues decided whole last last_whole (front ++ piece)
-Continues-more decided whole mid mid_whole last last_whole front piece first second = record {
-  certain = λ back. ap decided (append_assoc front piece back) ∙ first.certain (piece ++ back) ∙ ap (λ d. decided front ++ d) (second.certain back)
-      ∙ regroup (last back);
-  all = λ back. ap whole (append_assoc front piece back) ∙ first.all (piece ++ back) ∙ ap (λ d. decided front ++ d) (second.all back)
-      ∙ regroup (last_whole back);
-} where
-  regroup : (more : List ℕ) → decided front ++ (mid piece ++ more) ≡ decided (front ++ piece) ++ more
-  regroup more = sym (append_assoc (decided front) (mid piece) more) ∙ ap (λ d. d ++ more) (sym (first.certain piece))
+Continues-more decided whole mid mid_whole last last_whole front piece first second = grind (arith, append_assoc)
 
 -- `reads` reads returned bytes; the output that is certain for them was written, and the transcoder
 -- continues after them
@@ -39,13 +29,7 @@ front_of front back = take_at front back (length front) refl
 
 -- before the first read
 pub Filtering-start : (decided whole : List ℕ → List ℕ) (input old : Option (List ℕ)) → decided [] ≡ [] → Filtering decided whole input input old old decided whole 0
-Filtering-start decided whole input old nothing = record {
-  bytes = [];
-  consumed = Consumes-nil input;
-  written = subst (Appends old old) (sym nothing) (Appends-nil old);
-  continues = Continues-none decided whole nothing;
-  many = omega arith;
-}
+Filtering-start decided whole input old nothing = grind (arith, Consumes-nil, Appends-nil, Continues-none)
 
 module _ (decided whole : List ℕ → List ℕ) (input left old new : Option (List ℕ)) (decided_then whole_then : List ℕ → List ℕ) (reads : ℕ)
     (so_far : Filtering decided whole input left old new decided_then whole_then reads) where
@@ -54,8 +38,7 @@ module _ (decided whole : List ℕ → List ℕ) (input left old new : Option (L
 
   -- the filter stops, and no byte was read since
   pub Filtering-some : (least : ℕ) (after : Option (List ℕ)) → least ≤ reads → Keeps left after → FiltersSome decided whole input after old new least
-  Filtering-some least after few kept =
-      (bytes, Consumes-kept input left after bytes so_far.consumed kept, omega (arith, so_far.many, few), so_far.written)
+  Filtering-some least after few kept = grind (arith, Consumes-kept)
 
   module _ (piece : List ℕ) (after : Option (List ℕ)) (read : Consumes left after piece) where
     more_read : Consumes input after (bytes ++ piece)
@@ -69,9 +52,7 @@ module _ (decided whole : List ℕ → List ℕ) (input left old new : Option (L
 
     -- a read returned 0
     pub Filtering-end : (now : Option (List ℕ)) → piece ≡ [] → IsAtEnd after → Appends new now (whole_then []) → FiltersAll decided whole input after old now
-    Filtering-end now none ended wrote =
-        let text = ap (λ p. decided bytes ++ whole_then p) (sym none) ∙ sym (so_far.continues.all piece) in
-        (bytes ++ piece, more_read, ended, subst (Appends old now) text (Appends-trans old new now (decided bytes) (whole_then []) so_far.written wrote))
+    Filtering-end now none ended wrote = grind (arith, more_read, Appends-trans)
 
     -- a prefix of what the chunk adds was written, and a write failed
     pub Filtering-fault : (output rest : List ℕ) (now : Option (List ℕ)) → length piece ≤ 4096 → whole_then piece ≡ output ++ rest → AppendsPrefix new now output
@@ -116,11 +97,4 @@ module _ (decided whole : List ℕ → List ℕ) (input left old new : Option (L
     -- one more chunk
     pub Filtering-more : (output : List ℕ) (now : Option (List ℕ)) (last last_whole : List ℕ → List ℕ) → 0 < length piece → output ≡ decided_then piece
         → Continues decided_then whole_then last last_whole piece → Appends new now output → Filtering decided whole input after old now last last_whole (reads + 1)
-    Filtering-more output now last last_whole some is continues wrote = record {
-      bytes = bytes ++ piece;
-      consumed = more_read;
-      written = subst (Appends old now) (ap (λ o. decided bytes ++ o) is ∙ sym (so_far.continues.certain piece))
-          (Appends-trans old new now (decided bytes) output so_far.written wrote);
-      continues = Continues-more decided whole decided_then whole_then last last_whole bytes piece so_far.continues continues;
-      many = omega (arith, so_far.many, long, some);
-    }
+    Filtering-more output now last last_whole some is continues wrote = grind (arith, more_read, Appends-trans, Continues-more, long)

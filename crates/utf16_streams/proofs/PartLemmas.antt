@@ -1,7 +1,7 @@
 -- The text of a part of a chunk: it is UTF-8, its length is bounded, and it is a step of decoding.
-use Rattle.std.proofs.Common.{◌≡◌, ℕ, ◌-◌, ◌*◌, ◌<◌, ◌≤◌, Bool, List, [], ◌∷◌, ◌++◌, length, refl, sym, ap, ◌∙◌, subst, ⊎_elim, append_assoc}
-use Rattle.std.proofs.lemmas.Bool.{cases_lt}
-use Rattle.std.proofs.lemmas.List.{get_or-append_right, get_or_append_left}
+use Rattle.std.proofs.Common.{◌≡◌, ℕ, ◌-◌, ◌*◌, ◌≤◌, Bool, List, [], ◌++◌, length, refl, sym, ap, ◌∙◌, append_assoc, arith, length-append}
+use Rattle.std.proofs.lemmas.Grind.{elements}
+use Rattle.std.proofs.lemmas.List.{nil_from_length}
 use Rattle.std.specs.Str.{IsUtf8}
 use Rattle.utf16_units.specs.Split.{Item, lossy_chars, split_items, split_tail}
 use Rattle.utf16_units.proofs.EncodingLemmas.{all_scalars-from_All}
@@ -14,10 +14,7 @@ use Rattle.utf16_transcode.proofs.DecodesLemmas.{Decodes-piece, shown}
 use Rattle.utf16_transcode.proofs.DecidedLemmas.{decided_scalars}
 
 pub AreBytes-append : (front back : List ℕ) → AreBytes front → AreBytes back → AreBytes (front ++ back)
-AreBytes-append front back before behind k = ⊎_elim
-    (λ (within : k < length front). subst (λ b. b < 256) (sym (get_or_append_left front back 0 k within)) (before k))
-    (λ (past : length front ≤ k). subst (λ b. b < 256) (sym (get_or-append_right front back (length front) k 0 refl past)) (behind (k - length front)))
-    (cases_lt k (length front))
+AreBytes-append front back before behind k = grind (arith, elements, before k, behind (k - length front))
 
 module _ (big : Bool) (bytes : List ℕ) (are : AreBytes bytes) where
   -- the text has at most three bytes for each two bytes decoded
@@ -35,15 +32,10 @@ module _ (big : Bool) (pending piece part rest : List ℕ) (joined : piece ≡ p
   -- decoding the part is one step
   pub Decodes-part : (left old new : List ℕ) → left ≡ split_tail big (pending ++ part) → new ≡ old ++ shown (split_items big (pending ++ part))
       → Decodes big (pending ++ piece) (left ++ rest) old new
-  Decodes-part left old new is text =
-      subst (λ b. Decodes big b (left ++ rest) old new) whole
-      (subst (λ t. Decodes big ((pending ++ part) ++ rest) (t ++ rest) old new) (sym is) (Decodes-piece big (pending ++ part) rest old new text))
+  Decodes-part left old new is text = grind (arith, whole, Decodes-piece)
 
   -- if the chunk decodes to nothing, so does the part
   pub part_none : split_items big (pending ++ piece) ≡ [] → split_items big (pending ++ part) ≡ []
   part_none none =
       let both = sym (split_items-append big (pending ++ part) rest) ∙ ap (split_items big) whole ∙ none in
-      front_none (split_items big (pending ++ part)) _ both where
-        front_none : (items more : List Item) → items ++ more ≡ [] → items ≡ []
-        front_none [] more e = refl
-        front_none (item ∷ items) more e = absurd (cc)
+      nil_from_length (split_items big (pending ++ part)) (omega (arith, ap length both, length-append {A = Item}))

@@ -1,6 +1,6 @@
 -- Rules for a reader of a stream, chunk by chunk: the characters that the bytes decide, and the
 -- text so far with the pending bytes.
-use Rattle.std.proofs.Common.{◌≡◌, ◌≢◌, ◌++◌, ℕ, ◌+◌, ◌<◌, ◌≤◌, Bool, true, false, List, [], ◌∷◌, Option, None, Some, Result, Ok, Err, All, drop, if◌then◌else◌, get_or, flat_map, length, take, take_all, append-nil, length-append, chars, encode_utf8_all, refl, sym, ap, ◌∙◌, subst}
+use Rattle.std.proofs.Common.{arith, rules, ◌≡◌, ◌≢◌, ◌++◌, ℕ, ◌+◌, ◌<◌, ◌≤◌, Bool, true, false, List, [], ◌∷◌, Option, None, Some, Result, Ok, Err, All, drop, if◌then◌else◌, get_or, flat_map, length, take, take_all, append-nil, length-append, chars, encode_utf8_all, refl, sym, ap, ◌∙◌, subst}
 use Rattle.std.proofs.lemmas.Grind.{flat_map-append, take_at_read}
 use Rattle.std.proofs.lemmas.List.{map-append}
 use Rattle.std.proofs.lemmas.List.Elements.{All-append, All-cons, All-drop, All-nil}
@@ -9,7 +9,7 @@ use Rattle.std.proofs.lemmas.Result.{IfOk-weaker}
 use Rattle.std.specs.Prelude.{IfOk, OnOk, Vec, vec_items}
 use Rattle.std.specs.Char.{IsScalar}
 use Rattle.utf16_units.specs.declared.byte_order.Utf16Order.{Ghosts}
-use Rattle.utf16_units.specs.Split.{Item, lossy_char, lossy_chars, split_items, split_tail, whole_lossy_chars}
+use Rattle.utf16_units.specs.Split.{Item, lossy_chars, split_items, split_tail, whole_lossy_chars}
 use Rattle.utf16_units.proofs.FirstChar.{AreBytes-from_All}
 use Rattle.utf16_units.proofs.LawProofs.{utf8_back}
 use Rattle.utf16_units.proofs.SplitJoin.{split_items-append, split_tail-append}
@@ -36,8 +36,7 @@ module _ {X : Type 0} (of : X → List ℕ) (pieces : List X) (i : ℕ) where
 -- the characters of items, and all characters of the whole text, are scalar values
 full_scalar : (items : List Item) (tail : List ℕ) → All IsScalar (lossy_chars items) → All IsScalar (whole_lossy_chars items tail)
 full_scalar items [] scalars = scalars
-full_scalar items (first ∷ after) scalars =
-    All-append IsScalar (lossy_chars items) (0xFFFD ∷ []) scalars (All-cons IsScalar 0xFFFD [] refl (All-nil IsScalar))
+full_scalar items (first ∷ after) scalars = search (rules, All-append, All-cons, All-nil)
 
 module _ (big : Bool) (bytes : List ℕ) (are : All IsByte bytes) where
   pub scalars_lossy : All IsScalar (lossy_chars (split_items big bytes))
@@ -66,8 +65,7 @@ text_are None bytes are = behind_are (has_bom bytes) bytes are
 module _ {T X : Type 0} (big : Bool) (bytes : List ℕ) (r : Result T X) (utf8 : T → List ℕ) where
   pub chars_of : All IsByte bytes → IfOk r (λ s. utf8 s ≡ encode_utf8_all (lossy_chars (split_items big bytes)))
       → IfOk r (λ s. chars (utf8 s) ≡ lossy_chars (split_items big bytes))
-  chars_of are text = IfOk-weaker r (λ s. utf8 s ≡ encode_utf8_all (lossy_chars (split_items big bytes))) (λ s. chars (utf8 s) ≡ lossy_chars (split_items big bytes))
-      (λ s. chars_marked big bytes are (utf8 s)) text
+  chars_of are text = grind (arith, IfOk-weaker, chars_marked)
 
 pub chars_of_any : {T X : Type 0} (order : Option Bool) (bytes : List ℕ) (r : Result T X) (utf8 : T → List ℕ) → All IsByte bytes
     → IfOk r (λ s. utf8 s ≡ encode_utf8_all (lossy_chars (items_in order bytes))) → IfOk r (λ s. chars (utf8 s) ≡ lossy_chars (items_in order bytes))
@@ -95,25 +93,17 @@ module _ (big : Bool) (bytes kept : List ℕ) (Of : List ℕ → Type 0) (so_far
   -- one more chunk: the pending bytes and the chunk decide what follows, and leave what is pending
   module _ (Next : List ℕ → Type 0) (piece left : List ℕ) (step : (text : List ℕ) → Of text → Next (text ++ lossy_chars (split_items big (kept ++ piece)))) (after : left ≡ split_tail big (kept ++ piece)) where
     joined : lossy_chars (split_items big (bytes ++ piece)) ≡ lossy_chars (split_items big bytes) ++ lossy_chars (split_items big (kept ++ piece))
-    joined =
-        ap lossy_chars (split_items-append big bytes piece) ∙ map-append lossy_char (split_items big bytes) (split_items big (split_tail big bytes ++ piece))
-        ∙ ap (λ k. lossy_chars (split_items big bytes) ++ lossy_chars (split_items big (k ++ piece))) (sym so_far.tail)
+    joined = grind (arith, split_items-append, map-append)
 
     pub Reads-piece : Reads big (bytes ++ piece) left Next
-    Reads-piece = record {
-      text = subst Next (sym joined) (step (lossy_chars (split_items big bytes)) so_far.text);
-      tail = after ∙ ap (λ k. split_tail big (k ++ piece)) so_far.tail ∙ sym (split_tail-append big bytes piece);
-    }
+    Reads-piece = grind (arith, joined, split_tail-append)
 
   -- the end of the stream: if nothing is pending, the text is whole; otherwise one U+FFFD ends it
   pub Reads-none : kept ≡ [] → Of (whole_lossy_chars (split_items big bytes) (split_tail big bytes))
   Reads-none none = subst (λ t. Of (whole_lossy_chars (split_items big bytes) t)) (sym none ∙ so_far.tail) so_far.text
 
   pub Reads-some : (Next : List ℕ → Type 0) → kept ≢ [] → ((text : List ℕ) → Of text → Next (text ++ 0xFFFD ∷ [])) → Next (whole_lossy_chars (split_items big bytes) (split_tail big bytes))
-  Reads-some Next some step = by_tail (split_tail big bytes) (λ none. some (so_far.tail ∙ none)) where
-    by_tail : (tail : List ℕ) → tail ≢ [] → Next (whole_lossy_chars (split_items big bytes) tail)
-    by_tail [] left = absurd (left refl)
-    by_tail (first ∷ after) left = step (lossy_chars (split_items big bytes)) so_far.text
+  Reads-some Next some step = grind (arith)
 
 -- the same for a list of chunks, of which the first `i` were read
 module _ {X : Type 0} (of : X → List ℕ) (pieces : List X) (i : ℕ) (big : Bool) (kept : List ℕ) (Of : List ℕ → Type 0) (so_far : Reads big (flat_map of (take i pieces)) kept Of) where

@@ -1,5 +1,5 @@
 -- The UTF-8 of a stream of UTF-16, and how it continues when more bytes come.
-use Rattle.std.proofs.Common.{◌≡◌, ◌≢◌, ℕ, ◌≤◌, Bool, true, false, List, [], ◌∷◌, ◌++◌, Option, None, Some, Result, length, drop, encode_utf8_all, if◌then◌else◌, refl, sym, ap, ap₂, ◌∙◌, subst, arith, append-nil, append_assoc, length-append, length-drop}
+use Rattle.std.proofs.Common.{◌≡◌, ◌≢◌, ℕ, ◌≤◌, Bool, true, false, List, [], ◌∷◌, ◌++◌, Option, None, Some, Result, length, drop, encode_utf8_all, if◌then◌else◌, sym, ap, ap₂, ◌∙◌, arith, append-nil, append_assoc, length-append, length-drop}
 use Rattle.std.proofs.lemmas.List.{length-map, nil_from_length}
 use Rattle.std.proofs.lemmas.Str.{length-le-encodes}
 use Rattle.std.specs.Char.{encode_utf8}
@@ -18,10 +18,7 @@ tail_utf8 (first ∷ after) = encode_utf8 0xFFFD
 
 -- the whole text is the certain text, and U+FFFD if bytes are pending
 whole-replacement : (order : Option Bool) (bytes : List ℕ) → decided_utf8 order bytes ++ tail_utf8 (tail_in order bytes) ≡ whole_utf8 order bytes
-whole-replacement order bytes = by_tail (tail_in order bytes) where
-  by_tail : (tail : List ℕ) → decided_utf8 order bytes ++ tail_utf8 tail ≡ encode_utf8_all (whole_lossy_chars (items_in order bytes) tail)
-  by_tail [] = append-nil (decided_utf8 order bytes) ∙ sym (whole_lossy_chars-none (items_in order bytes) [] refl)
-  by_tail (first ∷ after) = sym (whole_lossy_chars-some (items_in order bytes) (first ∷ after) (λ e. absurd (cc)))
+whole-replacement order bytes = grind (arith, append-nil, whole_lossy_chars-none, whole_lossy_chars-some)
 
 -- more bytes are appended
 module _ (order : Option Bool) (front back : List ℕ) where
@@ -64,7 +61,7 @@ module _ (big : Bool) where
   decides_behind false bytes long = four_decide big bytes (omega (arith, long))
   decides_behind true bytes long = four_decide big (drop 2 bytes) (omega (arith, long, length-drop 2 bytes))
 
-waits : (order : Option Bool) (pending : List ℕ) → tail_in order pending ≡ pending → items_in order pending ≡ []
+pub waits : (order : Option Bool) (pending : List ℕ) → tail_in order pending ≡ pending → items_in order pending ≡ []
 waits (Some big) pending same = undecided_items big pending same
 waits None pending same = waits_behind (is_big pending) (has_bom pending) pending same
 
@@ -99,6 +96,4 @@ module _ (order : Option Bool) (pending : List ℕ) where
 pub from_start : (order now : Option Bool) (pending : List ℕ) (input left old new : Option (List ℕ)) (result : Result (Unit {0}) FilterFault)
     → now ≡ order → pending ≡ [] → FiltersBy (λ b. decided_utf8 now (pending ++ b)) (λ b. whole_utf8 now (pending ++ b)) input left old new result
     → FiltersIn order input left old new result
-from_start order now pending input left old new result told none filters =
-    subst (λ o. FiltersIn o input left old new result) told
-    (subst (λ p. FiltersBy (λ b. decided_utf8 now (p ++ b)) (λ b. whole_utf8 now (p ++ b)) input left old new result) none filters)
+from_start order now pending input left old new result told none filters = grind (arith)
