@@ -10,7 +10,7 @@ use Rattle.utf16_units.proofs.SplitIllFormed.{AreBytes-drop}
 use Rattle.utf16_streams.proofs.PartLemmas.{AreBytes-append}
 use Rattle.utf16_streams.specs.Bom.{big_in, has_bom, text_in}
 use Rattle.utf16_program.specs.declared.outcome.Outcome.{Outcome}
-use Rattle.utf16_program.specs.declared.outcome.Outcome.TheVariants.{Done, IllFormed, Long, Memory, Read, Usage, Write}
+use Rattle.utf16_program.specs.declared.outcome.Outcome.TheVariants.{Done, IllFormed, Long, Memory, Read, Write}
 use Rattle.utf16_program.specs.Checker.{Follows, StartsIn, checker_ill_formed, checker_lines, checker_offset, checker_report}
 use Rattle.utf16_program.specs.Checks.{ChecksBy, EndsBy, FailsBy}
 use Rattle.utf16_program.specs.Report.{closing, ill_formed_from, is_char, is_ill_formed, items_in, lines, lines_from, report, report_from, tail_in}
@@ -89,9 +89,6 @@ module _ (order : Option Bool) (input left old new : Option (List ℕ)) (checker
     -- one of them
     pub Checking-fails : (now : Option (List ℕ)) (ended_as : Outcome) → length piece ≤ 4096 → FailsBy new now (checker_lines checker (pending ++ piece)) ended_as
         → ChecksBy order input after old now ended_as
-    Checking-fails now Done few fails = absurd fails
-    Checking-fails now IllFormed few fails = absurd fails
-    Checking-fails now Read few fails = absurd fails
     Checking-fails now Write few fails =
         let output = checker_lines checker (pending ++ piece) in
         let rest = checker_closing checker (pending ++ piece) in
@@ -127,8 +124,7 @@ module _ (order : Option Bool) (input left old new : Option (List ℕ)) (checker
             inl joined,
           ),
         )
-    Checking-fails now Long few fails = absurd fails
-    Checking-fails now Usage few fails = absurd fails
+    Checking-fails now ended_as few fails = absurd fails
 
     -- the bytes were checked
     pub Checking-more : (now : Option (List ℕ)) (later : Checker) (kept : List ℕ) → AreBytes piece → Appends new now (checker_lines checker (pending ++ piece))
@@ -186,7 +182,6 @@ module _ (order : Option Bool) (input left old new : Option (List ℕ)) (checker
         → ChecksBy order input after old now ended_as
     Checking-end now Done ends = (bytes, all_read, ended, reported now ends.0, none_ill_formed (big_in order bytes) (text_in order bytes) text_are (omega (arith, whole_ill_formed, ends.1)))
     Checking-end now IllFormed ends = (bytes, all_read, ended, reported now ends.0, λ text. ends.1 (omega (arith, whole_ill_formed, well_formed (big_in order bytes) (text_in order bytes) text)))
-    Checking-end now Read ends = absurd ends
     Checking-end now Write ends =
         let rest = checker_report checker pending in
         let written = lines order bytes ++ take ends.0 rest in (
@@ -215,5 +210,4 @@ module _ (order : Option Bool) (input left old new : Option (List ℕ)) (checker
         inr ended,
       ),
     )
-    Checking-end now Long ends = absurd ends
-    Checking-end now Usage ends = absurd ends
+    Checking-end now ended_as ends = absurd ends

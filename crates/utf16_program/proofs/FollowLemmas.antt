@@ -1,12 +1,13 @@
 -- What a checker reports once more bytes come.
-use Rattle.std.proofs.Common.{◌≡◌, ◌↔◌, ℕ, ◌+◌, ◌-◌, ◌<◌, ◌≤◌, Bool, true, false, List, [], ◌∷◌, ◌++◌, Option, None, Some, length, drop, refl, sym, ap, ap₂, ◌∙◌, arith, append-nil, append_assoc, length-append, length-drop, if◌then◌else◌}
+use Rattle.std.proofs.Common.{◌≡◌, ◌↔◌, ℕ, ◌+◌, ◌-◌, ◌<◌, ◌≤◌, Bool, List, [], ◌∷◌, ◌++◌, Option, None, Some, length, drop, refl, sym, ap, ap₂, ◌∙◌, arith, append-nil, append_assoc, length-append, length-drop}
 use Rattle.std.proofs.lemmas.List.{drop-drop, nil_from_length}
 use Rattle.std.specs.Prelude.{count_by}
 use Rattle.utf16_units.specs.Split.{Item, items_bytes, split_items, split_tail}
 use Rattle.utf16_units.proofs.SplitJoin.{split_items-append, split_tail-append}
 use Rattle.utf16_units.proofs.SplitUnique.{length-split_tail}
-use Rattle.utf16_transcode.proofs.DecodesLemmas.{length-split_tail-le, split_tail-again, undecided_items}
-use Rattle.utf16_streams.specs.Bom.{big_in, has_bom, text_in}
+use Rattle.utf16_transcode.proofs.DecodesLemmas.{split_tail-again}
+use Rattle.utf16_streams.proofs.Utf8Lemmas.{waits}
+use Rattle.utf16_streams.specs.Bom.{big_in, text_in}
 use Rattle.utf16_program.specs.Checker.{Follows, Takes, checker_lines, checker_report}
 use Rattle.utf16_program.specs.Order.{bom_len}
 use Rattle.utf16_program.specs.Report.{closing, count_line, ill_formed_lines, ill_formed_from, is_char, is_ill_formed, items_in, lines_from, report_from, tail_ill_formed, tail_in, tail_line}
@@ -134,15 +135,13 @@ module _ (order : Option Bool) (big : Bool) (from : ℕ) (bytes : List ℕ) (wit
 -- bytes that do not decide the byte order
 pub few_items : (bytes : List ℕ) → length bytes < 2 → items_in None bytes ≡ []
 unfolding split_items
-few_items [] short = refl
-few_items (first ∷ []) short = refl
 few_items (first ∷ second ∷ bytes) short = absurd (omega arith)
+few_items bytes short = refl
 
 pub few_tail : (bytes : List ℕ) → length bytes < 2 → tail_in None bytes ≡ bytes
 unfolding split_tail
-few_tail [] short = refl
-few_tail (first ∷ []) short = refl
 few_tail (first ∷ second ∷ bytes) short = absurd (omega arith)
+few_tail bytes short = refl
 
 pub few_lines : (order : Option Bool) (offset : ℕ) (bytes : List ℕ) → order ≡ None → length bytes < 2 → lines_from order offset bytes ≡ []
 few_lines order offset bytes none short =
@@ -167,19 +166,6 @@ Takes-few checker bytes none short = record {
   pending = ap (λ o. tail_in o bytes) none ∙ few_tail bytes short;
 }
 
--- bytes that are all tail have no item
-behind_bom : (big bom : Bool) (bytes : List ℕ) → split_tail big (if bom then drop 2 bytes else bytes) ≡ bytes
-    → split_items big (if bom then drop 2 bytes else bytes) ≡ []
-unfolding split_items
-behind_bom big false bytes same = undecided_items big bytes same
-behind_bom big true bytes same =
-    let none = nil_from_length bytes (omega (arith, length-split_tail-le big (drop 2 bytes), length-drop 2 bytes, ap length same)) in
-    ap (λ b. split_items big (drop 2 b)) none
-
-pending_items : (order : Option Bool) (bytes : List ℕ) → tail_in order bytes ≡ bytes → items_in order bytes ≡ []
-pending_items (Some big) bytes same = undecided_items big bytes same
-pending_items None bytes same = behind_bom (big_in None bytes) (has_bom bytes) bytes same
-
 -- a tail that is not empty
 some_tail : (offset : ℕ) (tail : List ℕ) → ¬ (length tail ≡ 0) → (tail_line offset tail ≡ tail_line offset (0 ∷ [])) × (tail_ill_formed tail ≡ 1)
 some_tail offset [] some = absurd (some refl)
@@ -190,7 +176,7 @@ module _ (order : Option Bool) (bytes : List ℕ) (same : tail_in order bytes �
   pub pending_report : (offset chars unpaired : ℕ)
       → report_from order offset chars unpaired bytes ≡ tail_line offset bytes ++ count_line (offset + length bytes) chars (unpaired + tail_ill_formed bytes)
   pending_report offset chars unpaired =
-      let none = pending_items order bytes same in
+      let none = waits order bytes same in
       let start : (offset + length bytes) - length (tail_in order bytes) ≡ offset = omega (arith, ap length same) in
       let good : chars + count_by is_char (items_in order bytes) ≡ chars = omega (arith, ap (count_by is_char) none) in
       let bad : unpaired + count_by is_ill_formed (items_in order bytes) ≡ unpaired = omega (arith, ap (count_by is_ill_formed) none) in
@@ -213,7 +199,7 @@ module _ (order : Option Bool) (bytes : List ℕ) (same : tail_in order bytes �
 
   pub pending_ill_formed : (unpaired : ℕ) → ill_formed_from order unpaired bytes ≡ unpaired + tail_ill_formed bytes
   pending_ill_formed unpaired =
-      let none = ap (count_by is_ill_formed) (pending_items order bytes same) in
+      let none = ap (count_by is_ill_formed) (waits order bytes same) in
       let tail = ap tail_ill_formed same in
       omega (arith, none, tail)
 

@@ -50,8 +50,7 @@ digit_before buffer at digit glyph some within is =
 
 -- a number with a digit more before its last
 pub fewer : (k n : ℕ) → n < 16 ^ k → (n / 16 ≡ 0 → ⊥) → (2 ≤ k) × (n / 16 < 16 ^ (k - 1))
-fewer zero n within more = absurd (more (omega arith))
-fewer (suc zero) n within more = absurd (more (omega arith))
 fewer (suc (suc k)) n within more =
     let left : suc (suc k) - 1 ≡ suc k = omega arith in
     (omega arith, rw left (omega arith))
+fewer k n within more = absurd (more (omega arith))

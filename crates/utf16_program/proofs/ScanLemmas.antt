@@ -12,6 +12,7 @@ use Rattle.utf16_units.proofs.IllFormedLemmas.{IsUtf16ValidUpTo-unique}
 use Rattle.utf16_units.proofs.SplitIllFormed.{split_items-fault, split_tail-fault, split_tail-incomplete}
 use Rattle.utf16_units.proofs.SplitJoin.{split_items-text, split_tail-text}
 use Rattle.utf16_transcode.proofs.DecodesLemmas.{split_tail-again, undecided_items}
+use Rattle.utf16_streams.proofs.StreamRules.{tail_none}
 use Rattle.utf16_program.specs.Report.{ill_formed_line, ill_formed_lines, is_char, is_ill_formed}
 use Rattle.utf16_program.specs.Scans.{BeginsLone, IsFront, Scans, lone}
 use Rattle.utf16_program.specs.declared.scan.Found.{Found}
@@ -78,10 +79,6 @@ Scans-of big offset bytes old new found all tail =
       few = all.few;
     }
 
-no_tail : (big : Bool) → split_tail big [] ≡ []
-unfolding split_tail
-no_tail big = refl
-
 -- the bytes are well formed
 pub IsFront-valid : (big : Bool) (bytes : List ℕ) → IsUtf16 big bytes → (front : Front) → front.len ≡ length bytes → front.chars ≡ length (text_of big bytes) → front.unpaired ≡ None
     → IsFront big bytes front
@@ -93,7 +90,7 @@ IsFront-valid big bytes valid front len chars none =
       valid = subst (IsUtf16 big) (sym all) valid;
       chars = chars ∙ ap (λ b. length (text_of big b)) (sym all);
       after = subst (λ u. MatchOption u (split_tail big (drop front.len bytes) ≡ drop front.len bytes) (BeginsLone big (drop front.len bytes))) (sym none)
-          (ap (split_tail big) nothing ∙ no_tail big ∙ sym nothing);
+          (ap (split_tail big) nothing ∙ tail_none big ∙ sym nothing);
     }
 
 module _ (big : Bool) (bytes : List ℕ) (n : ℕ) (front : IsUtf16ValidUpTo big bytes n) where

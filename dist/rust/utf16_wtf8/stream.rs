@@ -50,7 +50,7 @@ impl Wtf8Stream {
     /// unit, as far as whole characters fit and up to the first ill-formed sequence. `read` counts
     /// the bytes of the chunk that were taken. Pass the same byte order for all chunks of a stream.
     ///
-    /// With `Done`, all of the chunk was taken, and what `from_wtf8_partial` leaves is pending. With
+    /// With `Done`, the whole chunk was taken, and what `from_wtf8_partial` leaves is pending. With
     /// `NoSpace`, the next character does not fit, or the leading surrogate that would be pending:
     /// call again with the rest of the chunk and more space. In that case fewer than four bytes of
     /// the buffer are left. With `IllFormed`, the ill-formed sequence begins with the bytes that
