@@ -15,7 +15,7 @@ refuse() {
     exit 1
 }
 
-command -v "$compiler" > /dev/null || refuse "$compiler is missing: install gcc, or afl++ for AFL++"
+command -v "$compiler" > /dev/null || refuse "$compiler is missing: install gcc"
 [ -e "$archive" ] || refuse "$archive is missing: run rt lib in crates/dethrux"
 if [ "${PEERS:-yes}" = no ]; then
     peers=(-DWITHOUT_PEERS)

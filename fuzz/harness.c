@@ -1,10 +1,9 @@
 /* Calls libdethrux on inputs and compares what it returns with a reference decoder, ICU and iconv.
  *
- *   harness                         reads one input on standard input (many if built for AFL++)
+ *   harness                         reads one input on standard input
  *   harness FILE..                  reads each file as one input
  *   harness --hex DIGITS            reads one input from hexadecimal digits
  *   harness --random SEED SECONDS   makes inputs; the last line is 'N passed, M failed'
- *   harness --seeds DIR SEED COUNT  writes inputs to files that begin a corpus
  *
  * A difference, or an access outside of a buffer, is printed with the input as digits for --hex.
  * Then the process aborts; with --random it continues with the other checks.
@@ -116,21 +115,6 @@ static int run_random(uint64_t seed, time_t seconds) {
     return failures + idle != 0;
 }
 
-static int write_seeds(const char *folder, uint64_t seed, unsigned count) {
-    static uint8_t bytes[INPUT_MAX];
-    for (unsigned i = 0; i < count; i++) {
-        char name[4096];
-        snprintf(name, sizeof name, "%s/%04u", folder, i);
-        size_t len = generate_input(&seed, bytes);
-        FILE *file = fopen(name, "wb");
-        if (file == NULL || fwrite(bytes, 1, len, file) != len || fclose(file) != 0) {
-            perror(name);
-            return 2;
-        }
-    }
-    return 0;
-}
-
 static int run_file(FILE *file) {
     static uint8_t bytes[INPUT_MAX];
     run_checks(bytes, fread(bytes, 1, sizeof bytes, file), NULL);
@@ -166,24 +150,6 @@ static int run_hex(const char *digits) {
     return 0;
 }
 
-#ifdef __AFL_COMPILER
-__AFL_FUZZ_INIT();
-
-/* Reads many inputs in one process, each from memory that AFL++ shares. */
-static int run_afl(void) {
-    __AFL_INIT();
-    const uint8_t *bytes = __AFL_FUZZ_TESTCASE_BUF;
-    while (__AFL_LOOP(10000)) {
-        run_checks(bytes, (size_t)__AFL_FUZZ_TESTCASE_LEN, NULL);
-    }
-    return 0;
-}
-#else
-static int run_afl(void) {
-    return run_file(stdin);
-}
-#endif
-
 int main(int argc, char **argv) {
     program = argv[0];
     guarded_init();
@@ -192,17 +158,13 @@ int main(int argc, char **argv) {
 #endif
     catch_faults();
     if (argc == 1) {
-        return run_afl();
+        return run_file(stdin);
     }
     if (argc == 3 && strcmp(argv[1], "--hex") == 0) {
         return run_hex(argv[2]);
     }
     if (argc == 4 && strcmp(argv[1], "--random") == 0) {
         return run_random(strtoull(argv[2], NULL, 0), (time_t)strtoull(argv[3], NULL, 0));
-    }
-    if (argc == 5 && strcmp(argv[1], "--seeds") == 0) {
-        return write_seeds(argv[2], strtoull(argv[3], NULL, 0),
-                           (unsigned)strtoul(argv[4], NULL, 0));
     }
     return run_files(argv + 1);
 }

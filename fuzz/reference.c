@@ -125,52 +125,12 @@ static void append_item(decoded *to, sequence found, size_t out_len) {
     to->out_len += out_len;
 }
 
-/* Coverage that AFL++ counts as well as the branches of the harness: which class of character
- * follows which, at which of 64 places in a block. The library itself is not instrumented. Its
- * loops work in blocks, so these are the differences between inputs that matter to them. */
-enum { FROM_UTF16, FROM_UTF8, DIRECTIONS };
-#ifdef __AFL_COMPILER
-enum { CLASSES = 10, BLOCK = 64 };
-
-/* The interface of SanitizerCoverage, which AFL++ implements. */
-extern void __sanitizer_cov_trace_pc_guard_init(uint32_t *start, uint32_t *stop);
-extern void __sanitizer_cov_trace_pc_guard(uint32_t *guard);
-
-static uint32_t guards[DIRECTIONS * CLASSES * CLASSES * BLOCK];
-
-__attribute__((constructor(101))) static void init_guards(void) {
-    __sanitizer_cov_trace_pc_guard_init(guards, guards + sizeof guards / sizeof *guards);
-}
-
-static size_t class_of(sequence it) {
-    if (it.kind != CHARACTER) {
-        return it.kind == INCOMPLETE ? 9 : it.len == 1 ? 8 : it.len == 2 ? 7 : 6;
-    }
-    return it.scalar < 0x80      ? 0
-           : it.scalar < 0x800   ? 1
-           : it.scalar < 0xD800  ? 2
-           : it.scalar < 0xFFFD  ? 3
-           : it.scalar < 0x10000 ? 4
-                                 : 5;
-}
-
-/* Records that the second item follows the first at this place. */
-static void cover(int direction, sequence before, sequence after, size_t at) {
-    size_t classes = ((size_t)direction * CLASSES + class_of(before)) * CLASSES + class_of(after);
-    __sanitizer_cov_trace_pc_guard(&guards[classes * BLOCK + at % BLOCK]);
-}
-#else
-#define cover(direction, before, after, at) ((void)(before))
-#endif
-
 void decode_utf16(dethrux_byte_order order, const uint8_t *bytes, size_t len, decoded *to) {
     to->item_count = 0;
     to->out_len = 0;
     sequence found = NO_SEQUENCE;
     for (size_t at = 0; at < len; at += found.len) {
-        sequence before = found;
         found = next_utf16(order, bytes + at, len - at);
-        cover(FROM_UTF16, before, found, at / 2);
         append_item(to, found, encode_utf8(found.scalar, to->out + to->out_len));
     }
 }
@@ -180,9 +140,7 @@ void decode_utf8(dethrux_byte_order order, const uint8_t *bytes, size_t len, dec
     to->out_len = 0;
     sequence found = NO_SEQUENCE;
     for (size_t at = 0; at < len; at += found.len) {
-        sequence before = found;
         found = next_utf8(order, bytes + at, len - at);
-        cover(FROM_UTF8, before, found, at);
         append_item(to, found, encode_utf16(order, found.scalar, to->out + to->out_len));
     }
 }

@@ -1,6 +1,5 @@
 /* A plain decoder of UTF-16 and of UTF-8, written from the Unicode Standard, and what each call of
- * the library must return according to it. It is compiled with the instrumentation of AFL++, so its
- * branches guide the fuzzer. */
+ * the library must return according to it. */
 #ifndef REFERENCE_H
 #define REFERENCE_H
 
