@@ -280,49 +280,6 @@ prints() {
         cmp <(printf "$3" | sed 's/$/\r/') "$room/found"
 }
 
-# Tests that read_file, which is compiled, decodes bytes in a file, whose name is not ASCII.
-decodes() {
-    local file="$room/Grüße 😀.txt"
-    eval "$1" > "$file" && run "$room/program.exe" "Z:${file//\//\\}" > "$room/found" &&
-        cmp <(eval "$2") "$room/found"
-}
-
-# Prints a line this often.
-often() {
-    local done
-    for ((done = 0; done < $1; done++)); do printf "$2"; done
-}
-
-# Tests that read_file ends with this status.
-ends() {
-    local status=$1
-    shift
-    run "$room/program.exe" "$@"
-    [ $? = "$status" ]
-}
-
-check_read_file() {
-    local bom='\xFE\xFF' mob='\xFF\xFE' other='\xEF\xBF\xBD' smile='\xF0\x9F\x98\x80'
-    check "read_file.c by $1" compile "$1" "$examples/windows/read_file.c" || return
-    check 'an empty file' decodes : :
-    check 'only a BOM' decodes "printf '$bom'" :
-    check 'a BOM, big endian' decodes "printf '${bom}N\0'" "printf '\xE4\xB8\x80'"
-    check 'a BOM, little endian' decodes "printf '${mob}\0N'" "printf '\xE4\xB8\x80'"
-    check 'no BOM' decodes "printf '\0N'" "printf '\xE4\xB8\x80'"
-    check 'one byte' decodes "printf '\xFE'" "printf '$other'"
-    check 'unpaired surrogates' decodes "printf '\0\xDCa\0\0\xD8'" "printf '${other}a$other'"
-    # The first two bytes of the pair are the last of a chunk of 4096 bytes.
-    check 'a pair that is cut, big endian' \
-        decodes "printf '$bom'; often 2046 '\0a'; printf '\xD8=\xDE\0\0b'" \
-        "often 2046 a; printf '${smile}b'"
-    check 'a pair that is cut, little endian' \
-        decodes "often 2047 'a\0'; printf '=\xD8\0\xDEb\0'" "often 2047 a; printf '${smile}b'"
-    check 'a file that ends with a chunk, inside a pair' \
-        decodes "often 2047 'a\0'; printf '=\xD8'" "often 2047 a; printf '$other'"
-    check 'no file' ends 1 'Z:\none'
-    check 'no word' ends 2
-}
-
 wide='UTF-16: '\'\''\nUTF-16: '\''Grüße 😀'\''\nill formed at code unit 1: '\''a�b'\''\n'
 wide+='ill formed at code unit 0: '\''�'\''\nill formed at code unit 1: '\''a�'\''\n'
 wide_c='all:\nall: 0047 0072 00FC 00DF 0065\nall: D83D DE00\na part: 0061\n'
@@ -489,7 +446,6 @@ check 'too little memory' tells_memory
 for compiler in gcc clang; do
     check "the first program in C by $compiler" prints_page $compiler "$examples/c/first.c" C
     check "wide.c by $compiler" prints $compiler wide.c "$wide$wide_c"
-    check_read_file $compiler
 done
 for compiler in g++ clang++; do
     check "the first program in C++ by $compiler" \
