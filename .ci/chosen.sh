@@ -99,7 +99,7 @@ runs_only() {
         gcc -std=c11 -O1 "-I$dist/include" "$top/examples/c/$name.c" "$room/choose.o" \
             "$room/v$level.o" "$room/ends-v$((5 - level)).o" -o "$room/$name" || return
     done
-    "${@:2}" "$room/check" "$top"/cases/*.txt && "${@:2}" "$room/units"
+    "${@:2}" "$room/check" "$room/cases" && "${@:2}" "$room/units"
 }
 
 # Tests that thirty threads never take the code for x86-64-v2 on a processor that has the other one,
@@ -128,6 +128,7 @@ try() {
 
 need gcc:gcc make:make qemu-x86_64:qemu-user gdb:gdb || finish
 built=$(make -s -C "$dist" folder)
+"$top/cases/to_json.py" --tabs > "$room/cases"
 count 'the library with choose.S' build || finish
 try 'registers' keeps_registers
 try 'a debugger' shows_callers

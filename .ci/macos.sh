@@ -104,6 +104,7 @@ words_of_make() {
 }
 
 need "${tools[@]}" "${for_arm64[@]}" || finish
+"$top/cases/to_json.py" --tabs > "$room/cases"
 for target in arm64-apple-macosx11 x86_64-apple-macosx10.15; do
     compiler=gcc
     run=("$room/program")
@@ -114,10 +115,10 @@ for target in arm64-apple-macosx11 x86_64-apple-macosx10.15; do
     check "make for $target" with_make $target || continue
     check "a library around it for $target" hides_calls $target
     check "CMake for $target" with_cmake $target
-    count "cases for $target" tables $target check c99 $compiler "${run[@]}" "$top"/cases/*.txt
+    count "cases for $target" tables $target check c99 $compiler "${run[@]}" "$room/cases"
     check "the name of the code for $target" names_code $target $compiler "${run[@]}"
     [[ $target == arm64* ]] || count "cases for $target on x86-64-v2" tables $target check c99 \
-        $compiler qemu-x86_64 -cpu Nehalem "${run[@]}" "$top"/cases/*.txt
+        $compiler qemu-x86_64 -cpu Nehalem "${run[@]}" "$room/cases"
     count "code units for $target" tables $target units c11 $compiler "${run[@]}"
     count "allocations for $target" tables $target alloc c99 $compiler "${run[@]}"
 done

@@ -188,7 +188,7 @@ sees_arguments() {
         ! cmp -s "$dist/src/calls.inc" "$room/calls.inc" &&
         $gcc -O0 "-I$dist/include" "$examples/c/check.c" "$room/windows.c" "${assembly[@]}" \
             -o "$room/program.exe" &&
-        refuses ' passed, ' run "$room/program.exe" "$top"/cases/*.txt &&
+        refuses ' passed, ' run "$room/program.exe" "$room/gcc/cases" &&
         ! grep -F ' passed, 0 failed' "$room/refused"
 }
 
@@ -403,7 +403,7 @@ links_for_msvc() {
 # Runs the tables with the DLL for MSVC, and a program for MSVC with the import library.
 runs_for_msvc() {
     cd "$room/msvc" && cp "$room/gcc/check_shared.exe" . &&
-        run ./check_shared.exe "$top"/cases/*.txt | grep -E '^[0-9]{3,} passed, 0 failed' &&
+        run ./check_shared.exe "$room/gcc/cases" | grep -E '^[0-9]{3,} passed, 0 failed' &&
         for_msvc -O2 -c "$top/packaging/test/user.c" -o user.obj &&
         lld-link /entry:main /subsystem:console user.obj dethrux.lib msvcrt.lib /out:user.exe &&
         run ./user.exe

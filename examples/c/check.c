@@ -1,15 +1,14 @@
-/* Reads tables of cases/, the named files or standard input, and makes the calls that the library
- * has. Prints each case whose result differs, with both results, and finally how many passed. Cases
- * of other calls, and cases with a condition on memory or devices, are not run. A call that follows
- * the rule of its shape, in dist/src/shapes.inc, has its row from there. */
+/* Reads what cases/to_json.py --tabs prints, in the named file or on standard input, and makes the
+ * calls that the library has. Prints each case whose result differs, and what was found, and finally
+ * how many passed. Cases of other calls, and cases with a condition on memory or devices, are not
+ * run. A call that follows the rule of its shape, in dist/src/shapes.inc, has its row from there. */
 #include "dethrux.h"
 
-#include <ctype.h>
 #include <stdio.h>
 #include <stdlib.h>
 #include <string.h>
 
-enum { LINE = 1 << 16, WORDS = 1024, SHORT = 64, BLANK = 0xA5 };
+enum { LINE = 1 << 23, WORDS = 16, FIELDS = 6, SHORT = 64, BLANK = 0xA5 };
 
 /* Bytes that grow. */
 typedef struct {
@@ -59,69 +58,7 @@ static bool is_blank(const text *buffer, size_t from) {
     return true;
 }
 
-/* How values are spelled. Each of these returns whether the word between two places is well
- * spelled. */
-
-static void append_utf8(text *to, unsigned long c) {
-    if (c < 0x80) {
-        append_byte(to, (unsigned)c);
-        return;
-    }
-    if (c < 0x800) {
-        append_byte(to, 0xC0 | (unsigned)(c >> 6));
-    } else {
-        if (c < 0x10000) {
-            append_byte(to, 0xE0 | (unsigned)(c >> 12));
-        } else {
-            append_byte(to, 0xF0 | (unsigned)(c >> 18));
-            append_byte(to, 0x80 | (unsigned)(c >> 12 & 0x3F));
-        }
-        append_byte(to, 0x80 | (unsigned)(c >> 6 & 0x3F));
-    }
-    append_byte(to, 0x80 | (unsigned)(c & 0x3F));
-}
-
-static void append_unit(text *to, dethrux_byte_order order, unsigned unit) {
-    append_byte(to, order == DETHRUX_BIG_ENDIAN ? unit >> 8 : unit & 0xFF);
-    append_byte(to, order == DETHRUX_BIG_ENDIAN ? unit & 0xFF : unit >> 8);
-}
-
-static void append_utf16(text *to, dethrux_byte_order order, unsigned long c) {
-    if (c < 0x10000) {
-        append_unit(to, order, (unsigned)c);
-    } else {
-        append_unit(to, order, 0xD800 + (unsigned)((c - 0x10000) >> 10));
-        append_unit(to, order, 0xDC00 + (unsigned)((c - 0x10000) & 0x3FF));
-    }
-}
-
-/* A text in double quotes, in UTF-16 or in UTF-8. */
-static bool quoted(const char *at, const char *end, bool utf16, dethrux_byte_order order, text *to) {
-    if (end - at < 2 || *at != '"' || end[-1] != '"') {
-        return false;
-    }
-    for (at++, end--; at < end;) {
-        unsigned long c = (unsigned char)*at++;
-        if (c == '\\') {
-            char *behind;
-            if (end - at < 3 || at[0] != 'u' || at[1] != '{') {
-                return false;
-            }
-            c = strtoul(at + 2, &behind, 16);
-            if (behind >= end || *behind != '}') {
-                return false;
-            }
-            at = behind + 1;
-        }
-        if (utf16) {
-            append_utf16(to, order, c);
-        } else {
-            append_utf8(to, c);
-        }
-    }
-    return true;
-}
-
+/* Appends the bytes that a word has in hex. Returns whether it is well spelled. */
 static bool hex(const char *at, const char *end, text *to) {
     for (; end - at >= 2; at += 2) {
         char digits[3] = {at[0], at[1], 0}, *behind;
@@ -133,64 +70,9 @@ static bool hex(const char *at, const char *end, text *to) {
     return at == end;
 }
 
-/* Code units in hex; an odd byte at the end is unchanged. */
-static bool units(const char *at, const char *end, dethrux_byte_order order, text *to) {
-    size_t front = to->len;
-    if (!hex(at, end, to)) {
-        return false;
-    }
-    for (size_t i = front; order != DETHRUX_BIG_ENDIAN && i + 1 < to->len; i += 2) {
-        uint8_t high = to->bytes[i];
-        to->bytes[i] = to->bytes[i + 1];
-        to->bytes[i + 1] = high;
-    }
-    return true;
-}
-
-static bool part(const char *at, const char *end, dethrux_byte_order order, text *to) {
-    switch (at < end ? *at : 0) {
-    case '-': return end - at == 1;
-    case '~': return quoted(at + 1, end, true, order, to);
-    case '^': return units(at + 1, end, order, to);
-    case '"': return quoted(at, end, false, order, to);
-    default: return at < end && hex(at, end, to);
-    }
-}
-
-static const char *found_or_end(const char *at, const char *end, char c) {
-    const char *found = memchr(at, c, (size_t)(end - at));
-    return found == NULL ? end : found;
-}
-
-static bool has_parts(const char *at, const char *end) {
-    return at < end && isdigit((unsigned char)*at) && found_or_end(at, end, '*') != end;
-}
-
-/* Bytes, or repeated parts of them, separated by plus signs. */
-static bool spelled(const char *at, const char *end, dethrux_byte_order order, text *to) {
-    if (!has_parts(at, end)) {
-        return part(at, end, order, to);
-    }
-    while (at < end) {
-        const char *behind = found_or_end(at, end, '+');
-        char *star;
-        unsigned long count = strtoul(at, &star, 10);
-        text one = {0};
-        bool is = *star == '*' && part(star + 1, behind, order, &one);
-        while (is && count-- > 0) {
-            append(to, one.bytes, one.len);
-        }
-        free(one.bytes);
-        if (!is) {
-            return false;
-        }
-        at = behind + (behind < end);
-    }
-    return true;
-}
-
-static bool bytes_of(const char *word, dethrux_byte_order order, text *to) {
-    return spelled(word, word + strlen(word), order, to);
+/* The bytes of a word, or of a part of it. */
+static bool bytes_of(const char *at, const char *end, text *to) {
+    return (end - at == 1 && *at == '-') || hex(at, end, to);
 }
 
 /* The result of a call, in words separated by spaces. */
@@ -206,8 +88,8 @@ static void add_number(text *answer, size_t number) {
     add_word(answer, digits);
 }
 
-static void add_bytes(text *answer, const uint8_t *bytes, size_t len) {
-    add_word(answer, len > 0 ? "" : "-");
+static void add_hex(text *answer, const uint8_t *bytes, size_t len) {
+    append(answer, "-", len == 0);
     for (size_t i = 0; i < len; i++) {
         char digits[3];
         snprintf(digits, sizeof digits, "%02X", bytes[i]);
@@ -215,50 +97,18 @@ static void add_bytes(text *answer, const uint8_t *bytes, size_t len) {
     }
 }
 
-/* UTF-8 as a text: a quote, a backslash and what is not visible ASCII are spelled by their
- * number. */
+static void add_bytes(text *answer, const uint8_t *bytes, size_t len) {
+    add_word(answer, "");
+    add_hex(answer, bytes, len);
+}
+
 static void add_text(text *answer, const uint8_t *utf8, size_t len) {
-    add_word(answer, "\"");
-    for (size_t i = 0; i < len;) {
-        unsigned long c = utf8[i++];
-        size_t more = c < 0xC0 ? 0 : c < 0xE0 ? 1 : c < 0xF0 ? 2 : 3;
-        c &= more == 0 ? 0xFF : 0x3FU >> more;
-        for (; more > 0 && i < len; more--) {
-            c = c << 6 | (utf8[i++] & 0x3F);
-        }
-        if (c > 0x20 && c < 0x7F && strchr("\"'\\", (int)c) == NULL) {
-            append_byte(answer, (unsigned)c);
-        } else {
-            char number[16];
-            snprintf(number, sizeof number, "\\u{%lX}", c);
-            append(answer, number, strlen(number));
-        }
-    }
-    append(answer, "\"", 1);
+    add_word(answer, "utf8:");
+    add_hex(answer, utf8, len);
 }
 
 static void add_found(text *answer, bool is_text, const uint8_t *bytes, size_t len) {
     (is_text ? add_text : add_bytes)(answer, bytes, len);
-}
-
-/* The words of a table, with bytes instead of code units, texts of UTF-16 and parts. */
-static bool wanted(char **words, size_t count, dethrux_byte_order order, text *answer) {
-    for (size_t i = 0; i < count; i++) {
-        const char *word = words[i];
-        bool parts = has_parts(word, word + strlen(word));
-        if (parts || *word == '~' || *word == '^') {
-            text bytes = {0};
-            bool is = bytes_of(word, order, &bytes);
-            add_found(answer, parts && strstr(word, "*\"") != NULL, bytes.bytes, bytes.len);
-            free(bytes.bytes);
-            if (!is) {
-                return false;
-            }
-        } else {
-            add_word(answer, word);
-        }
-    }
-    return true;
 }
 
 static const char *const stops[] = {[DETHRUX_DONE] = "end", [DETHRUX_ILL_FORMED] = "ill_formed",
@@ -283,7 +133,7 @@ static void add_progress(text *answer, dethrux_progress found) {
 
 /* A value that is a number, or `max`. */
 static size_t number_of(const char *word) {
-    return strcmp(word, "max") == 0 ? SIZE_MAX : (size_t)strtoull(word, NULL, 0);
+    return strcmp(word, "max") == 0 ? SIZE_MAX : (size_t)strtoull(word, NULL, 10);
 }
 
 /* The types of the calls that have cases of one shape. */
@@ -786,9 +636,9 @@ static bool feed_only(decoder *by, const text *piece, size_t room, text *answer,
 /* Feeds a decoder the chunks that a word spells. */
 static bool feed_pieces(const char *word, over_pieces *feed_one, decoder *by, size_t room, text *answer, text *all) {
     for (const char *end = word + strlen(word), *at = word; at <= end;) {
-        const char *behind = found_or_end(at, end, ',');
+        const char *behind = at + strcspn(at, ",");
         text piece = {0};
-        bool is = spelled(at, behind, by->order, &piece);
+        bool is = bytes_of(at, behind, &piece);
         if (is && !feed_one(by, &piece, room, answer, all)) {
             add_word(answer, "stream");
         }
@@ -831,7 +681,7 @@ static bool call_lossy_feed(const task *it) {
     if (!finish_all(&by, &end)) {
         add_word(it->answer, "finish");
     }
-    add_word(it->answer, end.len > 0 ? "'\\u{FFFD}'" : "none");
+    add_word(it->answer, end.len > 0 ? "U+FFFD" : "none");
     free(end.bytes);
     return is;
 }
@@ -862,9 +712,9 @@ static void ask_make_well_formed(const task *it) {
 }
 
 /* The bytes that a value spells. Another value gets a word that no result has. */
-static text other_of(const char *value, dethrux_byte_order order, text *answer) {
+static text other_of(const char *value, text *answer) {
     text found = {0};
-    if (!bytes_of(value, order, &found)) {
+    if (!bytes_of(value, value + strlen(value), &found)) {
         add_word(answer, "ill spelled");
     }
     return found;
@@ -874,7 +724,7 @@ static text other_of(const char *value, dethrux_byte_order order, text *answer) 
 static void call_compare(const task *it) {
     dethrux_byte_order other =
         it->order == DETHRUX_BIG_ENDIAN ? DETHRUX_LITTLE_ENDIAN : DETHRUX_BIG_ENDIAN;
-    text second = other_of(it->values[1], it->order, it->answer);
+    text second = other_of(it->values[1], it->answer);
     int32_t found = dethrux_compare(
         it->order, it->raw.bytes, it->raw.len, it->order, second.bytes, second.len);
     add_word(it->answer, found < 0 ? "less" : found > 0 ? "greater" : "equal");
@@ -924,7 +774,7 @@ static bool call_shard_offset(const task *it) {
 }
 
 static void call_search(const task *it) {
-    text pattern = other_of(it->values[1], it->order, it->answer);
+    text pattern = other_of(it->values[1], it->answer);
     size_t found =
         it->by->search(it->order, it->raw.bytes, it->raw.len, pattern.bytes, pattern.len);
     if (found == DETHRUX_NOT_FOUND) {
@@ -1062,7 +912,8 @@ static bool make(task *it) {
         return it->by->make(it);
     }
     bool takes_more = it->by->with != NULL;
-    bool is = it->count == 1U + takes_more && bytes_of(it->values[0], it->order, &it->raw);
+    bool is = it->count == 1U + takes_more
+        && bytes_of(it->values[0], it->values[0] + strlen(it->values[0]), &it->raw);
     if (is) {
         (takes_more ? it->by->with : it->by->ask)(it);
     }
@@ -1070,47 +921,36 @@ static bool make(task *it) {
     return is;
 }
 
-/* Runs a case in a byte order and compares. */
-static void run(dethrux_byte_order order, const char *line, char **words, size_t said, size_t all) {
-    text found = {0}, should = {0};
-    task it = {call_of(words[2]), order, {0}, words + 3, said - 3, &found};
-    bool is = make(&it);
+/* Runs a line: a place, a call, a byte order, conditions, values and a result. */
+static void run_line(char *line) {
+    char *fields[FIELDS] = {line}, *words[WORDS];
+    text found = {0};
+    for (size_t i = 0; i < FIELDS; i++) {
+        char *end = fields[i] + strcspn(fields[i], "\t\r\n");
+        if (i + 1 < FIELDS) {
+            fields[i + 1] = end + (*end == '\t');
+        }
+        *end = 0;
+    }
+    const bool is_big = strcmp(fields[2], "be") == 0;
+    task it = {call_of(fields[1]), is_big ? DETHRUX_BIG_ENDIAN : DETHRUX_LITTLE_ENDIAN, {0}, words,
+        0, &found};
+    if (it.by == NULL || *fields[3] != 0) {
+        return;
+    }
+    for (char *word = strtok(fields[4], " "); word != NULL && it.count < WORDS;) {
+        words[it.count++] = word;
+        word = strtok(NULL, " ");
+    }
+    bool is = make(&it) && found.len == strlen(fields[5])
+        && memcmp(found.bytes, fields[5], found.len) == 0;
     made[it.by - calls]++;
-    is = wanted(words + said + 1, all - said - 1, order, &should) && is && same(&found, &should);
-    count(is, line);
+    count(is, fields[0]);
     if (!is) {
-        printf("   found in %s: %.*s\n", order == DETHRUX_BIG_ENDIAN ? "be" : "le", (int)found.len,
+        printf("   %s %s = %s\n   found: %.*s\n", fields[1], fields[2], fields[5], (int)found.len,
             (const char *)found.bytes);
     }
     free(found.bytes);
-    free(should.bytes);
-}
-
-/* Runs a line of a table: a name, a byte order, a call, its values, `=`, and its result. */
-static void run_line(const char *line) {
-    static char copy[LINE];
-    char *words[WORDS];
-    size_t all = 0, said = 0;
-    strcpy(copy, line);
-    for (char *word = strtok(copy, " \n"); word != NULL && all < WORDS; word = strtok(NULL, " \n")) {
-        said = said == 0 && strcmp(word, "=") == 0 ? all : said;
-        words[all++] = word;
-    }
-    bool is_other = all > 2 && (strchr(words[1], ';') != NULL || call_of(words[2]) == NULL);
-    if (all == 0 || *line == '#' || is_other) {
-        return;
-    }
-    bool little = all > 2 && strcmp(words[1], "be") != 0, big = all > 2 && strcmp(words[1], "le") != 0;
-    if (said < 3 || strchr(line, '\n') == NULL || (little && big && strcmp(words[1], "both") != 0)) {
-        count(false, line);
-        return;
-    }
-    if (little) {
-        run(DETHRUX_LITTLE_ENDIAN, line, words, said, all);
-    }
-    if (big) {
-        run(DETHRUX_BIG_ENDIAN, line, words, said, all);
-    }
 }
 
 /* What no case can express: what only C has. */
@@ -1301,25 +1141,15 @@ static bool is_version_of_parts(void) {
     return DETHRUX_VERSION == 2003004;
 }
 
-static void run_table(FILE *table) {
+int main(int words, char **names) {
     static char line[LINE];
+    FILE *table = words < 2 ? stdin : fopen(names[1], "r");
+    if (table == NULL) {
+        perror(names[1]);
+        return 1;
+    }
     while (fgets(line, sizeof line, table) != NULL) {
         run_line(line);
-    }
-}
-
-int main(int words, char **names) {
-    if (words < 2) {
-        run_table(stdin);
-    }
-    for (int i = 1; i < words; i++) {
-        FILE *table = fopen(names[i], "r");
-        if (table == NULL) {
-            perror(names[i]);
-            return 1;
-        }
-        run_table(table);
-        fclose(table);
     }
     for (size_t i = 0; i < CALLS; i++) {
         if (made[i] == 0) {

@@ -485,7 +485,7 @@ memory_in_cxx() {
     count 'the first program in C++ under valgrind' is_clean cpp_first /dev/null
 }
 
-cat "$top"/cases/*.txt > "$room/cases"
+"$top/cases/to_json.py" --tabs > "$room/cases"
 built=library
 headers=''
 level=-O2
