@@ -3,7 +3,7 @@ import { test } from "node:test";
 import { IllFormedError, isSupported, load, stringOf, unitsOf } from "dethrux";
 import { CALLS } from "../node_modules/dethrux/calls.js";
 import { be, camelCase, isIllFormed, le, replaced, utf8 } from "./common.mjs";
-import { isNode, isSame, ofNode, read, together } from "./common.mjs";
+import { isNode, isSame, ofNode, read } from "./common.mjs";
 
 const { readFileSync } = ofNode("node:fs");
 const { createServer } = ofNode("node:http");
@@ -30,36 +30,6 @@ const top = globalThis.process?.env.DETHRUX_TOP;
 // What a module of WebAssembly begins with.
 const HEAD = [0, 0x61, 0x73, 0x6d, 1, 0, 0, 0];
 
-// Units that make each kind of sequence: letters of each length in UTF-8, and surrogates.
-const UNITS = [0x61, 0x7f, 0x80, 0x7ff, 0x800, 0xd7ff, 0xd800, 0xdbff, 0xdc00, 0xdfff, 0xe000, 0xffff];
-
-/** Each string of up to three of these units. */
-function* strings() {
-    const units = ["", ...UNITS.map((it) => String.fromCharCode(it))];
-    for (const first of units) {
-        for (const second of units) {
-            for (const third of units) {
-                yield first + second + third;
-            }
-        }
-    }
-}
-
-/** Random numbers, the same each time. */
-function* random(seed) {
-    for (let state = seed; ; state = (Math.imul(state, 1103515245) + 12345) >>> 0) {
-        yield state >>> 8;
-    }
-}
-
-/** Random bytes, of which many are of surrogates. */
-function bytesOf(len, numbers) {
-    return Uint8Array.from({ length: len }, () => {
-        const number = numbers.next().value;
-        return number % 3 ? number >> 4 : 0xd8 + ((number >> 4) % 8);
-    });
-}
-
 test("the module has the calls of the header, and no others", () => {
     const names = WebAssembly.Module.exports(MODULE).map((it) => it.name);
     const wanted = Object.keys(CALLS).map((it) => `dethrux_${it}`);
@@ -79,54 +49,6 @@ test("the version is that of the tree", () => {
     assert.equal(dethrux.version(), major * 1000000 + minor * 1000 + patch);
     const { version } = JSON.parse(readFileSync(new URL("./package.json", import.meta.resolve("dethrux"))));
     assert.equal(version, `${major}.${minor}.${patch}`);
-});
-
-test("strings: isWellFormed, toWellFormed and Buffer", () => {
-    for (const text of strings()) {
-        const units = unitsOf(text);
-        assert.equal(stringOf(units), text);
-        assert.equal(dethrux.validate(units).status === "done", text.isWellFormed());
-        const repaired = units.slice();
-        dethrux.makeWellFormed(repaired);
-        assert.equal(stringOf(repaired), text.toWellFormed());
-        const bytes = isNode ? new Uint8Array(Buffer.from(text)) : utf8(text);
-        assert.deepEqual(dethrux.toUtf8Lossy(units).output, bytes);
-        assert.equal(dethrux.toUtf8LossyLen(units), bytes.length);
-        assert.deepEqual(dethrux.toUtf32Lossy(units).output, Uint32Array.from([...text.toWellFormed()], (it) => it.codePointAt(0)));
-    }
-});
-
-test("bytes: TextDecoder, whole and in streams", () => {
-    const numbers = random(7);
-    for (let round = 0; round < 3000; round += 1) {
-        const bytes = bytesOf(numbers.next().value % 40, numbers);
-        for (const [order, label] of [["le", "utf-16le"], ["be", "utf-16be"]]) {
-            const text = new TextDecoder(label, { ignoreBOM: true }).decode(bytes);
-            const found = dethrux.toUtf8Lossy(bytes, order);
-            assert.deepEqual(found.output, utf8(text));
-            const cut = numbers.next().value % (bytes.length + 1);
-            const decoder = dethrux.decoder(order);
-            const parts = [decoder.feed(bytes.subarray(0, cut)), decoder.feed(bytes.subarray(cut)), decoder.finish()];
-            assert.deepEqual(together(parts), found.output);
-        }
-    }
-});
-
-test("UTF-8: TextDecoder, whole and in streams", () => {
-    const numbers = random(8);
-    const starts = [0x41, 0x80, 0xbf, 0xc2, 0xe0, 0xed, 0xa0, 0xef, 0xf0, 0x9f, 0xf4, 0x90, 0xff];
-    for (let round = 0; round < 3000; round += 1) {
-        const bytes = Uint8Array.from({ length: numbers.next().value % 20 }, () => starts[numbers.next().value % starts.length]);
-        const text = new TextDecoder("utf-8", { ignoreBOM: true }).decode(bytes);
-        assert.equal(stringOf(dethrux.fromUtf8Lossy(bytes).output), text);
-        assert.deepEqual(dethrux.fromUtf8Lossy(bytes, "be").output, be(text));
-        const isWellFormed = !text.includes("\ufffd");
-        assert.equal(dethrux.fromUtf8(bytes).status === "done", isWellFormed);
-        const cut = numbers.next().value % (bytes.length + 1);
-        const encoder = dethrux.encoder();
-        const parts = [encoder.feed(bytes.subarray(0, cut)), encoder.feed(bytes.subarray(cut)), encoder.finish()];
-        assert.equal(parts.map(stringOf).join(""), text);
-    }
 });
 
 test("an error says where it is, in elements of the array", () => {

@@ -1,110 +1,58 @@
-// Stands for `node:assert/strict` in a browser: the functions of it that the tests use, with the
-// same rules. What they do not know, such as a Map in `deepEqual`, they refuse.
+// Stands for `node:assert/strict` in a browser: the functions of it that the tests use. The same
+// tests run in Node, which has the rules of `node:assert` itself.
 
-/** What is shown of a value. */
+/** What tells a value apart from others: its class, and what it has. */
 function shown(value) {
-    try {
-        return typeof value === "object" ? JSON.stringify(value).slice(0, 300) : String(value);
-    } catch {
-        return String(value);
+    if (typeof value === "bigint" || Object.is(value, -0)) {
+        return typeof value === "bigint" ? `${value}n` : "-0";
     }
-}
-
-function fail(message, words) {
-    if (message instanceof Error) {
-        throw message;
+    if (typeof value !== "object" || value === null) {
+        return typeof value === "string" ? JSON.stringify(value) : String(value);
     }
-    throw new Error(message ? `${message}: ${words}` : words);
-}
-
-/** Whether the keys of a value are all that it has: a plain object, an array, or a typed array. */
-function isOfKeys(value) {
-    return (
-        Array.isArray(value) ||
-        (ArrayBuffer.isView(value) && !(value instanceof DataView)) ||
-        [Object.prototype, null].includes(Object.getPrototypeOf(value))
-    );
-}
-
-/** Whether two values are the same, or have one prototype and, at the same keys, such values. */
-function isDeepEqual(found, wanted) {
-    if (Object.is(found, wanted)) {
-        return true;
-    }
-    if ([found, wanted].some((it) => typeof it !== "object" || it === null)) {
-        return false;
-    }
-    if (Object.getPrototypeOf(found) !== Object.getPrototypeOf(wanted)) {
-        return false;
-    }
-    if (!isOfKeys(wanted)) {
-        throw new Error(`deepEqual does not know ${Object.prototype.toString.call(wanted)}`);
-    }
-    const keys = Object.keys(wanted);
-    return (
-        found.length === wanted.length &&
-        Object.keys(found).length === keys.length &&
-        keys.every((it) => Object.hasOwn(found, it) && isDeepEqual(found[it], wanted[it]))
-    );
+    const fields = Object.keys(value).sort().map((it) => `${it}: ${shown(value[it])}`);
+    return `${value.constructor?.name} { ${fields.join(", ")} }`;
 }
 
 /** Whether an error is of a class, satisfies a function, matches a pattern, or has properties. */
 function isWanted(error, wanted) {
-    if (wanted instanceof RegExp) {
-        return wanted.test(String(error));
+    if (typeof wanted !== "function") {
+        return wanted instanceof RegExp
+            ? wanted.test(String(error))
+            : Object.keys(wanted).every((it) => shown(error[it]) === shown(wanted[it]));
     }
-    if (typeof wanted === "function") {
-        const isClass = wanted === Error || Error.isPrototypeOf(wanted);
-        return isClass ? error instanceof wanted : wanted(error) === true;
-    }
-    const keys = Object.keys(wanted);
-    if (!isOfKeys(wanted) || keys.length === 0) {
-        throw new Error(`throws does not know ${shown(wanted)}`);
-    }
-    return keys.every((it) => isDeepEqual(error[it], wanted[it]));
+    const isClass = wanted === Error || Error.isPrototypeOf(wanted);
+    return isClass ? error instanceof wanted : wanted(error) === true;
 }
 
-function check(error, wanted, message) {
-    if (!isWanted(error, wanted)) {
-        fail(message, `another error: ${error}`);
-    }
-}
-
-function ok(value, message) {
+function ok(value, message = "it is not true") {
     if (!value) {
-        fail(message, `${shown(value)} is not true`);
+        throw message instanceof Error ? message : new Error(message);
     }
+}
+
+function equal(found, wanted, message = "") {
+    const isEqual = Object.is(found, wanted);
+    ok(isEqual, isEqual || `${message} ${shown(found)}, not ${shown(wanted)}`.slice(0, 900));
+}
+
+async function rejects(promise, wanted) {
+    const [error] = await Promise.allSettled([promise]);
+    ok(error.status === "rejected" && isWanted(error.reason, wanted), `not thrown: ${wanted}`);
 }
 
 export default {
     ok,
-    equal(found, wanted, message) {
-        if (!Object.is(found, wanted)) {
-            fail(message, `${shown(found)}, not ${shown(wanted)}`);
-        }
-    },
-    deepEqual(found, wanted, message) {
-        if (!isDeepEqual(found, wanted)) {
-            fail(message, `${shown(found)}, not ${shown(wanted)}`);
-        }
-    },
-    match(text, pattern, message) {
-        ok(typeof text === "string" && pattern.test(text), message ?? `${text} is not ${pattern}`);
-    },
+    equal,
+    deepEqual: (found, wanted, message) => equal(shown(found), shown(wanted), message),
+    match: (text, pattern) => ok(pattern.test(text), `${text} is not ${pattern}`),
     throws(call, wanted, message) {
+        let error;
         try {
             call();
-        } catch (error) {
-            return check(error, wanted, message);
+        } catch (thrown) {
+            error = thrown;
         }
-        return fail(message, "nothing was thrown");
+        ok(error !== undefined && isWanted(error, wanted), message ?? `not thrown: ${wanted}: ${error}`);
     },
-    async rejects(promise, wanted, message) {
-        try {
-            await promise;
-        } catch (error) {
-            return check(error, wanted, message);
-        }
-        return fail(message, "nothing was thrown");
-    },
+    rejects,
 };
