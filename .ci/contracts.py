@@ -1,11 +1,10 @@
-# Reads the contracts in the sources of the crates: functions, types and traits, with their clauses
-# and their documentation. .ci/promises looks up what the documents name, and docs/html/crates.py
-# makes a page of each crate.
+# Reads the contracts in the sources of the crates: functions, types and traits, with their clauses.
+# .ci/promises looks up what the documents name.
 import glob
 import os
 import re
 import sys
-from collections import defaultdict, namedtuple
+from collections import defaultdict
 
 # The crates that a user depends on: no examples, no callers and no tests.
 LIBRARY = re.compile(r"utf16|utf8|dethrux")
@@ -16,24 +15,14 @@ TYPE = rf"{PUB}(?:unsafe )?(?:trait|struct|enum) (\w+)"
 IMPL = r"(?:unsafe )?impl\b(?:<.*?>(?= ))? (.*?) ?\{"
 BLOCK = re.compile(f"{TYPE}|{IMPL}")
 FUNCTION = re.compile(rf"(?P<deep>    )?{PUB}(?:(?:const|unsafe|final|extern \"C\") )*fn (\w+)")
-# What has neither clauses nor members.
-VALUE = re.compile(r"pub (?:const|static|type) (\w+)")
 CLAUSE = re.compile(
     r" +(?:requires|ensures)\*? (?:(?P<name>\w+) )?\{|    ghost (?P<member>\w+)(?: =|:) \{"
 )
-PUBLIC_MODULE = re.compile(r"^pub mod (\w+);", re.M)
-REEXPORT = re.compile(r"^pub use ([^;]*);", re.M)
-ALIAS = re.compile(r"^pub type (\w+)[^=]* = ([^;]*);", re.M)
-DOC = re.compile(r" *///(?: (.*))?$")
 USE = re.compile(r"^ *(?:ghost |pub )?use Rattle\.(\w+)\.specs\.(\w+)(?:\.\{(.*)\})?;?$", re.M)
 WORD = re.compile(r"[^\W\d][\w-]*")
 # What names something: in a source the word after such a word, in a module the first word.
 DECLARED = re.compile(r"\b(?:fn|struct|enum|trait|const|mod|type|ghost) (\w+)|pub use ([^;]*);")
 DEFINED = re.compile(r"^ *(?:(?:pub|abbrev|unfoldable|record|data|ruleset) +)*([^\s:({]+)", re.M)
-
-
-# A clause as it is written, with its file; a ghost member has the trait whose impl it is in.
-Clause = namedtuple("Clause", "name text path trait")
 
 
 def read(path):
@@ -49,19 +38,12 @@ class Item:
     """A function, a type, a trait or a trait's impl, with the texts of its clauses by name."""
 
     def __init__(self, crate, path, name, owner, trait, is_public):
-        self.crate, self.path, self.name, self.line = crate, path, name, 0
+        self.crate, self.path, self.name = crate, path, name
         self.owner, self.trait, self.is_public = owner, trait, is_public
         self.modules = path.split("/src/")[1][: -len(".rt")].split("/")
         self.scope = {crate, trait or owner, *self.modules}
         self.clauses = defaultdict(str)
-        self.written = []
         self.is_type = False
-        # The lines of the documentation.
-        self.docs = []
-
-    def add(self, clause):
-        self.clauses[clause.name] += clause.text
-        self.written.append(clause)
 
     def is_at(self, path):
         """Whether it can have this path. A function of a trait's impl has the trait's path."""
@@ -76,17 +58,11 @@ class Item:
 
 class Crate:
     def __init__(self, name):
-        self.name, self.items, self.values = name, [], []
+        self.name, self.items = name, []
         self.sources = files_below(f"crates/{name}/src", ".rt")
         self.specs = files_below(f"crates/{name}/specs", ".antt")
-        library = "".join(read(it) for it in self.sources if it.endswith("/src/lib.rt"))
-        self.public_modules = {*PUBLIC_MODULE.findall(library)}
-        self.reexported = {*WORD.findall(re.sub(r"\w+::", "", " ".join(REEXPORT.findall(library))))}
         for path in self.sources:
             self.add_items(path)
-            # Another crate reaches by an alias what it stands for.
-            for alias, kind in ALIAS.findall(read(path)):
-                self.reexported |= {*WORD.findall(kind)} if alias in self.reexported else set()
         self.add_members()
         proofs = files_below(f"crates/{name}/proofs", ".antt")
         self.names = set()
@@ -98,37 +74,22 @@ class Crate:
 
     def add_items(self, path):
         block = item = None
-        doc = []
         lines = read(path).split("\n")
         for at, line in enumerate(lines):
             if found := BLOCK.match(line):
-                block = item = self.add_item(self.block(path, found), doc)
-                item.line = at + 1
+                block = item = self.block(path, found)
+                self.items.append(item)
             elif found := FUNCTION.match(line):
                 item = self.function(path, found, block if found["deep"] else None)
-                self.add_item(item, doc)
-                item.line = at + 1
-            elif found := VALUE.match(line):
-                value = Item(self.name, path, found[1], None, None, True)
-                value.docs, value.line = doc, at + 1
-                self.values.append(value)
+                self.items.append(item)
             elif item and (found := CLAUSE.match(line)):
                 owner = block if found["member"] else item
                 name = found["name"] or found["member"] or ""
-                owner.add(Clause(name, text_of_clause(lines, at), path, owner.trait))
+                owner.clauses[name] += text_of_clause(lines, at)
             elif line.startswith("}"):
                 block = item = None
             elif re.match(r"(unsafe )?impl\b", line):
                 sys.exit(f"contracts: {path}:{at + 1}: this head of an impl has several lines")
-            if found := DOC.match(line):
-                doc.append(found[1] or "")
-            elif not line.lstrip().startswith(("#[", "//")):
-                doc = []
-
-    def add_item(self, item, doc):
-        item.docs = doc
-        self.items.append(item)
-        return item
 
     def block(self, path, found):
         is_public = found["pub"] == "pub "
@@ -154,39 +115,8 @@ class Crate:
             if it.trait in blocks and not blocks[it.trait].is_public:
                 it.is_public = False
             if it.is_public and it.trait and it.trait == it.name and it.owner in blocks:
-                for clause in it.written:
-                    blocks[it.owner].add(clause)
-
-    def exports(self, item):
-        """Whether another crate can name this item, if it is public.
-
-        A library exports what its public modules have and what it re-exports. A program, and the
-        library for C, have neither: they export all that is public.
-        """
-        if not (self.public_modules or self.reexported):
-            return True
-        own = {it.name for it in self.items if it.is_type}
-        name = item.trait if item.owner and item.owner not in own else item.owner or item.name
-        return name in self.reexported or item.modules[0] in self.public_modules
-
-    def public_items(self):
-        """What another crate can name: types, traits, calls and constants.
-
-        What an impl of a trait only repeats is where the trait is.
-        """
-        for it in (*self.items, *self.values):
-            is_own = it.name != it.trait and (not it.trait or it.clauses or it.docs)
-            if is_own and it.is_public and self.exports(it):
-                yield it
-
-    def title(self, item):
-        """The name by which another crate calls an item, in Markdown."""
-        if item.trait:
-            return f"`{item.trait}::{item.name}` of `{item.owner}`"
-        if item.owner:
-            return f"`{item.owner}::{item.name}`"
-        is_in_module = self.public_modules and item.name not in self.reexported
-        return f"`{'::'.join([*item.modules, item.name]) if is_in_module else item.name}`"
+                for name, text in it.clauses.items():
+                    blocks[it.owner].clauses[name] += text
 
 
 def text_of_clause(lines, at):

@@ -22,7 +22,7 @@ check 'what pages fetch' fetches_nothing
 CHROMIUM=$(first_of chromium chromium-browser google-chrome || echo chromium)
 export CHROMIUM
 pages=(docs/site/{index,README,search,docs/C,docs/PROMISES,bench/README,reference/dethrux}.html)
-pages+=(docs/site/{reference/dethrux_cxx,reference/python,rattle/utf16_str,man/utf16_cat}.html)
+pages+=(docs/site/{reference/dethrux_cxx,reference/python,man/utf16_cat}.html)
 check "chromium, in Debian's package chromium" command -v "$CHROMIUM" &&
     counts 'the pages in a browser' .ci/site_browser.py "${pages[@]}" docs/site/see/index.html
 finish

@@ -1,7 +1,7 @@
 #!/usr/bin/env bash
 # Builds docs/site from the tree with Sphinx: the documents, the references for C and C++ (which
-# Doxygen reads from the headers), for Python and for the crates of Rattle, and the programs' manual
-# pages. rustdoc writes the reference for Rust, and site/build.py the page that repairs files. A
+# Doxygen reads from the headers) and for Python, and the programs' manual pages. rustdoc writes the
+# references for Rust and for the proved crates, and site/build.py the page that repairs files. A
 # link without a target, a name without documentation and each other warning is a failure. It needs
 # the Debian packages python3-breathe, python3-myst-parser, python3-sphinx-rtd-theme, doxygen and
 # mandoc, and what the Python package and the Rust crates need.
@@ -16,7 +16,6 @@ git ls-files -z --cached --others --exclude-standard \
     '*.md' '*.svg' '*.png' '*.csv' VERSION ':!.github' | xargs -0 cp --parents -t "$room/source"
 cp docs/html/{conf.py,index.rst} "$room/source"
 cp docs/html/style.css "$room/source/static"
-docs/html/crates.py "$room/source/rattle" || status=1
 for page in crates/*/*.1; do
     name=$(basename "$page" .1)
     { printf '# `%s`\n\n' "$name" && mandoc -T markdown "$page" | sed 's/^#/##/'; } \
@@ -36,8 +35,24 @@ site/build.py "$room/source/extra/see/index.html" ../index.html
 git ls-files -z bindings/rust dist/rust | xargs -0 cp --parents -t "$room"
 settings=('source.crates-io.replace-with="debian"')
 settings+=('source.debian.directory="/usr/share/cargo/registry"')
-for crate in dethrux utf16string; do
-    (cd "$room/bindings/rust/$crate" && DOCS_RS=1 CARGO_TARGET_DIR=$room/target \
+# The proved crates are modules of one, each call with its contract.
+mkdir -p "$room/proved/src"
+{ echo '//! The proved crates as Rust. "Proved:" is the contract of a call.'
+    echo '#![allow(rustdoc::private_intra_doc_links, unexpected_cfgs)]'
+    echo 'extern crate alloc;'
+    echo '/// The crates.'
+    echo 'pub mod proved { use {memchr, simdutf8};'
+    for module in "$room"/dist/rust/{byteorder,kit,*/mod}.rs; do
+        name=${module#"$room/dist/rust/"}
+        [[ $name == @(utf|dethrux)* ]] && public='pub ' || public=
+        printf '#[path = "%s"] %smod %s;\n' "$module" "$public" "${name%%[/.]*}"
+    done
+    echo '}'; } > "$room/proved/src/lib.rs"
+printf '%s\n' '[package]' 'name = "proved"' "version = \"$(< VERSION)\"" 'edition = "2021"' \
+    '[features]' 'std = []' '[dependencies]' 'memchr = { version = "2.4", default-features = false }' \
+    'simdutf8 = { version = "0.1.4", default-features = false }' > "$room/proved/Cargo.toml"
+for crate in bindings/rust/{dethrux,utf16string} proved; do
+    (cd "$room/$crate" && DOCS_RS=1 CARGO_TARGET_DIR=$room/target \
         RUSTDOCFLAGS="-D warnings" cargo doc --quiet --no-deps --offline \
         "${settings[@]/#/--config=}") || status=1
 done
