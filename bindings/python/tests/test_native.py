@@ -178,37 +178,6 @@ class Blocks(Comparison):
                     for order, errors in itertools.product(CODECS, handlers):
                         self.assert_encoded(text, order, errors)
 
-    def test_a_handler_that_jumps(self):
-        """Once it resumes before or after the error, in another block, and at odd offsets."""
-        text = "a" * self.UNITS + "\udc00" + "\u4e00" * self.UNITS + "\ud800" + "\U0001f600" * 9
-        for order, codec in CODECS.items():
-            raw = text.encode(codec, "surrogatepass")
-            for place in (0, 1, 2, BLOCK - 1, BLOCK, BLOCK + 1, BLOCK + 2, BLOCK + 3, 2 * BLOCK):
-                for at in (place, place - len(raw), len(raw), -1, len(raw) + 1, -len(raw) - 1):
-                    for answer in ("", "?", "\xe9", "\u4e00" * 3, "\U0001f600" * self.UNITS):
-                        places = []
-
-                        def jump(error):
-                            is_first = not places or places[0] is not error
-                            places[:] = [error]
-                            return answer, at if is_first else error.end
-
-                        codecs.register_error("dethrux.test.jump", jump)
-                        self.assert_decoded(raw, order, "dethrux.test.jump")
-
-    def test_a_handler_that_changes_the_input(self):
-        for order, codec in CODECS.items():
-            raw = ("a" * self.UNITS + "\udc00").encode(codec, "surrogatepass")
-            for other in (b"", b"a", raw + b"\0" * BLOCK, ("\u4e00" * BLOCK).encode(codec)):
-                for at in (0, 1, len(raw), -1):
-
-                    def change(error):
-                        first, error.object = error.object == raw, other
-                        return "\xe9", at if first else error.end
-
-                    codecs.register_error("dethrux.test.other", change)
-                    self.assert_decoded(raw, order, "dethrux.test.other")
-
 
 class Functions(unittest.TestCase):
     """Their names, their types, and arguments that do not fit."""
@@ -611,26 +580,6 @@ class Memory(unittest.TestCase):
             # Python itself also takes and drops references to these.
             for each, count in zip(singletons, others):
                 self.assertLess(abs(sys.getrefcount(each) - count), 10, (function, given, each))
-
-    def test_wrong_results_of_handlers(self):
-        """What a handler returns is released, also if its items are wrong."""
-        wrong = [(), ("?",), ("?", "x"), ("?", None), (None, 2), (5, 2), ("?", 2, 3), ["?", 2]]
-        wrong += [(object(), 2), ("?", 1 << 99), ("?", 99), ("?", -99)]
-        calls = [
-            (C["decode"], (b"\0\xdc", "little")),
-            (C["encode"], ("\udc00", "little")),
-            *((C[name], (b"\0\xdc\xdc\0",)) for name in C if "_16_" in name and "_decode" in name),
-            *((C[name], ("\udc00",)) for name in C if name.endswith("_encode")),
-        ]
-        for result, (function, given) in itertools.product(wrong, calls):
-            codecs.register_error("dethrux.test.wrong", lambda error, result=result: result)
-            kept = [result, *(each for each in result if type(each) is object)]
-            before = [sys.getrefcount(each) for each in kept]
-            for _ in range(20):
-                with self.assertRaises((TypeError, OverflowError, IndexError)):
-                    function(*given, "dethrux.test.wrong")
-            after = [sys.getrefcount(each) for each in kept]
-            self.assertEqual(after, before, (function, result))
 
     def test_no_leak(self):
         calls = [each for each in self.calls() if sys.getsizeof(each[1][0]) < LONG]
