@@ -9,37 +9,14 @@
 # dethrux_alloc.h: examples/slips runs this for a wrong line in a header that no shorter test finds.
 set -uo pipefail
 here=$(cd "$(dirname "$0")" && pwd)
-top=$here/../..
+. "$here/../../.ci/checks.sh"
 archive=$top/crates/dethrux/out/libdethrux.a
-room=$(mktemp -d)
-trap 'rm -rf "$room"' EXIT
-passed=0
-failed=0
 
-# What a step did, by the last line that it printed, or as one that passed or failed.
-count() {
-    local name=$1 last
-    shift
-    if "$@" > "$room/said" 2>&1; then
-        last=$(tail -n 1 "$room/said")
-        if [[ $last =~ ^([0-9]+)\ passed,\ ([0-9]+)\ failed$ ]]; then
-            passed=$((passed + BASH_REMATCH[1]))
-            failed=$((failed + BASH_REMATCH[2]))
-        else
-            passed=$((passed + 1))
-        fi
-    else
-        failed=$((failed + 1))
-        echo "failed: $name"
-        tail -n 20 "$room/said"
-        [ -z "$headers" ] || { result; exit 1; }
-        return 1
-    fi
-}
-
-result() {
-    echo "$passed passed, $failed failed"
-    [ $failed = 0 ]
+# Counts a step. With --headers the first one that fails ends this.
+try() {
+    count "$@" && return
+    [ -z "$headers" ] || finish
+    return 1
 }
 
 # Builds the static library over what rt has kept of the crates below it.
@@ -55,13 +32,6 @@ library_over_ci() {
     else
         "$top/.ci/compile.sh" llvm dethrux "$archive"
     fi
-}
-
-has() {
-    command -v "$1" > /dev/null && return
-    failed=$((failed + 1))
-    echo "failed: $2: there is no $1"
-    return 1
 }
 
 # A program of this folder, in C99 or, with the types of <uchar.h>, C11.
@@ -341,80 +311,80 @@ resumes() {
 }
 
 test_c() {
-    count 'a program that ignores results' write_ignored dethrux "$room"
-    count 'ignored results in C' warns "$room/ignored.c" cc -std=c99
-    count 'ignored results in C23' warns "$room/ignored.c" clang "${c23[@]}"
-    count 'ignored results in C23 by its attribute' warns_by_standard "${c23[@]}"
-    count 'all results are ignored' calls_all dethrux "$room/ignored.c"
-    count 'all functions are checked' checks_all
-    count 'two files in C' in_two_files cc -std=c99 -include dethrux.h "$here/first.c" "$room/ignored.c"
-    count 'enums of one byte' refuses_short_enums
-    count 'the byte order of a machine' is_native 1234 LITTLE
-    count 'the byte order of another machine' is_native 4321 BIG
-    count 'the program in C' in_c decode && count 'a file in chunks' decodes && count 'a file by its byte order' decodes_by_word
-    count 'the program of the header' in_comment && count 'the program of the header, in chunks' comment_decodes
-    count 'the first program in C' in_c first && count 'the page for C' prints_page first C
-    count 'the program of the README' in_c resume && count 'resuming' resumes
+    try 'a program that ignores results' write_ignored dethrux "$room"
+    try 'ignored results in C' warns "$room/ignored.c" cc -std=c99
+    try 'ignored results in C23' warns "$room/ignored.c" clang "${c23[@]}"
+    try 'ignored results in C23 by its attribute' warns_by_standard "${c23[@]}"
+    try 'all results are ignored' calls_all dethrux "$room/ignored.c"
+    try 'all functions are checked' checks_all
+    try 'two files in C' in_two_files cc -std=c99 -include dethrux.h "$here/first.c" "$room/ignored.c"
+    try 'enums of one byte' refuses_short_enums
+    try 'the byte order of a machine' is_native 1234 LITTLE
+    try 'the byte order of another machine' is_native 4321 BIG
+    try 'the program in C' in_c decode && try 'a file in chunks' decodes && try 'a file by its byte order' decodes_by_word
+    try 'the program of the header' in_comment && try 'the program of the header, in chunks' comment_decodes
+    try 'the first program in C' in_c first && try 'the page for C' prints_page first C
+    try 'the program of the README' in_c resume && try 'resuming' resumes
 }
 
 check_in_c() {
-    count 'the check in C' in_c check && count 'the cases in C' check_c
-    count 'the check of code units' in_c units c11 && count 'code units in C' "$room/units"
+    try 'the check in C' in_c check && try 'the cases in C' check_c
+    try 'the check of code units' in_c units c11 && try 'code units in C' "$room/units"
 }
 
 memory_in_c() {
     { for _ in {1..300}; do printf 'a\0\x4E\0\xD8'; done; } > "$room/odd"
-    count 'decode under valgrind' is_clean decode "$room/odd" le
-    count 'the program of the header under valgrind' is_clean comment "$room/odd"
-    count 'the check in C under valgrind' is_clean check "$room/cases"
-    count 'code units under valgrind' is_clean units /dev/null
-    count 'memory under valgrind' is_clean alloc /dev/null
-    count 'a field under valgrind' is_clean field /dev/null
+    try 'decode under valgrind' is_clean decode "$room/odd" le
+    try 'the program of the header under valgrind' is_clean comment "$room/odd"
+    try 'the check in C under valgrind' is_clean check "$room/cases"
+    try 'code units under valgrind' is_clean units /dev/null
+    try 'memory under valgrind' is_clean alloc /dev/null
+    try 'a field under valgrind' is_clean field /dev/null
     head -c -1 "$room/cut" > "$room/whole"
-    count 'the program of the README under valgrind' is_clean resume "$room/whole"
-    count 'the first program under valgrind' is_clean first /dev/null
+    try 'the program of the README under valgrind' is_clean resume "$room/whole"
+    try 'the first program under valgrind' is_clean first /dev/null
 }
 
 # Sanitizers find no fault in the tables, and report each wrong argument.
 test_sanitizers() {
     local with
     for with in 'gcc address,undefined' 'gcc thread' 'clang address,undefined' 'clang memory'; do
-        count "the cases by $with" sanitized $with check check_c sanitized
-        count "memory by $with" sanitized $with alloc "$room/sanitized"
+        try "the cases by $with" sanitized $with check check_c sanitized
+        try "memory by $with" sanitized $with alloc "$room/sanitized"
     done
-    count 'what calls write, by MemorySanitizer' sanitized clang memory resume resumes sanitized
-    count 'what decoders write, by MemorySanitizer' sanitized clang memory decode decodes sanitized
-    count 'wrong arguments by gcc' sanitized gcc address misuse reports_misuse 1
-    count 'wrong arguments by clang' sanitized clang address misuse reports_misuse 7
-    count 'UTF-32 that was written' is_silent clang++ memory dethrux.h \
+    try 'what calls write, by MemorySanitizer' sanitized clang memory resume resumes sanitized
+    try 'what decoders write, by MemorySanitizer' sanitized clang memory decode decodes sanitized
+    try 'wrong arguments by gcc' sanitized gcc address misuse reports_misuse 1
+    try 'wrong arguments by clang' sanitized clang address misuse reports_misuse 7
+    try 'UTF-32 that was written' is_silent clang++ memory dethrux.h \
         'uint32_t to[2]; (void)dethrux_to_utf32(DETHRUX_LITTLE_ENDIAN, "a\\0b", 4, to, 2)' \
         'dethrux_validate_utf32(to, 2).status'
-    count 'a byte after those that were written' reports clang++ memory dethrux.h \
+    try 'a byte after those that were written' reports clang++ memory dethrux.h \
         'char to[3]; (void)dethrux_to_utf8(DETHRUX_LITTLE_ENDIAN, "a", 2, to, 3)' \
         'dethrux_is_ascii(DETHRUX_LITTLE_ENDIAN, to, 2)'
-    count 'a state that is too short' reports g++ address dethrux.h \
+    try 'a state that is too short' reports g++ address dethrux.h \
         'char to[9]; dethrux_decoder *state = (dethrux_decoder *)new char[3]()' \
         'dethrux_decoder_feed(state, DETHRUX_LITTLE_ENDIAN, "a", 2, to, 9).written'
-    count 'a byte that is not set' reports clang++ memory dethrux.h 'char text[2]; text[0] = 0' \
+    try 'a byte that is not set' reports clang++ memory dethrux.h 'char text[2]; text[0] = 0' \
         'dethrux_is_ascii(DETHRUX_BIG_ENDIAN, text, 2)'
-    count 'a NUL whose last byte is not set' reports clang++ memory dethrux.h \
+    try 'a NUL whose last byte is not set' reports clang++ memory dethrux.h \
         'char text[6] = {1}; __msan_poison(text + 3, 1)' 'dethrux_nul_offset(text, 6)'
-    count 'a view that is too long' reports g++ address dethrux.hpp 'std::string text(40, 0)' \
+    try 'a view that is too long' reports g++ address dethrux.hpp 'std::string text(40, 0)' \
         'dethrux::to_utf8_lossy(dethrux::byte_order::big, dethrux::bytes(text.data(), 42)).size()'
-    count 'no casts with a sanitizer' casts_nothing -fsanitize=address
-    level=-fsanitize=address,undefined count 'C++ by sanitizers' in_cxx g++ c++17 check &&
-        count 'the check in C++ by sanitizers' "$room/cpp_check"
+    try 'no casts with a sanitizer' casts_nothing -fsanitize=address
+    level=-fsanitize=address,undefined try 'C++ by sanitizers' in_cxx g++ c++17 check &&
+        try 'the check in C++ by sanitizers' "$room/cpp_check"
 }
 
 # The header for C, in C++.
 test_c_in_cxx() {
-    count 'the header in C++' header_in_cxx
-    count 'ignored results of the header in C++' warns "$room/ignored.c" c++ -std=c++17 -x c++
-    count 'ignored results in C++17 by its attribute' warns_by_standard -std=c++17 -x c++
-    count 'code units of another size in C++' refuses_other_sizes dethrux.h \
+    try 'the header in C++' header_in_cxx
+    try 'ignored results of the header in C++' warns "$room/ignored.c" c++ -std=c++17 -x c++
+    try 'ignored results in C++17 by its attribute' warns_by_standard -std=c++17 -x c++
+    try 'code units of another size in C++' refuses_other_sizes dethrux.h \
         'bool is(const UNIT *text) { return dethrux_u16_is_ascii(text, 1); }' \
         'void swap(UNIT *text) { dethrux_u16_swap_byte_order(text, 1); }'
-    count 'the check of code units in C++' c_in_cxx units && count 'code units in C++' "$room/units_cxx"
+    try 'the check of code units in C++' c_in_cxx units && try 'code units in C++' "$room/units_cxx"
 }
 
 # Whether a header gives no warning, in each standard.
@@ -448,41 +418,41 @@ prints_field() {
 # dethrux_alloc.h, in C and in C++.
 test_alloc() {
     local ignored=$room/alloc_calls/ignored.c
-    count 'the check of memory' in_c alloc && count 'memory in C' "$room/alloc"
-    count 'the check of memory in C++' c_in_cxx alloc && count 'memory in C++' "$room/alloc_cxx"
-    count 'memory of another size in C++' refuses_other_sizes dethrux_alloc.h \
+    try 'the check of memory' in_c alloc && try 'memory in C' "$room/alloc"
+    try 'the check of memory in C++' c_in_cxx alloc && try 'memory in C++' "$room/alloc_cxx"
+    try 'memory of another size in C++' refuses_other_sizes dethrux_alloc.h \
         'std::size_t len(const UNIT *text) { return dethrux_u16_strlen(text); }'
-    count 'the program with a field' in_c field && count 'a field' prints_field
-    count 'no warnings of memory' has_no_warning && count 'half an allocator' refuses_allocators
-    count 'a program that ignores memory' write_ignored dethrux_alloc "${ignored%/*}"
-    count 'ignored memory in C' warns "$ignored" cc -std=c99
-    count 'ignored memory in C++' warns "$ignored" c++ -std=c++17 -x c++
-    count 'all memory is ignored' calls_all dethrux_alloc "$ignored"
-    count 'all calls of memory are checked' calls_all dethrux_alloc "$here/alloc.c"
-    count 'memory in two files' in_two_files cc -std=c99 -include dethrux_alloc.h "$here/field.c" "$ignored"
+    try 'the program with a field' in_c field && try 'a field' prints_field
+    try 'no warnings of memory' has_no_warning && try 'half an allocator' refuses_allocators
+    try 'a program that ignores memory' write_ignored dethrux_alloc "${ignored%/*}"
+    try 'ignored memory in C' warns "$ignored" cc -std=c99
+    try 'ignored memory in C++' warns "$ignored" c++ -std=c++17 -x c++
+    try 'all memory is ignored' calls_all dethrux_alloc "$ignored"
+    try 'all calls of memory are checked' calls_all dethrux_alloc "$here/alloc.c"
+    try 'memory in two files' in_two_files cc -std=c99 -include dethrux_alloc.h "$here/field.c" "$ignored"
 }
 
 test_cxx() {
     local compiler standard
-    count 'no casts in C++' casts_nothing
-    count 'a program that ignores results in C++' write_ignored_in_cxx "$room/cxx_calls"
-    count 'ignored results in C++' warns "$room/cxx_calls/ignored.cpp" c++ -std=c++17
-    count 'the first program in C++' in_cxx c++ c++17 first && count 'the page for C++' prints_page cpp_first CPP
-    count 'two files in C++' in_two_files c++ -std=c++17 -include dethrux.hpp \
+    try 'no casts in C++' casts_nothing
+    try 'a program that ignores results in C++' write_ignored_in_cxx "$room/cxx_calls"
+    try 'ignored results in C++' warns "$room/cxx_calls/ignored.cpp" c++ -std=c++17
+    try 'the first program in C++' in_cxx c++ c++17 first && try 'the page for C++' prints_page cpp_first CPP
+    try 'two files in C++' in_two_files c++ -std=c++17 -include dethrux.hpp \
         "$top/examples/cpp/first.cpp" "$room/cxx_calls/ignored.cpp"
-    count 'calls that are refused in C++' refuses_in_cxx
+    try 'calls that are refused in C++' refuses_in_cxx
     for compiler in "${compilers[@]}"; do
-        has "$compiler" "C++ by $compiler" || continue
+        need "$compiler:${compiler/clang++/clang}" || continue
         for standard in "${standards[@]}"; do
-            count "the check by $compiler in $standard" in_cxx "$compiler" "$standard" check &&
-                count "C++ by $compiler in $standard" "$room/cpp_check"
+            try "the check by $compiler in $standard" in_cxx "$compiler" "$standard" check &&
+                try "C++ by $compiler in $standard" "$room/cpp_check"
         done
     done
 }
 
 memory_in_cxx() {
-    count 'the check in C++ under valgrind' is_clean cpp_check /dev/null
-    count 'the first program in C++ under valgrind' is_clean cpp_first /dev/null
+    try 'the check in C++ under valgrind' is_clean cpp_check /dev/null
+    try 'the first program in C++ under valgrind' is_clean cpp_first /dev/null
 }
 
 "$top/cases/to_json.py" --tabs > "$room/cases"
@@ -498,17 +468,14 @@ case "${1-}" in
     --headers) built=true headers=$2 level=-O0 compilers=(g++) standards=(c++2b) ;;
 esac
 ("$built") > "$room/said" 2>&1 || { tail -n 20 "$room/said"; echo "0 passed, 1 failed"; exit 1; }
-if ! has cc 'C' || ! has c++ 'C++'; then
-    result
-    exit
-fi
+need cc:gcc c++:g++ || finish
 case $headers in
     '' | c) test_c; test_c_in_cxx; check_in_c ;;&
     '' | alloc) test_alloc ;;&
     '' | c | c++) test_cxx ;;
 esac
 if [ -z "$headers" ]; then
-    has valgrind 'memory in C and C++' && memory_in_c && memory_in_cxx
+    need valgrind:valgrind && memory_in_c && memory_in_cxx
     [ "${1-}" = --library ] || test_sanitizers
 fi
-result
+finish
