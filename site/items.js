@@ -116,8 +116,7 @@ function itemsBetween(start, bytes, len) {
         from = at + 1;
     }
     add(bytes.length);
-    const isStream = inside.length === 0 && report.order !== "utf8";
-    return { items: items.filter((it) => it.at < len), isStream };
+    return items.filter((it) => it.at < len);
 }
 
 /** Returns the error at an offset: its bytes, and why it is one. */
