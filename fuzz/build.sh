@@ -1,8 +1,8 @@
 #!/usr/bin/env bash
 # Builds the harness: fuzz/build.sh COMPILER PROGRAM [ARGUMENT..]. The compiler gets the further
 # arguments. LIBRARY may name a static library to use instead of the library in crates/dethrux.
-# PEERS=no leaves out ICU and iconv, which another processor's C library may not have, and COUNTS=no
-# the counts of counts.c, which are for x86-64. If a tool or a file is missing, one line says so.
+# COUNTS=no leaves out the counts of counts.c, which are for x86-64. If a tool or a file is missing,
+# one line says so.
 set -euo pipefail
 cd "$(dirname "$0")"
 archive=${LIBRARY:-../crates/dethrux/out/libdethrux.a}
@@ -17,14 +17,6 @@ refuse() {
 
 command -v "$compiler" > /dev/null || refuse "$compiler is missing: install gcc"
 [ -e "$archive" ] || refuse "$archive is missing: run rt lib in crates/dethrux"
-if [ "${PEERS:-yes}" = no ]; then
-    peers=(-DWITHOUT_PEERS)
-else
-    peers=(peers.c -licuuc)
-    echo '#include <unicode/ucnv.h>' | "$compiler" -E - > /dev/null 2>&1 ||
-        refuse 'the headers of ICU are missing: install libicu-dev'
-fi
-
 made=$(dirname "$program")
 mkdir -p "$made"
 if [ "${COUNTS:-yes}" = no ]; then
@@ -38,5 +30,4 @@ else
     done
 fi
 "$compiler" -std=gnu11 -O2 -g -Wall -Wextra -Werror -I../dist/include -o "$program" \
-    checks.c guarded.c harness.c input.c reference.c "$@" "${counts[@]}" "$archive" \
-    "${peers[@]}"
+    checks.c guarded.c harness.c input.c reference.c "$@" "${counts[@]}" "$archive"

@@ -1,17 +1,12 @@
 #include "checks.h"
 
 #include "guarded.h"
-#include "peers.h"
 
-#include <errno.h>
 #include <stdio.h>
 #include <string.h>
 
 /* Lines of a difference, and the hexadecimal digits of a text that it shows. */
 enum { LINE_MAX_LEN = 1024, SHOWN_MAX = 48 };
-
-/* The longest form of UTF-8 that glibc knows. */
-enum { GLIBC_FORM_MAX = 6 };
 
 /* The capacity of a call without `to`. */
 static const size_t NO_OUTPUT = SIZE_MAX;
@@ -953,67 +948,7 @@ static void check_nul_offset(void) {
     }
 }
 
-#ifndef WITHOUT_PEERS
-/* The peers. */
-
-typedef size_t icu_call(dethrux_byte_order order, const uint8_t *bytes, size_t len, uint8_t *to,
-                        size_t capacity);
-
-/* ICU writes the text, in code units of this many bytes. */
-static void check_icu(icu_call *call, const void *bytes, size_t len, const decoded *text,
-                      size_t size) {
-    static uint8_t out[4 * TEXT_MAX];
-    size_t out_len = call(in.order, bytes, len, out, sizeof out);
-    expect("written", size * text->out_len, out_len);
-    expect_bytes("text", text->out, out, out_len);
-}
-CHECK(icu_to_utf8, check_icu(icu_utf16_to_utf8, in.text, in.len, &from_utf16, 1))
-CHECK(icu_from_utf8, check_icu(icu_utf8_to_utf16, in.text, in.len, &from_utf8, 1))
-CHECK(icu_to_utf32, check_icu(icu_utf16_to_utf32, in.text, in.len, &to_utf32, 4))
-CHECK(icu_from_utf32, check_icu(icu_utf32_to_utf16, utf32, 4 * utf32_len, &from_utf32, 1))
-CHECK(icu_from_latin1, check_icu(icu_latin1_to_utf16, in.text, in.len, &from_latin1, 1))
-
-typedef void iconv_call(dethrux_byte_order order, const uint8_t *bytes, size_t len,
-                        iconv_result *to);
-
-/* glibc takes bytes at the end for incomplete by the first one, such as E0 80, or F8 88 80 80
- * of a form that Unicode does not have. There its EINVAL agrees with ill-formed bytes too. */
-static bool errno_agrees(int error, dethrux_status status, bool at_end) {
-    switch (status) {
-    case DETHRUX_DONE:
-        return error == 0;
-    case DETHRUX_ILL_FORMED:
-        return error == EILSEQ || (error == EINVAL && at_end);
-    default:
-        return error == EINVAL;
-    }
-}
-
-static void check_iconv(iconv_call *call, const decoded *text) {
-    static iconv_result want;
-    dethrux_progress got = expected_progress(text, STRICT, text->out_len);
-    call(in.order, in.text, in.len, &want);
-    expect("read", got.read, want.read);
-    expect("written", got.written, want.out_len);
-    expect_bytes("text", text->out, want.out, got.written);
-    bool at_end = in.len - got.read < GLIBC_FORM_MAX;
-    expect_that("errno agrees", errno_agrees(want.error, got.status, at_end));
-}
-
-CHECK(iconv_to_utf8, check_iconv(iconv_utf16_to_utf8, &from_utf16))
-CHECK(iconv_from_utf8, check_iconv(iconv_utf8_to_utf16, &from_utf8))
-#endif
-
 const check CHECKS[] = {
-#ifndef WITHOUT_PEERS
-    {"ICU, UTF-16 to UTF-8", check_icu_to_utf8},
-    {"ICU, UTF-8 to UTF-16", check_icu_from_utf8},
-    {"ICU, UTF-16 to UTF-32", check_icu_to_utf32},
-    {"ICU, UTF-32 to UTF-16", check_icu_from_utf32},
-    {"ICU, Latin-1 to UTF-16", check_icu_from_latin1},
-    {"iconv, UTF-16 to UTF-8", check_iconv_to_utf8},
-    {"iconv, UTF-8 to UTF-16", check_iconv_from_utf8},
-#endif
     {"WTF-8 and back", check_wtf8_and_back},
 #undef CONVERSION
 #undef STREAM

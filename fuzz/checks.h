@@ -1,12 +1,11 @@
-/* The checks that are made on each input: one for each call of the library, and some that compare
- * the reference with ICU and iconv. */
+/* The checks that are made on each input: one for each call of the library, and one of WTF-8. */
 #ifndef CHECKS_H
 #define CHECKS_H
 
 #include "input.h"
 
 typedef struct {
-    const char *name; /* of the call or the peer */
+    const char *name; /* of the call */
     void (*run)(void);
 } check;
 

@@ -1,4 +1,4 @@
-/* Calls libdethrux on inputs and compares what it returns with a reference decoder, ICU and iconv.
+/* Calls libdethrux on inputs and compares what it returns with a reference decoder.
  *
  *   harness                         reads one input on standard input
  *   harness FILE..                  reads each file as one input
@@ -8,11 +8,10 @@
  * A difference, or an access outside of a buffer, is printed with the input as digits for --hex.
  * Then the process aborts; with --random it continues with the other checks.
  *
- * With --random a call that was never made is a failure. WITHOUT_PEERS leaves ICU and iconv out,
- * and WITHOUT_COUNTS the counts of calls, which a cross compiler may not have. */
+ * With --random a call that was never made is a failure. WITHOUT_COUNTS leaves out the counts of
+ * calls, which a cross compiler may not have. */
 #include "checks.h"
 #include "guarded.h"
-#include "peers.h"
 
 #include <setjmp.h>
 #include <signal.h>
@@ -97,9 +96,6 @@ static int run_random(uint64_t seed, time_t seconds) {
     size_t failures = 0, idle = 0;
     current.resumes = true;
     printf("seed %llu\n", (unsigned long long)seed);
-#ifndef WITHOUT_PEERS
-    print_peers();
-#endif
     for (time_t end = time(NULL) + seconds; time(NULL) < end; inputs++) {
         run_checks(bytes, generate_input(&seed, bytes), failed);
     }
@@ -153,9 +149,6 @@ static int run_hex(const char *digits) {
 int main(int argc, char **argv) {
     program = argv[0];
     guarded_init();
-#ifndef WITHOUT_PEERS
-    peers_init();
-#endif
     catch_faults();
     if (argc == 1) {
         return run_file(stdin);

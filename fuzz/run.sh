@@ -2,8 +2,8 @@
 # Calls libdethrux on random inputs for a minute, and tests that the harness finds the wrong
 # versions of planted.c: fuzz/run.sh [--seconds N] [--seed N] [--library FILE] [--arm64]. FILE is a
 # static library to use instead of the library in crates/dethrux. With --arm64 it is a library for
-# ARM64, and the harness runs under qemu-aarch64, without the peers. Each call of the library, each
-# peer and each planted version counts as one. The last line is 'N passed, M failed'.
+# ARM64, and the harness runs under qemu-aarch64. Each call of the library and each planted version
+# counts as one. The last line is 'N passed, M failed'.
 set -uo pipefail
 from=$PWD
 cd "$(dirname "$0")" || exit 1
@@ -36,7 +36,7 @@ while [ $# != 0 ]; do
             compiler=aarch64-linux-gnu-gcc
             start=(qemu-aarch64 -L /usr/aarch64-linux-gnu)
             planting=40
-            export PEERS=no COUNTS=no
+            export COUNTS=no
             shift
             continue
             ;;
