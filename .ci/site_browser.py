@@ -1,18 +1,12 @@
-#!/usr/bin/env python3
-# Opens pages in headless Chromium. Each must load without an error on its console, a request that
-# fails and a request to another machine, and it must show its pictures. A dark theme must change
-# the colours, and a page must be no wider than a window of 360 pixels. Prints what is not so, and
-# last a line 'N passed, M failed', which counts pages. CHROMIUM names another program.
+"""Headless Chromium, for bindings/js/tests/chromium.py and site/test.py. CHROMIUM names another
+program."""
+
 import json
 import os
-import pathlib
 import select
 import subprocess
-import sys
-import tempfile
 import time
 
-NARROW = 360
 # The seconds that a page, or an answer, may take.
 PATIENCE = 20
 # The errors that Chromium logs, by the events that it sends.
@@ -24,14 +18,6 @@ SAYS = {
     "Network.requestWillBeSent": lambda it: not it["request"]["url"].startswith(("file:", "data:"))
     and f"requests {it['request']['url']}",
 }
-# What a page looks like: the pictures that are not shown, its width, and its colours.
-LOOK = """({
-    lost: [...document.images].filter(it => !it.complete || !it.naturalWidth).map(it => it.src),
-    width: document.documentElement.scrollWidth,
-    colours: getComputedStyle(document.body).backgroundColor
-        + getComputedStyle(document.documentElement).filter,
-    text: document.body.innerText.length,
-})"""
 
 
 class Browser:
@@ -110,46 +96,6 @@ class Browser:
         self.process.wait()
 
 
-def faults(browser, path):
-    """What is wrong with a page."""
-    size = {"height": 800, "deviceScaleFactor": 1, "mobile": False}
-    browser.call("Emulation.setDeviceMetricsOverride", width=NARROW, **size)
-    theme(browser, "light")
-    browser.open(pathlib.Path(path).resolve().as_uri())
-    light = browser.value(LOOK)
-    theme(browser, "dark")
-    dark = browser.value(LOOK)
-    found = browser.errors() + [f"does not show {it}" for it in light["lost"]]
-    if not light["text"]:
-        found.append("is empty")
-    if light["width"] > NARROW:
-        found.append(f"is {light['width']} pixels wide in a window of {NARROW}")
-    if light["colours"] == dark["colours"]:
-        found.append("has the same colours in a dark theme")
-    return found
-
-
 def theme(browser, name):
     features = [{"name": "prefers-color-scheme", "value": name}]
     browser.call("Emulation.setEmulatedMedia", features=features)
-
-
-def main(paths):
-    failed = 0
-    with tempfile.TemporaryDirectory(ignore_cleanup_errors=True) as room:
-        browser = Browser(room)
-        try:
-            browser.attach()
-            for path in paths:
-                said = faults(browser, path)
-                failed += bool(said)
-                for it in said:
-                    print(f"failed: {path}: {it}")
-        finally:
-            browser.close()
-    print(f"{len(paths) - failed} passed, {failed} failed")
-    return 1 if failed else 0
-
-
-if __name__ == "__main__":
-    sys.exit(main(sys.argv[1:]))
