@@ -1,8 +1,7 @@
 #!/usr/bin/env bash
 # Builds the harness: fuzz/build.sh COMPILER PROGRAM [ARGUMENT..]. The compiler gets the further
-# arguments. LIBRARY may name a static library to use instead of the library in crates/dethrux.
-# COUNTS=no leaves out the counts of counts.c, which are for x86-64. If a tool or a file is missing,
-# one line says so.
+# arguments. LIBRARY may name a static library to use instead of the library in crates/dethrux. If a
+# tool or a file is missing, one line says so.
 set -euo pipefail
 cd "$(dirname "$0")"
 archive=${LIBRARY:-../crates/dethrux/out/libdethrux.a}
@@ -19,15 +18,5 @@ command -v "$compiler" > /dev/null || refuse "$compiler is missing: install gcc"
 [ -e "$archive" ] || refuse "$archive is missing: run rt lib in crates/dethrux"
 made=$(dirname "$program")
 mkdir -p "$made"
-if [ "${COUNTS:-yes}" = no ]; then
-    counts=(-DWITHOUT_COUNTS)
-else
-    counts=(-I../dist/src counts.c)
-    calls=$(sed -nE 's/.*[(, ](dethrux_\w+), \(.*/\1/p' ../dist/src/calls.inc)
-    [ -n "$calls" ] || refuse 'dist/src/calls.inc has no calls'
-    for call in $calls; do
-        counts+=("-Wl,--wrap=$call")
-    done
-fi
 "$compiler" -std=gnu11 -O2 -g -Wall -Wextra -Werror -I../dist/include -o "$program" \
-    checks.c guarded.c harness.c input.c reference.c "$@" "${counts[@]}" "$archive"
+    checks.c guarded.c harness.c input.c reference.c "$@" "$archive"

@@ -15,10 +15,6 @@ extern const size_t CHECK_COUNT;
 /* Decodes an input for the checks that follow. */
 void checks_begin(const input *in);
 
-/* Prints how many calls there are, the one that was made least often, and each that was never made.
- * Returns how many those are. WITHOUT_COUNTS leaves it out. */
-size_t counts_print(void);
-
 /* Called for each difference, with a line that says what differs. It must not return. */
 _Noreturn void report_difference(const char *what);
 

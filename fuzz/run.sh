@@ -36,7 +36,6 @@ while [ $# != 0 ]; do
             compiler=aarch64-linux-gnu-gcc
             start=(qemu-aarch64 -L /usr/aarch64-linux-gnu)
             planting=40
-            export COUNTS=no
             shift
             continue
             ;;
@@ -65,9 +64,17 @@ are_all() {
     tail -n 1 "$room/found" | grep " passed, ${#planted[@]} failed$"
 }
 
+# Tests that the checks make each call of the library.
+makes_each_call() {
+    gcc -std=gnu11 -I../dist/include -c checks.c -o "$room/checks.o" &&
+        nm -u "$room/checks.o" | grep -o 'dethrux_.*' | sort |
+        diff - <(declared ../dist/include extern | grep -v _kernel)
+}
+
+check 'each call' makes_each_call
 check 'the harness' ./build.sh $compiler $built/harness &&
     counts 'random inputs' random $built/harness "$seconds"
-if COUNTS=no check 'the planted versions' \
+if check 'the planted versions' \
     ./build.sh $compiler $built/planted planted.c "${planted[@]/#/-Wl,--wrap=}"; then
     random $built/planted $planting > "$room/found" 2>&1
     for call in "${planted[@]}"; do
