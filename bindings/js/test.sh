@@ -60,12 +60,6 @@ first_program() {
         printf 'Grüße\uFFFD' | cmp "$room/notes.txt.utf8"
 }
 
-# Whether the page has the program as it is in the tree.
-page_has_program() {
-    sed -n '/^```js$/,/^```$/p' "$top/docs/JS.md" | sed '1d;/^```$/,$d' |
-        diff - "$here/examples/first.mjs"
-}
-
 # Whether the program of the package's page prints what its comments say.
 program_of_package() {
     sed -n '/^```js$/,/^```$/p' "$here/README.md" | sed '1d;/^```$/,$d' > "$room/short.mjs" &&
@@ -103,7 +97,6 @@ test_node() {
     counts 'the tables of cases' run_node tests/cases.mjs
     check 'an engine without vectors' says_what_is_missing
     check 'the first program' first_program
-    check 'the page has the first program' page_has_program
     check "the program of the package's page" program_of_package
     check 'the types' check_types
     check 'a bundle' runs_bundled

@@ -2,8 +2,9 @@
 # Installs the package with pip in an empty virtual environment, without network and without rt.
 # There it runs the first program of docs/PYTHON.md, the unit tests, CPython's tests of UTF-16 with
 # these codecs, and the tables of cases. It installs the wheel that packaging/wheels.sh makes of the
-# source distribution, and calls it on processors of each level. mypy checks the types. A tool that
-# is missing is a failure, which names its Debian package. The last line is 'N passed, M failed'.
+# source distribution, and calls it on processors of each level. mypy checks the types. If this runs
+# as root, apt-get installs missing tools; a tool that is still missing is a failure. The last line
+# is 'N passed, M failed'.
 # PYTHON names another Python, which has its headers and setuptools; WHEELS names a folder with the
 # wheels of setuptools and of wheel for it, which Python 3.12 and later do not have. DETHRUX_CALLS
 # is how many calls may not take memory (200000).
@@ -13,13 +14,6 @@ top=$(cd "$here/../.." && pwd)
 export PYTHONDONTWRITEBYTECODE=1
 unset PYTHONPATH PYTHONHOME CC
 . "$top/.ci/checks.sh"
-
-# Whether a tool is installed.
-has() {
-    command -v "$1" && return
-    echo "there is no $1: apt-get install $2"
-    return 1
-}
 
 # Whether the extension can be compiled for this Python.
 has_headers() {
@@ -54,15 +48,9 @@ first_program() {
         [ -s "$room/wanted" ] && diff "$room/wanted" "$room/found"
 }
 
-# Whether the page has the program as it is in the tree.
-page_has_program() {
-    sed -n '/^```python$/,/^```$/p' "$top/docs/PYTHON.md" | sed '1d;/^```$/,$d' |
-        diff - "$here/examples/first.py"
-}
-
 # Whether the types of the package agree.
 check_types() {
-    has mypy mypy && MYPYPATH=$here/src mypy --strict --cache-dir "$room/mypy" \
+    MYPYPATH=$here/src mypy --strict --cache-dir "$room/mypy" \
         "$here/src/dethrux" "$here/tests/typed.py"
 }
 
@@ -110,7 +98,6 @@ compile_strictly() {
     local compiler include
     include=$("$python" -c 'import sysconfig; print(sysconfig.get_path("include"))')
     for compiler in gcc clang; do
-        has $compiler $compiler || return
         $compiler -std=c11 -O2 -Wall -Wextra -Wshadow -Wconversion \
             -Werror -fPIC -c -I"$top/dist/include" -isystem "$include" -o "$room/native.o" \
             "$here/src/dethrux/_native.c" || return
@@ -128,15 +115,13 @@ test_wheels() {
         install_with_pip --target "$room/wheel" "$room"/wheels/*.whl
     check 'the code of the wheel' takes "$kernel"
     [ "$(uname -m)" != x86_64 ] || {
-        check 'an emulator' has qemu-x86_64 qemu-user
         check 'the wheel without AVX2' takes x86-64-v2 qemu-x86_64 -cpu Nehalem
         check 'the wheel with AVX2' takes x86-64-v3 qemu-x86_64 -cpu Haswell
     }
 }
 
 python=${PYTHON:-python3}
-check 'Python' has "$python" python3 || finish
-check 'a C compiler for the tests' has cc gcc || finish
+need "$python:python3" cc:gcc clang:clang mypy:mypy qemu-x86_64:qemu-user || finish
 check 'the headers of Python' has_headers || finish
 if [ -z "${WHEELS:-}" ]; then
     WHEELS=$room/build
@@ -147,7 +132,6 @@ check 'a copy of the tree' copy_tree || finish
 check 'pip install' install_with_pip "$room/tree/bindings/python" || finish
 check 'what the tests build with' install_with_pip setuptools || finish
 check 'the first program' first_program
-check 'the page has the first program' page_has_program
 for module in "$here"/tests/test_*.py; do
     module=$(basename "$module" .py)
     counts "$module" unit_tests "$module"
