@@ -490,7 +490,8 @@ static void check_feed_any_state(const decoder_calls *calls) {
     }
 }
 
-/* However the stream is cut, the same bytes are written in all. */
+/* However the stream is cut, the same bytes are written in all. Without a capacity each chunk gets
+ * the documented one, which suffices. */
 static void check_cut_stream(const decoder_calls *calls, dethrux_decoder *decoder, size_t number,
                              size_t capacity) {
     size_t written = 0;
@@ -498,11 +499,17 @@ static void check_cut_stream(const decoder_calls *calls, dethrux_decoder *decode
         size_t end = at + chunk_len(number, in.len - at);
         dethrux_progress got;
         do {
-            const uint8_t *from = guarded_input(0, in.text + at, end - at, AT_END);
-            uint8_t *to = output_at(capacity, AT_END);
-            got = calls->feed(decoder, in.order, from, end - at, to, capacity);
+            size_t len = end - at, most = capacity;
+            if (capacity == 0) {
+                most = calls == &UTF8_DECODER ? DETHRUX_ENCODER_FEED_MAX(len)
+                                              : DETHRUX_DECODER_FEED_MAX(len);
+            }
+            const uint8_t *from = guarded_input(0, in.text + at, len, AT_END);
+            uint8_t *to = output_at(most, AT_END);
+            got = calls->feed(decoder, in.order, from, len, to, most);
+            expect_that("the capacity suffices", capacity > 0 || got.status != DETHRUX_NO_SPACE);
             expect_written(calls->text, written, to, got.written);
-            expect_full(&got, capacity);
+            expect_full(&got, most);
             at += got.read;
             written += got.written;
         } while (got.status == DETHRUX_NO_SPACE);
@@ -521,6 +528,7 @@ static void check_stream(const decoder_calls *calls) {
     for (size_t number = 0; number < 2; number++) {
         check_cut_stream(calls, &decoder, number, capacity + number);
     }
+    check_cut_stream(calls, &decoder, 2, 0);
 }
 
 static void check_feed(const decoder_calls *calls) {

@@ -986,93 +986,6 @@ static bool is_bom_detected(void) {
     return is;
 }
 
-/* Whether a decoder in a state writes exactly as many bytes as its capacity, and does not come to
- * the chunk's end with one byte less. */
-static bool feed_needs(const decoder *state, const text *chunk, size_t capacity) {
-    decoder by = *state;
-    text to = blank(capacity);
-    dethrux_progress found = feed(&by, chunk->bytes, chunk->len, to.bytes, capacity);
-    bool is = found.status == DETHRUX_DONE && found.written == capacity && is_blank(&to, capacity);
-    by = *state;
-    found = feed(&by, chunk->bytes, chunk->len, to.bytes, capacity - 1);
-    free(to.bytes);
-    return is && found.status == DETHRUX_NO_SPACE;
-}
-
-/* A state with the most bytes that can be pending, one that a call leaves and one that no call
- * leaves, and a chunk of characters that take three bytes each, or from UTF-8 of ASCII. */
-static bool is_feed_bound_reached(way by, size_t len) {
-    static const uint8_t utf16[] = {0xD8, 0x00, 0x4E};
-    static const uint8_t utf8[] = {0xED, 0xA0, 0xBD, 0xF0, 0x9F, 0x98};
-    const bool wtf8 = by == FROM_WTF8;
-    const size_t most = wtf8 ? DETHRUX_WTF8_PENDING_MAX : DETHRUX_PENDING_MAX;
-    const size_t capacity = wtf8 ? DETHRUX_WTF8_ENCODER_FEED_MAX(len)
-        : is_back(by)            ? DETHRUX_ENCODER_FEED_MAX(len)
-                                 : DETHRUX_DECODER_FEED_MAX(len);
-    uint8_t to[2];
-    decoder by_call = new_decoder(by, DETHRUX_BIG_ENDIAN), by_hand = by_call;
-    by_hand.utf16 = (dethrux_decoder){{0x4E, 0x00, 0x4E}, DETHRUX_PENDING_MAX};
-    by_hand.utf8 = (dethrux_encoder){{'a', 'b', 'c'}, DETHRUX_PENDING_MAX};
-    by_hand.wtf8 = (dethrux_wtf8_encoder){{'a', 'b', 'c', 'd', 'e', 'f'}, DETHRUX_WTF8_PENDING_MAX};
-    const uint8_t *left = is_back(by) ? utf8 + sizeof utf8 - most : utf16;
-    dethrux_progress found = feed(&by_call, left, most, to, wtf8 ? 2 : 0);
-    bool is = found.status == DETHRUX_DONE && pending_of(&by_call).len == most;
-    text chunk = {0};
-    for (size_t i = 0; i < len; i++) {
-        append_byte(&chunk, is_back(by) ? 'a' : i % 2 == 0 ? 0x00 : 0x4E);
-    }
-    is = is && feed_needs(&by_hand, &chunk, is_back(by) ? 2 * (most + len) : capacity);
-    if (len > 0) {
-        chunk.bytes[0] = wtf8 ? 0x80 : chunk.bytes[0];
-        is = is && feed_needs(&by_call, &chunk, capacity);
-    }
-    free(chunk.bytes);
-    return is;
-}
-
-/* The same for WTF-8. */
-static bool is_wtf8_pending_bound_reached(void) {
-    static const uint8_t lead[] = {0xD8, 0x3D, 0xDE}, two[] = {0xED, 0xA0, 0xBD, 0xF0, 0x9F, 0x98, 0x80};
-    uint8_t to[6];
-    dethrux_progress cut = dethrux_to_wtf8_partial(DETHRUX_BIG_ENDIAN, lead, 3, to, 0);
-    dethrux_progress six = dethrux_from_wtf8_partial(DETHRUX_BIG_ENDIAN, two, DETHRUX_WTF8_PENDING_MAX, to, 6);
-    dethrux_progress seven = dethrux_from_wtf8_partial(DETHRUX_BIG_ENDIAN, two, 7, to, 6);
-    return cut.read == 0 && cut.status == DETHRUX_INCOMPLETE && six.read == 0 && six.status == DETHRUX_INCOMPLETE && six.written == 0
-        && seven.read == 7 && seven.status == DETHRUX_DONE && seven.written == 6 && DETHRUX_WTF8_PENDING_MAX == 6;
-}
-
-/* The most bytes that the partial call and a decoder leave unread, and the most that a character
- * takes. */
-static bool is_pending_bound_reached(void) {
-    static const uint8_t pair[] = {0xD8, 0x3D, 0xDE, 0x00}, utf8[] = {0xF0, 0x9F, 0x98, 0x80};
-    uint8_t to[4];
-    decoder by = new_decoder(TO_UTF8, DETHRUX_BIG_ENDIAN), back = new_decoder(FROM_UTF8, DETHRUX_BIG_ENDIAN);
-    dethrux_progress cut = dethrux_to_utf8_partial(DETHRUX_BIG_ENDIAN, pair, 3, to, 0);
-    dethrux_progress three = dethrux_to_utf8_partial(DETHRUX_BIG_ENDIAN, pair, 4, to, 3);
-    dethrux_progress four = dethrux_to_utf8_partial(DETHRUX_BIG_ENDIAN, pair, 4, to, 4);
-    bool is = cut.read == 0 && cut.status == DETHRUX_INCOMPLETE && three.written == 0 && three.status == DETHRUX_NO_SPACE && four.written == 4
-        && four.status == DETHRUX_DONE;
-    three = feed(&by, pair, 4, to, 3);
-    is = is && three.written == 0 && three.status == DETHRUX_NO_SPACE;
-    three = feed(&back, utf8, 4, to, 3);
-    is = is && three.written == 0 && three.status == DETHRUX_NO_SPACE && pending_of(&back).len == 0;
-    dethrux_validity found = dethrux_validate(DETHRUX_BIG_ENDIAN, pair, 3);
-    is = is && is_wtf8_pending_bound_reached();
-    return is && found.valid_up_to == 0 && found.status == DETHRUX_INCOMPLETE && DETHRUX_PENDING_MAX == 3;
-}
-
-/* Each bound that the header states for streams, at chunks that need it. fuzz/ has the others. */
-static bool are_bounds_reached(void) {
-    static const way ways[] = {TO_UTF8, FROM_UTF8, TO_WTF8, FROM_WTF8};
-    bool is = is_pending_bound_reached();
-    for (size_t len = 0; is && len <= 2 * SHORT + 1; len++) {
-        for (size_t i = 0; is && i < sizeof ways / sizeof *ways; i++) {
-            is = is_feed_bound_reached(ways[i], len);
-        }
-    }
-    return is;
-}
-
 /* The macros that compute, at numbers and at a number in 32 bits, with an operator of the lowest
  * precedence, and at the greatest length. The start of the bytes around an offset is one code unit
  * before the offset's. */
@@ -1112,6 +1025,10 @@ static bool are_macros_right(void) {
         {DETHRUX_ENCODER_FEED_MAX(yes ? 3 : 0), 8},
         {DETHRUX_ENCODER_FEED_MAX(wide), 8589934592},
         {DETHRUX_ENCODER_FEED_MAX(most), UINT64_MAX - 1},
+        {DETHRUX_PENDING_MAX, 3},
+        {DETHRUX_WTF8_PENDING_MAX, 6},
+        {DETHRUX_DECODER_FINISH_MAX, 3},
+        {DETHRUX_ENCODER_FINISH_MAX, 2},
         {DETHRUX_WTF8_ENCODER_FINISH_MAX, 2},
         {DETHRUX_WTF8_ENCODER_FEED_MAX(yes ? 3 : 0), 10},
         {DETHRUX_WTF8_ENCODER_FEED_MAX(wide), 8589934594},
@@ -1157,7 +1074,6 @@ int main(int words, char **names) {
         }
     }
     count(is_bom_detected(), "the BOM and the byte order of first bytes");
-    count(are_bounds_reached(), "the bounds of the header at inputs that need them");
     count(are_macros_right(), "the macros of the header");
     count(is_version_same(), "the version of the header and of the library");
     count(is_version_of_parts(), "the number of a version");
