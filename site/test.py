@@ -1,10 +1,9 @@
 #!/usr/bin/env python3
 """Tests the page in headless Chromium: what it says of known bytes and of broken files of each kind,
 which it repairs after clicks, large files, both themes, a narrow and a wide window. Python's codecs
-give what is expected. CHROMIUM names another program. With a folder as its argument it also writes
-pictures of the page there. Prints what fails, and last a line 'N passed, M failed'."""
+give what is expected. CHROMIUM names another program. Prints what fails, and last a line 'N passed,
+M failed'."""
 
-import base64
 import itertools
 import json
 import os
@@ -29,7 +28,6 @@ LARGE = 40_000_000
 # The most seconds that something on the page may take.
 PATIENCE = 60
 TEXT = "Gr\u00fc\u00dfe, \u4e16\u754c \U0001f600!"
-WINDOWS = {"narrow": 360, "wide": 1280}
 KEYS = {"Tab": 9, "Enter": 13}
 
 # Bytes in hex and how they are read; the kinds of the items with their names, the offsets of the
@@ -664,10 +662,10 @@ def given_files(page):
             page.equal(page.value("byId('file').value"), "", "the file that was chosen before")
 
 
-def looks(page, pictures):
+def looks(page):
     """Both themes in a narrow and a wide window, with each example."""
     grounds = set()
-    for (window, width), theme in itertools.product(WINDOWS.items(), ("light", "dark")):
+    for width, theme in itertools.product((360, 1280), ("light", "dark")):
         size = {"height": 900, "deviceScaleFactor": 1, "mobile": False}
         page.browser.call("Emulation.setDeviceMetricsOverride", width=width, **size)
         site_browser.theme(page.browser, theme)
@@ -678,10 +676,6 @@ def looks(page, pictures):
             page.test(found <= width, f"{name}: the page is {found} pixels wide in a window of {width}")
         grounds.add(page.value("getComputedStyle(document.body).backgroundColor"))
         contrasts(page, theme)
-        if pictures:
-            page.value("scrollTo(0, 0); document.activeElement.blur()")
-            shot = page.browser.call("Page.captureScreenshot", captureBeyondViewport=True)
-            (pictures / f"{window}-{theme}.png").write_bytes(base64.b64decode(shot["data"]))
     page.equal(len(grounds), 2, "the grounds of two themes")
 
 
@@ -744,7 +738,7 @@ def errors(page):
     page.equal(said, [], "errors on the console")
 
 
-def run(page, room, pictures):
+def run(page, room):
     page.browser.call("Browser.setDownloadBehavior", behavior="allow", downloadPath=str(room))
     page.browser.call("DOM.enable")
     page.open()
@@ -759,14 +753,14 @@ def run(page, room, pictures):
     for part in (*parts, changed_line_ends, stopped_file, files_in_turn, files_that_go):
         part(page, room)
         errors(page)
-    looks(page, pictures)
+    looks(page)
     errors(page)
     unsupported(page)
     errors(page)
     requests(page)
 
 
-def main(pictures=None):
+def main():
     with tempfile.TemporaryDirectory(ignore_cleanup_errors=True) as folder:
         room = pathlib.Path(folder)
         path = room / "page.html"
@@ -777,7 +771,7 @@ def main(pictures=None):
         page.test(size < MOST_BYTES, f"the page has {size} bytes")
         try:
             browser.attach()
-            run(page, room, pictures and pathlib.Path(pictures))
+            run(page, room)
         except RuntimeError as error:
             page.test(False, error)
         finally:
@@ -787,6 +781,4 @@ def main(pictures=None):
 
 
 if __name__ == "__main__":
-    if len(sys.argv) > 2:
-        sys.exit("usage: site/test.py [FOLDER]")
-    sys.exit(main(*sys.argv[1:]))
+    sys.exit(main())
