@@ -1,7 +1,7 @@
 #!/usr/bin/env bash
 # Tests the module next to glibc's own converters, with the library of dist/: random calls and all
-# characters, iconv(1) on files, git as a program that nobody changed, a module that cannot run, and
-# an installation in a folder that is a small system. If this runs as root, apt-get installs missing
+# characters, iconv(1) on files, a module that cannot run, and an installation in a folder that is a
+# small system. If this runs as root, apt-get installs missing
 # tools; a tool that is still missing is a failure. The last line is 'N passed, M failed'.
 set -uo pipefail
 here=$(cd "$(dirname "$0")" && pwd)
@@ -92,31 +92,6 @@ takes_its_own() {
         loads UTF-16 UTF-16LE UCS-4 "$@" && loads UTF-32 UTF-32 UTF-8 "$@"
 }
 
-# == a program that nobody changed
-
-# Adds files in two forms of UTF-16 to a repository of git and takes them out again, with the
-# module, and compares the number of bytes that the library read.
-in_git() {
-    local big utf8 expected
-    big=$(stat -c %s "$room/texts/long.UTF-16LE")
-    utf8=$(stat -c %s "$room/texts/long.UTF-8")
-    compile count -shared -fPIC -Wl,--no-as-needed "-L$library" "-Wl,-rpath,$library" -ldethrux \
-        -o "$room/count.so" && git init -q "$room/git" && cd "$room/git" || return
-    printf '%s\n' 'le working-tree-encoding=UTF-16LE' 'bom working-tree-encoding=UTF-16' \
-        > .gitattributes
-    cp "$room/texts/long.UTF-16LE" le && cp "$room/texts/long.UTF-16" bom || return
-    export COUNTED=$room/counted
-    LD_PRELOAD=$room/count.so GCONV_PATH=$folder git add . &&
-        git show :le | cmp - "$room/texts/long.UTF-8" &&
-        git show :bom | cmp - "$room/texts/long.UTF-8" && rm le bom &&
-        LD_PRELOAD=$room/count.so GCONV_PATH=$folder git checkout -- . &&
-        cmp le "$room/texts/long.UTF-16LE" && cmp bom "$room/texts/long.UTF-16" || return
-    cat "$COUNTED"
-    # Both files once in each direction.
-    expected=$((2 * big + 2 * utf8))
-    [ "$(awk '{ bytes += $2 } END { print bytes }' "$COUNTED")" = $expected ]
-}
-
 # == modules that cannot run
 
 # Tests that iconv fails before it converts anything.
@@ -183,7 +158,7 @@ staged() {
         [ "$(find "$room/stage" -type f | wc -l)" = 0 ]
 }
 
-need make:make git:git iconv:libc-bin iconvconfig:libc-bin nm:binutils || finish
+need make:make iconv:libc-bin iconvconfig:libc-bin nm:binutils || finish
 check 'make' make -s -C "$here" CC="${CC:-cc}" || finish
 folder=$(make -s -C "$here" CC="${CC:-cc}" folder)
 library=$(make -s -C "$top/dist" CC="${CC:-cc}" folder)
@@ -205,7 +180,6 @@ for from in UTF-8 UTF-16 UTF-16LE UTF-16BE; do
     done
 done
 check 'what the module converts' takes_its_own env GCONV_PATH="$folder"
-check 'git' in_git
 check 'without the library' without_library
 check 'what an installation asks' asks_iconv
 check 'an unknown suffix' same_as_glibc UTF-16LE -t UTF-8//UNKNOWN
