@@ -595,24 +595,6 @@ static void search(const search_row &from) {
     });
 }
 
-// A search in no elements, and for none.
-static void search_nothing() {
-    const dethrux::bytes bytes;
-    const dethrux::units units;
-    bool is = dethrux::find(units, units) == 0 && dethrux::rfind(units, units) == 0
-              && dethrux::find(u"ab", units) == 0 && dethrux::rfind(u"ab", units) == 2
-              && dethrux::find(units, u"a") == npos && dethrux::rfind(units, u"a") == npos;
-    for (byte_order order : {byte_order::little, byte_order::big}) {
-        is = is && dethrux::find(order, bytes, bytes) == 0
-             && dethrux::rfind(order, bytes, bytes) == 0
-             && dethrux::find(order, "abc"sv, bytes) == 0
-             && dethrux::rfind(order, "abc"sv, bytes) == 3
-             && dethrux::find(order, bytes, "ab"sv) == npos
-             && dethrux::rfind(order, bytes, "ab"sv) == npos;
-    }
-    check("a search without elements", is);
-}
-
 // The first NUL, which is a code unit, and the length without one.
 static void first_nul() {
     const dethrux::bytes bytes;
@@ -1406,7 +1388,6 @@ int main() {
     not_wtf8();
     with_each(pairs, compare);
     with_each(searches, search);
-    search_nothing();
     first_nul();
     others();
     results();
