@@ -14,18 +14,11 @@ usage: python -m dethrux cat [le|be|auto] [FILE]
        python -m dethrux enc [le|be|le-bom|be-bom] [FILE]
        python -m dethrux check [le|be|auto] [FILE]
 
-cat    writes UTF-16 as UTF-8, with U+FFFD for each ill-formed sequence
-enc    writes UTF-8 as UTF-16, with U+FFFD for each ill-formed sequence
-check  reports each ill-formed sequence of UTF-16, and counts
-
-Without FILE the input is standard input. The output is standard output.
-
-le      little endian, as in most files from Windows
-be      big endian
-auto    the byte order by the byte order mark (BOM), or big endian without one;
-        the default of cat and check
-le-bom  a BOM, then little endian; the default of enc
-be-bom  a BOM, then big endian
+cat writes UTF-16 as UTF-8, and enc UTF-8 as UTF-16, with U+FFFD for each
+ill-formed sequence; check reports those of UTF-16, and counts. Without FILE the
+input is standard input. auto takes the byte order of the byte order mark (BOM),
+or big endian without one, and is the default of cat and check. le-bom and be-bom
+write a BOM first; le-bom is the default of enc.
 
 The exit status is 0. It is 1 if check finds an ill-formed sequence, and if
 reading, writing or an allocation fails. It is 2 for other arguments.
