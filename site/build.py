@@ -19,9 +19,11 @@ HERE = pathlib.Path(__file__).resolve().parent
 TOP = HERE.parent
 BINDING = ("calls.js", "machine.js", "shapes.js", "streams.js", "load.js")
 # The parts of the page's script. The first defines what the others share; the last starts the page.
-SCRIPTS = ("common", "paste", "items", "strip", "report", "page")
+SCRIPTS = ("common", "paste", "items", "strip", "cuts", "chunks", "report", "page")
 IMPORT = re.compile(r"^import [^;]*;\n", re.MULTILINE)
 NAMES = "instantiate, stringOf, unitsOf"
+# The phrase of the headline that the page shows.
+SHOWN = "and resuming by it, over every cutting of a stream, yields the text of the stream's one split."
 
 
 def read(path):
@@ -39,6 +41,15 @@ def module():
     """Returns the module, compressed and in base64."""
     packed = gzip.compress((TOP / "dist/wasm/dethrux.wasm").read_bytes(), 9, mtime=0)
     return base64.b64encode(packed).decode()
+
+
+def headline():
+    """Returns the headline of docs/HEADLINE.md, with the phrase marked that the page shows."""
+    sentence = re.search(r"^> (.*)$", read(TOP / "docs/HEADLINE.md"), re.MULTILINE)[1]
+    if not sentence.endswith(SHOWN):
+        sys.exit("site/build.py: the headline ends with another phrase")
+    before = html.escape(sentence.removesuffix(SHOWN), quote=False)
+    return f"{before}<mark>{html.escape(SHOWN, quote=False)}</mark>"
 
 
 def hashed(text):
@@ -65,6 +76,7 @@ def page(back=None):
         "policy": html.escape(policy(style, bound, script), quote=False),
         "style": style,
         "back": link,
+        "headline": headline(),
         "version": read(TOP / "VERSION").strip(),
         "module": module(),
         "worker": read(HERE / "worker.js"),

@@ -12,8 +12,9 @@ let module;
 let given;
 // What the worker found in a file, with the file; nothing until it has read one.
 let report;
-// The window of the file that the strip shows: its offset, bytes, byte order and items.
-let shown = { start: 0, bytes: new Uint8Array(), order: "le", items: [] };
+// The window of the file that the strip shows: its offset, bytes, byte order and items, and
+// whether it is one stream of UTF-16, which can be cut.
+let shown = { start: 0, bytes: new Uint8Array(), order: "le", items: [], isStream: false };
 
 const byId = (id) => document.getElementById(id);
 const hex = (number, digits) => number.toString(16).toUpperCase().padStart(digits, "0");

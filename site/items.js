@@ -116,7 +116,8 @@ function itemsBetween(start, bytes, len) {
         from = at + 1;
     }
     add(bytes.length);
-    return items.filter((it) => it.at < len);
+    const isStream = inside.length === 0 && report.order !== "utf8";
+    return { items: items.filter((it) => it.at < len), isStream };
 }
 
 /** Returns the error at an offset: its bytes, and why it is one. */

@@ -64,6 +64,13 @@ function listen() {
     on("offset", "change", ({ target }) => showAt(Math.floor(target.value) + BEFORE));
     on("earlier", "click", () => showAt(shown.start - WINDOW + BEFORE));
     on("later", "click", () => showAt(shown.start + shown.bytes.length + BEFORE));
+    on("strip", "keydown", pressKey);
+    on("strip", "pointerdown", pressPointer);
+    on("add", "click", () => addCut());
+    on("every", "click", () => setCuts(everyCut()));
+    on("random", "click", () => setCuts(randomCuts()));
+    on("none", "click", () => setCuts([]));
+    on("try", "click", tryMany);
     on("file", "change", ({ target }) => target.files[0] && takeFile(target.files[0]));
     // The same file may be chosen again.
     on("file", "click", ({ target }) => (target.value = ""));

@@ -1,4 +1,5 @@
-// The strip: characters, code units and bytes, of a window of the file.
+// The strip: characters, code units, bytes, and the gaps between bytes where cuts may be. It shows
+// a window of the file.
 
 const WINDOW = 128;
 // How many bytes are shown before the place that was asked for.
@@ -20,14 +21,20 @@ async function showAt(at) {
         return false;
     }
     const bytes = read.subarray(0, end - start);
-    shown = { start, bytes, order, items: itemsBetween(start, read, bytes.length) };
+    shown = { start, bytes, order, ...itemsBetween(start, read, bytes.length) };
     byId("offset").value = start;
     byId("offset").max = file.size;
     byId("window").textContent = `to ${counted(end)} of ${plural(file.size, "byte")}`;
     turnOff("earlier", start <= from);
     turnOff("later", end >= file.size);
     byId("back").hidden = true;
+    cuts = [];
+    tried = new Set();
     showStrip();
+    byId("cutting").hidden = !shown.isStream;
+    if (shown.isStream) {
+        showCuts();
+    }
     return true;
 }
 
@@ -49,12 +56,13 @@ async function jumpTo(button) {
 function showStrip() {
     const items = shown.items.length ? shown.items.map(itemElement) : [emptyElement()];
     byId("strip").replaceChildren(...items);
+    items.at(-1).querySelector(".places").append(gapElement(shown.bytes.length));
 }
 
 /** What the strip shows if there are no bytes. */
 function emptyElement() {
     const note = element("span", { className: "note" }, "There are no bytes.");
-    return element("li", {}, note);
+    return element("li", { className: "none" }, note, element("span", { className: "places" }));
 }
 
 /** The code units of an item; UTF-8 has none. */
@@ -70,7 +78,7 @@ function unitElements({ at, len }) {
 }
 
 function itemElement(item) {
-    const bytes = Array.from(shown.bytes.subarray(item.at, item.at + item.len), byteElement);
+    const places = Array.from({ length: item.len }, (_, at) => placeElement(item.at + at));
     const face = glyph(item);
     const at = shown.start + item.at;
     const about = item.why ? { title: `At byte ${counted(at)}: ${item.why}` } : {};
@@ -83,8 +91,16 @@ function itemElement(item) {
         " ",
         element("span", { className: "units" }, ...unitElements(item)),
         " ",
-        element("span", { className: "bytes" }, ...bytes),
+        element("span", { className: "places" }, ...places),
     );
 }
 
-const byteElement = (it) => element("span", { className: "byte" }, `${hex(it, 2)} `);
+/** A byte with the gap before it. */
+function placeElement(at) {
+    const byte = element("span", { className: "byte", "data-at": at }, hex(shown.bytes[at], 2));
+    return element("span", { className: "place" }, gapElement(at), byte, " ");
+}
+
+const gapElement = (at) => element("span", { className: "gap", "data-gap": at });
+
+const gapAt = (at) => byId("strip").querySelector(`[data-gap="${at}"]`);

@@ -1,8 +1,8 @@
 #!/usr/bin/env python3
 """Tests the page in headless Chromium: what it says of known bytes and of broken files of each kind,
-which it repairs after clicks, large files, both themes, a narrow and a wide window. Python's codecs
-give what is expected. CHROMIUM names another program. Prints what fails, and last a line 'N passed,
-M failed'."""
+which it repairs after clicks, cuts that are moved by the keyboard and the mouse, large files, both
+themes, a narrow and a wide window. Python's codecs give what is expected. CHROMIUM names another
+program. Prints what fails, and last a line 'N passed, M failed'."""
 
 import itertools
 import json
@@ -28,7 +28,7 @@ LARGE = 40_000_000
 # The most seconds that something on the page may take.
 PATIENCE = 60
 TEXT = "Gr\u00fc\u00dfe, \u4e16\u754c \U0001f600!"
-KEYS = {"Tab": 9, "Enter": 13}
+KEYS = {"ArrowRight": 39, "ArrowLeft": 37, "Home": 36, "End": 35, "Delete": 46, "Tab": 9, "Enter": 13}
 
 # Bytes in hex and how they are read; the kinds of the items with their names, the offsets of the
 # errors and the text, by chapter 3.9 of the Unicode Standard (D91 and the conformance of ill-formed
@@ -52,6 +52,13 @@ KNOWN = (
 )
 ITEMS = """[...document.querySelectorAll(".item")].map(it =>
     it.className.replace("item ", "") + " " + it.querySelector(".name").textContent).join(", ")"""
+CUTS = """[...document.querySelectorAll(".cut")]
+    .sort((one, other) => one.dataset.cut - other.dataset.cut).map(it => Number(it.ariaValueNow))"""
+# The bytes that the chunks write, as the page shows them, and those that they read.
+WRITTEN = """[...document.querySelectorAll("#chunks li")].map(it => [...it.querySelectorAll("p")]
+    .find(row => row.textContent.startsWith("in UTF-8")).querySelector(".octets").textContent)"""
+READ = """[...document.querySelectorAll("#chunks li:not(.end)")].map(it =>
+    it.querySelector("p").lastElementChild.textContent)"""
 # The offsets of the errors that are listed, and what each line says.
 OFFSETS = """[...document.querySelectorAll("#errors strong")].map(it =>
     Number(it.firstChild.textContent.replace(/[^0-9]/g, "")))"""
@@ -192,6 +199,9 @@ class Page:
         place = self.middle(f"#{name}")
         self.mouse("mousePressed", place)
         self.mouse("mouseReleased", place)
+
+    def focus(self, cut):
+        self.value(f"document.querySelector('[data-cut=\"{cut}\"]').focus()")
 
     def middle(self, selector):
         """Returns the middle of an element in the window."""
@@ -594,6 +604,10 @@ def one_offset(page):
     page.value("document.querySelector('[data-show]').click()")
     page.wait("document.activeElement.dataset.item === '4'", "the item at the error")
     page.equal(page.value("document.activeElement.title.slice(0, 10)"), "At byte 4:", "what the item says")
+    page.click("add")
+    wanted = page.value("Number(document.querySelector('.cut').ariaValueNow)") + 2
+    words = page.value("document.querySelector('.cut').ariaValueText")
+    page.test(f"before byte {wanted}" in words, f"a cut: {words}")
 
 
 def windows(page):
@@ -614,6 +628,7 @@ def windows(page):
     page.change("offset", 203)
     page.wait("byId('offset').value === '200'", "the bytes from the middle of a character on")
     page.equal(page.value(ITEMS), ", ".join(["char U+1F600"] * 32), "UTF-8 from there on")
+    page.equal(page.value("byId('cutting').hidden"), True, "cuts in UTF-8")
 
 
 def keyboard(page):
@@ -621,11 +636,11 @@ def keyboard(page):
     page.enter("61 00 00 DC 62 00 3D", "auto", "auto")
     page.value("byId('file').focus()")
     seen = []
-    for _ in range(18):
+    for _ in range(22):
         seen.append(page.value(f"{ACTIVE}.id || Object.values({ACTIVE}.dataset)[0]"))
         page.press("Tab")
     wanted = "file input form unpaired odd lost utf8 dump order align 2 6 save-utf8 save-utf16 preview "
-    wanted += "earlier later offset"
+    wanted += "earlier later offset add every random none"
     page.equal(" ".join(map(str, seen)), wanted, "the order of the controls")
     page.value("document.querySelector('[data-show]').focus()")
     page.press("Enter")
@@ -637,6 +652,74 @@ def keyboard(page):
     page.equal(page.value("byId('verdict').getAttribute('role')"), "status", "the live verdict")
 
 
+def moved_cuts(page):
+    """Moves each of two cuts to each place by the keyboard, and looks at the text."""
+    source = "61 00 3D D8 00 DE 00 DC 3D D8 AC 20 3D"
+    text, count = "a\U0001f600\ufffd\ufffd\u20ac\ufffd", len(source.split())
+    page.enter(source, "le")
+    page.click("none")
+    page.click("add")
+    page.click("add")
+    for cut in (0, 1):
+        page.focus(cut)
+        page.press("Home")
+        for at in range(count + 1):
+            places = page.value(CUTS)
+            page.equal(places[cut], at, f"the place of cut {cut + 1}")
+            page.equal(page.text("joined"), text, f"the text with cuts at {places}")
+            written = " ".join(it for it in page.value(WRITTEN) if it != "\u2013")
+            page.equal(written, text.encode().hex(" ").upper(), f"the chunks with cuts at {places}")
+            read = " ".join(it for it in page.value(READ) if it != "nothing")
+            page.equal(read, source, f"what the chunks read with cuts at {places}")
+            page.press("ArrowRight")
+        page.equal(page.value("Number(document.activeElement.dataset.cut)"), cut, "the focus")
+        page.equal(page.value(CUTS)[cut], count, "a cut at the end")
+        page.press("ArrowLeft")
+    page.test((tally(page) or 0) > 2 * count, f"the cuttings tried: {page.text('tally')}")
+    page.press("Delete")
+    page.equal(len(page.value(CUTS)), 1, "cuts after Delete")
+    page.click("try")
+    page.test((tally(page) or 0) >= 2 ** (count - 1), f"all cuttings: {page.text('tally')}")
+
+
+def tally(page):
+    """Returns how many cuttings were tried, which all gave one text."""
+    found = re.match(r"([\d,]+) cuttings? tried, 1 text:", page.text("tally"))
+    return found and int(found[1].replace(",", ""))
+
+
+def pending_bytes(page):
+    """What a chunk keeps."""
+    page.enter("3D D8 00 DE", "le")
+    kept = (
+        "[...document.querySelectorAll('#chunks li:not(.end)')]"
+        ".map(it => it.querySelector('p:last-of-type').lastElementChild.textContent)"
+    )
+    page.click("every")
+    wanted = ["3D", "3D D8", "3D D8 00", "nothing"]
+    page.equal(page.value(kept), wanted, "what is kept of a pair")
+    page.equal(page.value(WRITTEN), ["\u2013"] * 3 + ["F0 9F 98 80", "\u2013"], "what is written of a pair")
+
+
+def dragged_cuts(page):
+    page.enter(TEXT.encode("utf-16-le").hex(), "le")
+    page.click("none")
+    page.click("add")
+    start = page.middle(".cut")
+    page.mouse("mousePressed", start)
+    for at in (3, 17, 9):
+        page.mouse("mouseMoved", page.middle(f'[data-gap="{at}"]'))
+        page.equal(page.value(CUTS), [at], "the place of a dragged cut")
+        page.equal(page.text("joined"), TEXT, "the text while a cut is dragged")
+    page.mouse("mouseReleased", page.middle('[data-gap="9"]'))
+    page.mouse("mouseMoved", page.middle('[data-gap="2"]'))
+    page.equal(page.value(CUTS), [9], "a cut that was let go")
+    place = page.middle('[data-gap="5"]')
+    page.mouse("mousePressed", place)
+    page.mouse("mouseReleased", place)
+    page.equal(page.value(CUTS), [9, 5], "a cut where the strip was pressed")
+
+
 def examples(page):
     wanted = {"unpaired": 2, "odd": 1, "lost": 1, "utf8": 0, "dump": 1}
     page.equal(page.value("Object.keys(EXAMPLES)"), list(wanted), "the examples")
@@ -644,6 +727,11 @@ def examples(page):
         page.value(f"document.querySelector('[data-example={name}]').click()")
         page.done(name)
         page.equal(page.value("report.count"), count, f"the errors of the example {name}")
+        if page.value("shown.isStream"):
+            page.click("random")
+            page.equal(page.text("joined"), page.text("preview"), f"the example {name}, cut at random")
+            page.click("try")
+            page.test((tally(page) or 0) > 30, f"many cuttings of {name}: {page.text('tally')}")
 
 
 def given_files(page):
@@ -682,7 +770,7 @@ def looks(page):
 def contrasts(page, theme):
     """The colours of text have a contrast of 4.5, and edges of controls of 3, by WCAG 2."""
     pairs = itertools.product(("text", "quiet", "accent", "good", "bad"), ("ground", "card"))
-    for front, back in (*pairs, ("bad", "bad-ground"), ("text", "tint")):
+    for front, back in (*pairs, ("bad", "bad-ground"), *(("text", f"tint-{it}") for it in range(4))):
         found = contrast(luminance(page, front), luminance(page, back))
         page.test(found >= 4.5, f"the contrast of {front} on {back} in the {theme} theme is {found:.2f}")
     found = contrast(luminance(page, "edge"), luminance(page, "ground"))
@@ -715,12 +803,14 @@ def unsupported(page):
 
 
 def names(page):
-    """Each control has a name."""
+    """Each control has a name, and the headline is that of docs/HEADLINE.md."""
     nameless = page.value(
-        "[...document.querySelectorAll('button, input, select, textarea, progress')]"
+        "[...document.querySelectorAll('button, input, select, textarea, progress, [role=slider]')]"
         ".filter(it => !(it.ariaLabel || it.textContent.trim() || it.labels?.length)).length"
     )
     page.equal(nameless, 0, "controls without a name")
+    sentence = re.search(r"^> (.*)$", (TOP / "docs/HEADLINE.md").read_text(), re.MULTILINE)[1]
+    page.equal(page.value("document.querySelector('blockquote').textContent"), sentence, "the headline")
 
 
 def requests(page):
@@ -744,7 +834,7 @@ def run(page, room):
     page.open()
     print(f"the page was ready after {page.value('document.body.dataset.ready')} ms")
     parts = (known_bytes, reasons, late_error, forms_of_the_field, dumps, unreadable, one_offset, windows)
-    parts += (keyboard, examples, names, given_files)
+    parts += (keyboard, moved_cuts, pending_bytes, dragged_cuts, examples, names, given_files)
     parts += (answers_that_come_late,)
     for part in parts:
         part(page)
