@@ -17,7 +17,7 @@ const NO_SPACE: u32 = 3;
 #[derive(Clone, Copy)]
 pub struct Progress {
     /// How many bytes of the input were read: whole characters, and in a lossy call the ill-formed
-    /// sequences among them.
+    /// sequences among them. A call that feeds a stream also reads the bytes that it keeps.
     pub read: usize,
     /// How many bytes were written to the start of the buffer. Those after them have no meaning.
     pub written: usize,
