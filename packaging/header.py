@@ -14,6 +14,7 @@ COMMENT = r"/\*\*((?:(?!\*/).)*)\*/\n"
 DECLARATION = r"(DETHRUX_NODISCARD )?(const char \*|\w+ )(dethrux_\w+)\(([^()]*)\);"
 CALL = re.compile(COMMENT + DECLARATION, re.DOTALL)
 PARAMETER = re.compile(r"(.*[ *])(\w+)")
+MACRO = re.compile(r"(DETHRUX_\w+_MAX) (\d+)\n")
 # The pointers to UTF-16 that is read or changed.
 UTF16 = {"utf16", "pattern", "first", "second"}
 
@@ -76,6 +77,14 @@ class Call:
         """Returns whether a parameter points to UTF-16."""
         is_chunk = it.name == "chunk" and "decoder_" in self.name
         return it.name in UTF16 or is_chunk or (it.name == "to" and self.writes_utf16)
+
+    def told(self):
+        """Returns the comment with the numbers of macros, and its tags."""
+        text = re.sub(r"\n \* ?", r"\n", self.comment).strip()
+        for macro, number in MACRO.findall((TOP / "include/dethrux.h").read_text()):
+            text = text.replace(macro, number)
+        text, *tags = text.split("\n@")
+        return text.strip(), tags
 
     def pairs(self):
         """Returns each parameter with the one before it, if there is one."""
@@ -219,6 +228,48 @@ def header():
         if count != 1:
             sys.exit(f"include/dethrux.h has no place for the {name}\n0 passed, 1 failed")
     return text
+
+
+# What a comment says in Rust, by regular expressions.
+RUST_WORDS = {
+    r"DETHRUX_UTF16_MAX\(len\)": "[`from_utf8_max_len`]", "DETHRUX_NOT_FOUND": "`None`",
+    r"DETHRUX_FROM_UTF32_MAX\(len\)": "[`from_utf32_max_len`]", "`error_len`": "its length",
+    r"DETHRUX_(\w+)_MAX\(len\)": lambda it: f"[`to_{it[1].lower()}_max_len`]",
+    r"DETHRUX_AROUND_START\(at\)": "`(at / 2 * 2).saturating_sub(2)`",
+    "counts code units of UTF-32: ": "", "-1, 0 or 1 if": "`Less`, `Equal` or `Greater` if",
+    r"DETHRUX_(\w+)": lambda it: f"[`Status::{it[1].title()}`]".replace("_", ""),
+    r"dethrux_(\w+)": r"[`\1`]",
+}
+
+
+def said_in_rust(call):
+    """Returns the lines of a function's documentation in Rust."""
+    text, tags = call.told()
+    parts = text.split("\n\n")
+    for it in tags:
+        kind, name, words = [*it.split(" ", 2), ""][:3]
+        if kind == "return":
+            words = f"The result is {name} {words}"
+            is_progress = call.result == "dethrux_progress"
+            parts.append(words if is_progress else words.partition(", with one of")[0])
+        elif name == "capacity":
+            parts.append(f"As the length of `to`, {words}")
+        elif kind == "param" and name not in ("to", "len"):
+            parts.append(f"`{name}`: {words}")
+    slices = [it.name for it in call.parameters if it.is_pointer]
+    lines = []
+    for part in parts:
+        for old, new in RUST_WORDS.items():
+            part = re.sub(old, new, part)
+        part = re.sub("`len(?=`| /)", f"`{slices[0]}.len()", part) if slices else part
+        items = [" ".join(it.split()) for it in re.split(r"\n(?=- )", part)]
+        items[0] += "." * (items[0][-1] not in ".:")
+        for it in items:
+            later = "///   " if it.startswith("- ") else "/// "
+            lines += textwrap.wrap(it, WIDTH, initial_indent="/// ", subsequent_indent=later,
+                                   break_on_hyphens=False)
+        lines.append("///")
+    return lines[:-1]
 
 
 # A function of dethrux.hpp for code units: what is before its result, the result, its name, its

@@ -938,8 +938,8 @@ DETHRUX_NODISCARD size_t dethrux_floor_char_boundary(
  *
  * @param around the 4 bytes of the file from DETHRUX_AROUND_START(at) on, or as many as it has
  * @param at the offset, at most the length of the file
- * @return with these bytes the result of dethrux_floor_char_boundary over the whole file; for any
- *   bytes an offset at most 3 bytes before `at`
+ * @return the result of dethrux_floor_char_boundary over the whole file; for any other bytes an
+ *   offset at most 3 bytes before `at`
  * @ingroup dethrux_boundaries
  */
 DETHRUX_NODISCARD uint64_t dethrux_floor_char_boundary_around(
@@ -992,10 +992,10 @@ DETHRUX_NODISCARD size_t dethrux_rfind(dethrux_byte_order byte_order, const void
 /**
  * Returns the offset of the first NUL (U+0000), like strnlen of C.
  *
- * To take a string from a buffer of fixed size, pass the result as the length of the next call. A
- * NUL is two zero bytes at an even offset, in either byte order; an odd byte at the end is not part
- * of one. At most `len` bytes are read, and all of them must be readable.
+ * The bytes before it are the string in a buffer of fixed size. A NUL is two zero bytes at an even
+ * offset, in either byte order; an odd byte at the end is not part of one.
  *
+ * @param len all of these bytes must be readable
  * @return the offset, or `len` if there is no NUL
  * @see dethrux_find
  * @ingroup dethrux_search

@@ -26,6 +26,7 @@ def results():
     swap = made("void ", "dethrux_swap_byte_order", "void *utf16, size_t len")
     pair = made("size_t ", "dethrux_find", "dethrux_byte_order o, const void *utf16, size_t len, "
                 "const void *pattern, size_t pattern_len")
+    named = lambda name: next(it for it in header.calls() if it.name == name)
     flat = lambda text: " ".join(text.split()).replace("( ", "(")
     bytes_of = lambda *words: flat(header.for_bytes(*words))
     return {
@@ -65,6 +66,17 @@ def results():
         "two texts": flat(header.form(pair)).count("DETHRUX_U16_BYTES") == 2
         and "DETHRUX_READS(pattern, pattern_len)" in flat(header.check(pair)),
         "no parameters": not made("uint32_t ", "dethrux_version", "void").parameters,
+        "Rust takes slices": "pub fn find(order: ByteOrder, utf16: &[u8], pattern: &[u8]) -> "
+        "Option<usize>" in script.rust_function(named("find"))
+        and "utf16.as_ptr(), utf16.len(), pattern.as_ptr(), pattern.len()) })"
+        in flat(script.rust_function(named("find"))),
+        "Rust changes a slice": "(utf16: &mut [u8]) {\n" in script.rust_function(swap)
+        and "(utf16.as_mut_ptr(), utf16.len()) }" in script.rust_function(swap),
+        "Rust writes UTF-32 to a buffer": "to_utf32<B: Buffer<u32> + ?Sized>(order"
+        in script.rust_function(named("to_utf32")),
+        "what Rust says": "///\n/// As the length of `to`, [`from_utf8_max_len`] suffices; a loop "
+        "needs 4.\n///\n/// The result is how far the call came, with one of these statuses:\n/// - "
+        "[`Status::Done`]: all of the input was read\n" in script.rust_function(named("from_utf8")),
         "each form has a capacity": all(
             header.looked_up(header.CAPACITIES, it.name) for it in header.calls()
             if it.has_form() and it.result == "dethrux_progress"

@@ -2,11 +2,11 @@
 //! is none, and always with the feature `bundled`, it compiles the assembly in `dist`. With the
 //! feature `pure`, and for a target without assembly, the crate compiles the proved source. If that
 //! is not possible, or the library has another version, the build ends with one line that says what
-//! to do. On docs.rs nothing is linked, so it does nothing.
+//! to do. On docs.rs nothing is linked.
 
 use std::path::{Path, PathBuf};
 use std::process::{exit, Command};
-use std::{env, fs};
+use std::{env, fs, io};
 
 /// A program that prints the version of the library.
 const PROGRAM: &str = "unsigned dethrux_version(void); int printf(const char *, ...);
@@ -17,39 +17,17 @@ int main(void) {
 
 /// The targets for which `dist/src` has assembly, and its files besides `choose.S`. Assembly needs
 /// no libc, so the files for glibc are also for musl.
+#[rustfmt::skip]
 const TARGETS: [(&str, &[&str]); 5] = [
-    (
-        "x86_64-unknown-linux-gnu",
-        &["linux-x86-64-v2.s", "linux-x86-64-v3.s"],
-    ),
+    ("x86_64-unknown-linux-gnu", &["linux-x86-64-v2.s", "linux-x86-64-v3.s"]),
     ("aarch64-unknown-linux-gnu", &["linux-aarch64.s"]),
-    (
-        "x86_64-pc-windows-gnu",
-        &["windows-x86-64-v2.s", "windows-x86-64-v3.s", "windows.c"],
-    ),
-    (
-        "x86_64-apple-darwin",
-        &["macos-x86-64-v2.s", "macos-x86-64-v3.s"],
-    ),
+    ("x86_64-pc-windows-gnu", &["windows-x86-64-v2.s", "windows-x86-64-v3.s", "windows.c"]),
+    ("x86_64-apple-darwin", &["macos-x86-64-v2.s", "macos-x86-64-v3.s"]),
     ("aarch64-apple-darwin", &["macos-aarch64.s"]),
 ];
 
-/// The modules of the proved source that the calls need, and those that only the tests use.
-const MODULES: [&str; 12] = [
-    "byteorder",
-    "dethrux",
-    "kit",
-    "simd",
-    "utf16_bytes",
-    "utf16_fixed",
-    "utf16_from_utf8",
-    "utf16_to_utf8",
-    "utf16_transcode",
-    "utf16_units",
-    "utf16_wtf8",
-    "utf8_bytes",
-];
-const TESTED: [&str; 2] = ["utf16_str", "utf16string"];
+/// The modules of the proved source that only the tests and the crate `utf16string` use.
+const STRINGS: [&str; 2] = ["utf16_str", "utf16string"];
 
 /// The options of gcc's assembler and of clang that move branches which cross or end a block of 32
 /// bytes. On processors from Skylake to Cascade Lake these slow their loops down.
@@ -59,14 +37,17 @@ const PADDED: [&str; 2] = [
 ];
 
 fn main() {
-    println!("cargo:rerun-if-changed=build.rs");
+    println!("cargo:rerun-if-changed=bindings/rust/dethrux/build.rs");
     println!("cargo:rerun-if-env-changed=DOCS_RS");
     println!("cargo:rerun-if-env-changed=DETHRUX_LIB_DIR");
-    println!("cargo:rustc-check-cfg=cfg(dethrux_pure, dethrux_arrays)");
+    println!("cargo:rustc-check-cfg=cfg(dethrux_pure, dethrux_arrays, docsrs)");
+    let dist = env::current_dir().unwrap_or_default().join("dist");
+    // The build script of utf16string finds the source by this.
+    println!("cargo:proved={}", dist.join("rust").display());
     if is_set("DOCS_RS") || is_set("CARGO_CFG_DOCSRS") {
         return;
     }
-    if let Err(message) = provide() {
+    if let Err(message) = provide(&dist) {
         eprintln!("error: {message}");
         exit(1);
     }
@@ -77,16 +58,12 @@ fn is_set(name: &str) -> bool {
 }
 
 /// Links a library, or compiles one.
-fn provide() -> Result<(), String> {
-    // A package has dist in its folder.
-    let here = env::current_dir().unwrap_or_default();
-    let mut folders = [here.join("dist"), here.join("../../../dist")].into_iter();
-    let dist = folders.find(|folder| folder.join("src").is_dir());
+fn provide(dist: &Path) -> Result<(), String> {
     if is_set("CARGO_FEATURE_PURE") {
-        return translate(&dist.unwrap_or_default());
+        return translate(dist);
     }
     // Only the tests need the source in a crate that links a library.
-    let _ = dist.as_deref().map(list_modules);
+    let _ = list_modules(dist);
     let is_bundled = is_set("CARGO_FEATURE_BUNDLED");
     let target = env::var("TARGET").unwrap_or_default();
     let is_native = env::var("HOST").as_ref() == Ok(&target);
@@ -121,12 +98,12 @@ fn provide() -> Result<(), String> {
         println!("cargo:rustc-link-lib={kind}=dethrux");
         return if is_native { check(&library) } else { Ok(()) };
     }
-    match dist {
-        Some(dist) if is_bundled || kind == "static" => compile(&dist, &target),
-        _ => Err(format!(
-            "there is no {file}: install libdethrux, or set DETHRUX_LIB_DIR to its folder"
-        )),
+    if dist.is_dir() && (is_bundled || kind == "static") {
+        return compile(dist, &target);
     }
+    Err(format!(
+        "there is no {file}: install libdethrux, or set DETHRUX_LIB_DIR to its folder"
+    ))
 }
 
 /// Tests whether a library has the major and the minor version of this crate.
@@ -155,34 +132,46 @@ fn version_of(library: &Path) -> Option<String> {
     compiler.output().ok().filter(|it| it.status.success())?;
     let mut program = Command::new(program);
     let printed = program.env("LD_LIBRARY_PATH", library.parent()?).output();
-    String::from_utf8(printed.ok()?.stdout)
-        .ok()
-        .filter(|it| !it.is_empty())
+    let version = String::from_utf8(printed.ok()?.stdout).ok();
+    version.filter(|it| !it.is_empty())
 }
 
-/// Writes where the modules of the proved source are.
-fn list_modules(dist: &Path) -> Result<(), String> {
+/// Writes where the modules of the proved source are: each file and folder of `dist/rust`.
+fn list_modules(dist: &Path) -> io::Result<()> {
     let mut lines = String::new();
-    for name in MODULES.iter().chain(&TESTED) {
-        let folder = dist.join("rust").join(name);
-        let mut paths = [folder.join("mod.rs"), folder.with_extension("rs")].into_iter();
-        let path = paths.find(|path| path.is_file()).ok_or_else(|| {
-            let folder = folder.display();
-            format!("there is no {folder}: take a whole clone, or the package of a release")
-        })?;
-        if TESTED.contains(name) {
-            lines += "#[cfg(test)]\n";
+    for entry in fs::read_dir(dist.join("rust"))? {
+        let mut path = entry?.path();
+        let name = path
+            .file_stem()
+            .unwrap_or_default()
+            .to_string_lossy()
+            .into_owned();
+        if path.is_dir() {
+            path.push("mod.rs");
         }
-        lines += &format!("#[path = {path:?}]\npub(crate) mod {name};\n");
+        let cfg = if STRINGS.contains(&&name[..]) {
+            "#[cfg(test)]\n"
+        } else {
+            ""
+        };
+        lines += &format!("{cfg}#[path = {path:?}]\npub(crate) mod {name};\n");
     }
-    let to = PathBuf::from(env::var_os("OUT_DIR").unwrap_or_default()).join("proved.rs");
-    fs::write(&to, lines).map_err(|error| format!("{}: {error}", to.display()))
+    fs::write(
+        PathBuf::from(env::var_os("OUT_DIR").unwrap_or_default()).join("proved.rs"),
+        lines,
+    )
 }
 
 /// Has the crate compile the proved source instead of a library.
 fn translate(dist: &Path) -> Result<(), String> {
     println!("cargo:rustc-cfg=dethrux_pure");
-    list_modules(dist)
+    let folder = dist.join("rust");
+    list_modules(dist).map_err(|error| {
+        format!(
+            "{}: {error}: take a whole clone, or the package of a release",
+            folder.display()
+        )
+    })
 }
 
 /// Compiles the assembly for the target, and links it. If there is none, the crate compiles the

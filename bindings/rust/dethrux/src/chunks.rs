@@ -17,9 +17,8 @@ impl<'a> Utf16Chunk<'a> {
         self.valid
     }
 
-    /// Returns the ill-formed sequence after it: an unpaired surrogate, or an incomplete character
-    /// at the end, of 1 to 3 bytes. Each is one U+FFFD in lossy text. It is empty only in the last
-    /// chunk.
+    /// Returns the ill-formed sequence after it, which is one U+FFFD in lossy text. It is empty only
+    /// in the last chunk.
     #[must_use]
     pub fn invalid(&self) -> &'a [u8] {
         self.invalid

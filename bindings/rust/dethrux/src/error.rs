@@ -1,15 +1,69 @@
-#[cfg(feature = "alloc")]
-use crate::{Progress, Status};
+//! Errors, and the calls that only return one.
 
-/// Implements what is the same for each error that has a message.
-macro_rules! error_of_std {
-    ($Error:ident $(#[$example:meta])*) => {
+use core::fmt;
+
+use crate::{ffi, units_as_bytes, ByteOrder, Progress, Status};
+
+/// Defines an error about ill-formed or incomplete input, with a message for both.
+macro_rules! error {
+    (
+        $(#[$doc:meta])*
+        $Error:ident, $units:literal;
+        |$len:pat, $at:ident| $ill_formed:literal, $incomplete:literal
+    ) => {
+        $(#[$doc])*
+        #[derive(Clone, Copy, Debug, Eq, PartialEq)]
+        pub struct $Error {
+            valid_up_to: usize,
+            error_len: Option<u8>,
+        }
+
+        impl $Error {
+            pub(crate) fn new(valid_up_to: usize, error_len: Option<u8>) -> Self {
+                $Error { valid_up_to, error_len }
+            }
+
+            /// Returns the error of a conversion that had enough capacity, or `None` if it read all.
+            #[allow(dead_code)]
+            pub(crate) fn after(progress: Progress) -> Option<Self> {
+                let error_len = match progress.status {
+                    Status::Done => return None,
+                    Status::IllFormed(len) => Some(len as u8),
+                    _ => None,
+                };
+                Some($Error::new(progress.read, error_len))
+            }
+
+            /// Returns the length of the longest well-formed prefix,
+            #[doc = concat!("in ", $units, ".")]
+            #[must_use]
+            pub fn valid_up_to(&self) -> usize {
+                self.valid_up_to
+            }
+
+            /// Returns the length of the ill-formed sequence after that prefix,
+            #[doc = concat!("in ", $units, ".")]
+            /// Decoding resumes after it. Returns `None` if the input ends inside a character.
+            #[must_use]
+            pub fn error_len(&self) -> Option<usize> {
+                self.error_len.map(usize::from)
+            }
+        }
+
+        impl fmt::Display for $Error {
+            fn fmt(&self, f: &mut fmt::Formatter<'_>) -> fmt::Result {
+                let $at = self.valid_up_to;
+                match self.error_len {
+                    Some($len) => write!(f, $ill_formed),
+                    None => write!(f, $incomplete),
+                }
+            }
+        }
+
         #[cfg(feature = "std")]
         impl std::error::Error for $Error {}
 
-        /// An error of the kind `InvalidData`. `get_ref` and `downcast_ref` return the
-        #[doc = concat!("[`", stringify!($Error), "`].")]
-        $(#[$example])*
+        /// An error of the kind `InvalidData`, which has this one in it.
         #[cfg(feature = "std")]
         impl From<$Error> for std::io::Error {
             fn from(error: $Error) -> Self {
@@ -19,97 +73,88 @@ macro_rules! error_of_std {
     };
 }
 
-/// Defines an error about ill-formed or incomplete input, with a message for both.
-macro_rules! error {
-    (
-        $(#[$doc:meta])*
-        pub struct $Error:ident;
-        $(#[$valid_up_to:meta])*
-        pub fn valid_up_to;
-        $(#[$error_len:meta])*
-        pub fn error_len;
-        |$len:pat, $at:ident| $ill_formed:literal, $incomplete:literal;
-        $(#[$example:meta])*
-    ) => {
-        $(#[$doc])*
-        #[derive(Clone, Copy, Debug, Eq, PartialEq)]
-        pub struct $Error {
-            pub(crate) valid_up_to: usize,
-            pub(crate) error_len: Option<u8>,
-        }
-
-        impl $Error {
-            $(#[$valid_up_to])*
-            #[must_use]
-            pub fn valid_up_to(&self) -> usize {
-                self.valid_up_to
-            }
-
-            $(#[$error_len])*
-            #[must_use]
-            pub fn error_len(&self) -> Option<usize> {
-                self.error_len.map(usize::from)
-            }
-        }
-
-        impl core::fmt::Display for $Error {
-            fn fmt(&self, f: &mut core::fmt::Formatter<'_>) -> core::fmt::Result {
-                let $at = self.valid_up_to;
-                match self.error_len {
-                    Some($len) => write!(f, $ill_formed),
-                    None => write!(f, $incomplete),
-                }
-            }
-        }
-
-        $crate::error::error_of_std! { $Error $(#[$example])* }
-    };
+error! {
+    /// The bytes are not well-formed UTF-16. It has the fields of std's
+    /// [`Utf8Error`](core::str::Utf8Error): an unpaired surrogate has a length of 2, and an
+    /// incomplete character at the end has 1 to 3 bytes.
+    Utf16Error, "bytes";
+    |len, at| "invalid utf-16 sequence of {len} bytes from index {at}",
+        "incomplete utf-16 byte sequence from index {at}"
 }
-
-pub(crate) use {error, error_of_std};
 
 error! {
-    /// The bytes are not well-formed UTF-16. It has the fields of std's [`Utf8Error`].
-    ///
-    /// [`Utf8Error`]: core::str::Utf8Error
-    pub struct Utf16Error;
-    /// Returns the length of the longest well-formed prefix, in bytes.
-    pub fn valid_up_to;
-    /// Returns the length of the ill-formed sequence after that prefix, in bytes: an unpaired
-    /// surrogate, of 2. Decoding resumes after it. Returns `None` if the input ends inside a
-    /// character, in its last 1 to 3 bytes.
-    pub fn error_len;
-    |len, at| "invalid utf-16 sequence of {len} bytes from index {at}",
-        "incomplete utf-16 byte sequence from index {at}";
-    ///
-    /// ```
-    /// use dethrux::{decode, ByteOrder::LittleEndian, Utf16Error};
-    /// use std::io::ErrorKind;
-    ///
-    /// fn name(utf16: &[u8]) -> std::io::Result<String> {
-    ///     Ok(decode(LittleEndian, utf16)?)
-    /// }
-    ///
-    /// let error = name(b"h\0\0\xDC").unwrap_err();
-    /// assert_eq!(error.kind(), ErrorKind::InvalidData);
-    /// let inner = error.get_ref().and_then(|inner| inner.downcast_ref::<Utf16Error>());
-    /// assert_eq!(inner.unwrap().valid_up_to(), 2);
-    /// ```
+    /// The code units are not well-formed UTF-16. It is [`Utf16Error`], but counts code units.
+    UnitsError, "code units";
+    |_, at| "unpaired surrogate at code unit {at}", "incomplete surrogate pair from code unit {at}"
 }
 
-impl Utf16Error {
-    /// Returns the error of a conversion that had enough capacity, or `None` if it read all.
-    #[cfg(feature = "alloc")]
-    pub(crate) fn after(progress: Progress) -> Option<Self> {
-        let error_len = match progress.status {
-            Status::Done => return None,
-            Status::IllFormed(len) => Some(len as u8),
-            _ => None,
-        };
-        let valid_up_to = progress.read;
-        Some(Utf16Error {
-            valid_up_to,
-            error_len,
-        })
+error! {
+    /// The code units are not UTF-32. The first that is ill formed has a length of 1.
+    Utf32Error, "code units";
+    |_, at| "invalid utf-32 code unit at index {at}", "invalid utf-32 code unit at index {at}"
+}
+
+error! {
+    /// The bytes are not WTF-8. It has the fields of std's [`Utf8Error`](core::str::Utf8Error).
+    Wtf8Error, "bytes";
+    |len, at| "invalid wtf-8 sequence of {len} bytes from index {at}",
+        "incomplete wtf-8 byte sequence from index {at}"
+}
+
+error! {
+    /// The bytes of a stream are not UTF-8. It is std's [`Utf8Error`](core::str::Utf8Error), but
+    /// its offset is one in the stream.
+    Utf8Error, "bytes";
+    |len, at| "invalid utf-8 sequence of {len} bytes from index {at}",
+        "incomplete utf-8 byte sequence from index {at}"
+}
+
+/// Returns the error that a status of the library is, or `None` for its `DETHRUX_DONE`.
+pub(crate) fn of_status(valid_up_to: usize, status: u32, error_len: u32) -> Option<Utf16Error> {
+    let error_len = (status == 1).then_some(error_len as u8);
+    (status != 0).then_some(Utf16Error::new(valid_up_to, error_len))
+}
+
+impl UnitsError {
+    /// Returns an error about the bytes of code units.
+    pub(crate) fn of_bytes(error: Utf16Error) -> Self {
+        UnitsError::new(error.valid_up_to / 2, error.error_len.map(|len| len / 2))
+    }
+}
+
+/// Tests that the bytes are UTF-16.
+///
+/// # Errors
+///
+/// The length of the longest well-formed prefix, and the length of the ill-formed sequence after
+/// it.
+///
+/// ```
+/// use dethrux::{validate, ByteOrder::BigEndian};
+///
+/// assert!(validate(BigEndian, b"\0h\0i").is_ok());
+/// let error = validate(BigEndian, b"\0h\xD8").unwrap_err();
+/// assert_eq!((error.valid_up_to(), error.error_len()), (2, None));
+/// ```
+pub fn validate(order: ByteOrder, utf16: &[u8]) -> Result<(), Utf16Error> {
+    // SAFETY: the pointer and the length come from a slice.
+    let found = unsafe { ffi::validate(order, utf16.as_ptr(), utf16.len()) };
+    of_status(found.valid_up_to, found.status, found.error_len).map_or(Ok(()), Err)
+}
+
+/// Tests that code units, in the byte order of the machine, are UTF-16: [`validate`], but the error
+/// counts code units.
+pub fn validate_units(units: &[u16]) -> Result<(), UnitsError> {
+    validate(ByteOrder::NATIVE, units_as_bytes(units)).map_err(UnitsError::of_bytes)
+}
+
+/// Tests that code units are UTF-32: no surrogate, and none above 0x10FFFF. The error has the index
+/// of the first one that is ill formed.
+pub fn validate_utf32(utf32: &[u32]) -> Result<(), Utf32Error> {
+    // SAFETY: the pointer and the length come from a slice.
+    let found = unsafe { ffi::validate_utf32(utf32.as_ptr(), utf32.len()) };
+    match found.status {
+        0 => Ok(()),
+        _ => Err(Utf32Error::new(found.valid_up_to, Some(1))),
     }
 }

@@ -34,35 +34,12 @@ pub(crate) struct Bom {
     pub(crate) status: u32,
 }
 
-/// The type of a call.
+/// Declares a call.
 macro_rules! call {
-    ($($signature:tt)*) => { unsafe extern "C" $($signature)* };
-}
-pub(super) use call;
-
-/// Declares the calls of `calls.rs`.
-macro_rules! calls {
-    (
-        conversions { $($name:ident($from:ident: $From:ty) -> $to:ident: $To:ty = $call:ident;)* }
-        others { $(
-            $other:ident($($parameter:ident: $Type:ty),*) $(-> $Result:ty)? = $proved:expr;
-        )* }
-    ) => {
+    ($name:ident $parameters:tt $(-> $Result:ty)? = $proved:expr) => {
         extern "C" {
-            $(
-                #[link_name = concat!("dethrux_", stringify!($name))]
-                pub(crate) fn $name(
-                    order: ByteOrder,
-                    $from: *const $From,
-                    len: usize,
-                    $to: *mut $To,
-                    capacity: usize,
-                ) -> Progress;
-            )*
-            $(
-                #[link_name = concat!("dethrux_", stringify!($other))]
-                pub(crate) fn $other($($parameter: $Type),*) $(-> $Result)?;
-            )*
+            #[link_name = concat!("dethrux_", stringify!($name))]
+            pub(crate) fn $name $parameters $(-> $Result)?;
         }
     };
 }

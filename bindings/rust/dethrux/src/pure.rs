@@ -9,12 +9,6 @@ use crate::ByteOrder;
 
 pub(crate) use crate::proved::dethrux::{Bom, Inspection, Progress, Validity};
 
-/// The type of a call.
-macro_rules! call {
-    ($($signature:tt)*) => { unsafe $($signature)* };
-}
-pub(super) use call;
-
 /// The most elements that a call takes. The proofs are for a `usize` of 64 bits. With fewer, no
 /// number that the source computes is too large for a `usize` up to this length.
 const MAX_LEN: usize = usize::MAX / 4 - 16;
@@ -42,33 +36,14 @@ fn dethrux_kernel() -> *const u8 {
     b"rust\0".as_ptr()
 }
 
-/// Defines the calls of `calls.rs`.
-macro_rules! calls {
-    (
-        conversions { $($name:ident($from:ident: $From:ty) -> $to:ident: $To:ty = $call:ident;)* }
-        others { $(
-            $other:ident($($parameter:ident: $Type:ty),*) $(-> $Result:ty)? = $proved:expr;
-        )* }
-    ) => {
-        $(
-            pub(crate) unsafe fn $name(
-                order: ByteOrder,
-                $from: *const $From,
-                len: usize,
-                $to: *mut $To,
-                capacity: usize,
-            ) -> Progress {
-                // SAFETY: the caller passes slices.
-                unsafe { $call(order as u32, input($from, len), output($to, capacity)) }
-            }
-        )*
-        $(
-            #[allow(unused_unsafe)]
-            pub(crate) unsafe fn $other($($parameter: $Type),*) $(-> $Result)? {
-                // SAFETY: the caller passes slices.
-                unsafe { $proved }
-            }
-        )*
+/// Defines a call.
+macro_rules! call {
+    ($name:ident $parameters:tt $(-> $Result:ty)? = $proved:expr) => {
+        #[allow(unused_unsafe)]
+        pub(crate) unsafe fn $name $parameters $(-> $Result)? {
+            // SAFETY: the caller passes slices.
+            unsafe { $proved }
+        }
     };
 }
 

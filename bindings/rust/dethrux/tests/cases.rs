@@ -6,14 +6,16 @@
 //! the other ways that the crate has: into memory that is not initialized, with a result that the
 //! call owns, on code units, and in chunks of each length.
 
-use dethrux::io::{Reader, Transcoder, Writer};
+use dethrux::io::{Checked, Reader, Transcoder, Writer};
 use dethrux::ByteOrder::{BigEndian, LittleEndian};
 use dethrux::*;
+use std::cell::RefCell;
 use std::collections::BTreeSet;
 use std::io::{Chain, Read, Write};
 use std::mem::{size_of, MaybeUninit};
 use std::panic::catch_unwind;
 use std::process::{Command, Stdio};
+use std::rc::Rc;
 use std::str::{self, Utf8Error};
 
 /// Up to this many bytes of output, a conversion is made with each capacity.
@@ -349,6 +351,7 @@ places! {
     Utf32Error: |error| Some(1), 1;
     Wtf8Error: |error| error.error_len(), 1;
     Utf8Error: |error| error.error_len(), 1;
+    dethrux::Utf8Error: |error| error.error_len(), 1;
 }
 
 /// What a call for a whole input returns.
@@ -389,6 +392,13 @@ const OTHERS: &[Other] = &[
         Ok(read(&marked, |parts| Reader::with_bom(parts, default).unwrap()).0)
     }),
     ("to_utf8_lossy", |order, utf16| Ok(written(utf16, Decoder::new(order)))),
+    ("to_utf8_lossy", |order, utf16| Ok(resumed(order, utf16))),
+    ("to_utf8_lossy", |order, utf16| {
+        Ok(reported(utf16, |it| Ok(validate(order, it)?), |report| Checked::decoder(order, report)))
+    }),
+    ("to_utf8", |order, utf16| {
+        written_strictly(utf16, || Checked::decoder(order, |_, _| false))
+    }),
     ("from_utf8", |order, utf8| Ok(encode(order, str::from_utf8(utf8)?))),
     ("from_utf8", |order, utf8| {
         let mut utf16 = b"a".to_vec();
@@ -406,6 +416,18 @@ const OTHERS: &[Other] = &[
         Ok(read(utf8, |parts| Reader::new(parts, Encoder::new(order))).0)
     }),
     ("from_utf8_lossy", |order, utf8| Ok(written(utf8, Encoder::new(order)))),
+    ("from_utf8_lossy", |order, utf8| {
+        let test = |it: &[u8]| Ok(str::from_utf8(it).map(drop)?);
+        Ok(reported(utf8, test, |report| Checked::encoder(order, report)))
+    }),
+    ("from_utf8", |order, utf8| {
+        let encoder = || Checked::encoder(order, |_, _| false);
+        let (utf16, end) = read(utf8, |parts| Reader::new(parts, encoder()));
+        end.map(|()| utf16)
+    }),
+    ("from_utf8", |order, utf8| {
+        written_strictly(utf8, || Checked::encoder(order, |_, _| false))
+    }),
     ("to_utf32", |order, utf16| Ok(u32::raw(chars_as_utf32(&decode_to_chars(order, utf16)?)))),
     ("to_utf32_lossy", |order, utf16| {
         Ok(u32::raw(chars_as_utf32(&decode_to_chars_lossy(order, utf16))))
@@ -433,6 +455,15 @@ const STREAMS: &[Other] = &[
         Ok(wtf8)
     }),
     ("from_wtf8", streamed::<Wtf8Encoder>),
+    ("from_wtf8", |order, wtf8| {
+        let (mut encoder, mut utf16, mut end) = (Wtf8Encoder::new(order), Vec::new(), [0; 2]);
+        for chunk in wtf8.chunks(3) {
+            assert_eq!(encoder.encode(chunk, &mut utf16).read, chunk.len());
+        }
+        let written = encoder.finish(&mut end).written;
+        utf16.extend(&end[..written]);
+        Ok(utf16)
+    }),
 ];
 
 /// Calls on code units that do what a conversion does in the byte order of the machine.
@@ -497,10 +528,117 @@ fn read<'a, R: Read>(
     (output, end)
 }
 
-/// Where the error of a strict reader is.
+/// Where the error of a strict adapter is.
 fn place(error: &std::io::Error) -> Place {
-    let inner = error.get_ref().expect("an error about UTF-16");
-    Place::from(*inner.downcast_ref::<Utf16Error>().unwrap())
+    let inner = error.get_ref().expect("an error about the text");
+    match inner.downcast_ref::<Utf16Error>() {
+        Some(error) => Place::from(*error),
+        None => Place::from(*inner.downcast_ref::<dethrux::Utf8Error>().unwrap()),
+    }
+}
+
+/// The text of a strict reader that goes on after each error, with U+FFFD for each, wherever the
+/// stream is cut and however long the buffers are.
+fn resumed(order: ByteOrder, utf16: &[u8]) -> Raw {
+    let resumed = |at: usize| {
+        let parts = utf16[..at].chain(&utf16[at..]);
+        let decoder = Checked::decoder(order, |_, _| false);
+        let mut reader = Reader::with_capacity(at % 11, parts, decoder);
+        let (mut text, mut buffer) = (Vec::new(), vec![0; at % 9 + 1]);
+        loop {
+            match reader.read(&mut buffer).map_err(|error| place(&error)) {
+                Ok(0) => break,
+                Ok(read) => text.extend(&buffer[..read]),
+                Err(Place(offset, len)) => {
+                    assert_eq!(reader.position(), offset as u64);
+                    let skipped = reader.skip_error();
+                    assert_eq!(skipped, len.unwrap_or(utf16.len() - offset));
+                    text.extend("\u{FFFD}".bytes());
+                }
+            }
+            assert!(buffer.len() < 4 || reader.skip_error() == 0);
+        }
+        assert_eq!(
+            (reader.position(), reader.skip_error()),
+            (utf16.len() as u64, 0)
+        );
+        text
+    };
+    let text = resumed(0);
+    cuts(utf16).for_each(|at| assert_eq!(resumed(at), text, "cut at {at}"));
+    text
+}
+
+/// What a function is called with.
+type Report = Rc<RefCell<Vec<(u64, usize)>>>;
+
+/// The output of a reader and of a writer that call a function for what they replace, wherever the
+/// stream is cut. The test of the input says what the function is called with.
+fn reported<T: Transcoder>(
+    raw: &[u8],
+    test: impl Fn(&[u8]) -> Result<(), Place>,
+    start: impl Fn(Box<dyn FnMut(u64, usize) -> bool>) -> T,
+) -> Raw {
+    let (mut wanted, mut at) = (Vec::new(), 0);
+    while let Err(Place(valid_len, len)) = test(&raw[at..]) {
+        at += valid_len;
+        let len = len.unwrap_or(raw.len() - at);
+        wanted.push((at as u64, len));
+        at += len;
+    }
+    let reported = |at: usize| {
+        let (found, mut output) = (Report::default(), Vec::new());
+        let start = || {
+            let found = found.clone();
+            start(Box::new(move |offset, len| {
+                found.borrow_mut().push((offset, len));
+                true
+            }))
+        };
+        let mut reader = Reader::new(raw[..at].chain(&raw[at..]), start());
+        reader.read_to_end(&mut output).unwrap();
+        assert_eq!(
+            (found.take(), reader.position()),
+            (wanted.clone(), raw.len() as u64)
+        );
+        let mut writer = Writer::with_capacity(at % 20, Vec::new(), start());
+        writer.write_all(&raw[..at]).unwrap();
+        writer.write_all(&raw[at..]).unwrap();
+        writer.finish().unwrap();
+        assert_eq!(
+            (found.take(), writer.into_inner()),
+            (wanted.clone(), output.clone())
+        );
+        output
+    };
+    let output = reported(0);
+    cuts(raw).for_each(|at| assert_eq!(reported(at), output, "cut at {at}"));
+    output
+}
+
+/// What a strict writer writes of chunks of each length, or its error, which comes again.
+fn written_strictly<T: Transcoder>(raw: &[u8], start: impl Fn() -> T) -> Whole {
+    let written = |len: usize| {
+        let mut writer = Writer::with_capacity(len % 20, Vec::new(), start());
+        for chunk in raw.chunks(len) {
+            let mut rest = chunk;
+            while !rest.is_empty() {
+                match writer.write(rest).map_err(|error| place(&error)) {
+                    Ok(written) => rest = &rest[written..],
+                    Err(error) => {
+                        assert_eq!(place(&writer.write(rest).unwrap_err()), error);
+                        return Err(error);
+                    }
+                }
+            }
+        }
+        writer.finish().map_err(|error| place(&error))?;
+        writer.finish().unwrap();
+        Ok(writer.into_inner())
+    };
+    let whole = written(raw.len().max(1));
+    cuts(raw).for_each(|len| assert_eq!(written(len), whole, "chunks of {len}"));
+    whole
 }
 
 /// What a writer writes of chunks.
@@ -816,7 +954,7 @@ impl Counts {
 
 /// The cases of all tables of the repository.
 fn cases() -> Result<String, Box<dyn std::error::Error>> {
-    let script = concat!(env!("CARGO_MANIFEST_DIR"), "/../../../cases/to_json.py");
+    let script = concat!(env!("CARGO_MANIFEST_DIR"), "/cases/to_json.py");
     let mut command = Command::new("python3");
     let made = command.args([script, "--tabs"]).stderr(Stdio::inherit());
     let made = made.output()?;

@@ -12,6 +12,7 @@ use dethrux::ByteOrder::{self, BigEndian, LittleEndian};
 use ffi::State;
 use random::Random;
 
+#[macro_use]
 #[path = "../src/ffi.rs"]
 #[allow(unused)]
 mod ffi;
