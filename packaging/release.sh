@@ -13,7 +13,7 @@
 #     deb-arm64  the Debian packages for arm64
 #     wheels     the Python package, with packaging/wheels.sh
 #     npm        the JavaScript package, with npm pack
-#     crate      the Rust crate, with cargo package
+#     crates     the Rust crates, with cargo package
 #
 # If a part cannot be made, a line says why, and the status is 3 after the other parts.
 set -euo pipefail
@@ -21,7 +21,7 @@ here=$(cd "$(dirname "${BASH_SOURCE[0]}")" && pwd)
 top=$(dirname "$here")
 version=$(< "$top/VERSION")
 legal=(LICENSE-APACHE LICENSE-MIT THIRD-PARTY.md)
-all=(linux arm64 windows dist deb deb-arm64 wheels npm crate)
+all=(linux arm64 windows dist deb deb-arm64 wheels npm crates)
 
 # Prints one line, and ends with status 1.
 fail() {
@@ -154,22 +154,32 @@ make_npm() {
     give "$room/npm/dethrux-$version.tgz"
 }
 
-# cargo takes the crates of the build script from Debian's packages if they are installed.
-make_crate() {
-    local registry=/usr/share/cargo/registry words=()
+# Packages crates, and builds what it packaged.
+package() {
+    run cargo package "${words[@]}" "${@/#/--package=}" --allow-dirty --target-dir "$room/target" \
+        --manifest-path "$top/Cargo.toml"
+}
+
+# cargo takes what the crates need from Debian's packages if they are installed. The second crate
+# then finds the first one in a folder with them.
+make_crates() {
+    local debian=/usr/share/cargo/registry registry=$room/registry words=()
     need cargo
-    cp -R "$top/bindings/rust/dethrux" "$room/crate"
-    cp "${legal[@]/#/$top/}" "$room/crate/"
-    mkdir "$room/crate/dist"
-    cp -R "$top"/dist/{src,include,rust} "$room/crate/dist/"
-    ! compgen -G "$registry/cc-*" > "$room/log" || words=(--offline
-        --config 'source.crates-io.replace-with="debian"'
-        --config "source.debian.directory=\"$registry\"")
     # A lock file would have the checksums of Debian's packages.
-    ! cargo package --help | grep -q -e --exclude-lockfile || words+=(--exclude-lockfile)
-    run cargo package "${words[@]}" --allow-dirty --no-verify --target-dir "$room/target" \
-        --manifest-path "$room/crate/Cargo.toml"
-    give "$room/target/package/dethrux-$version.crate"
+    ! cargo package --help | grep -q -e --exclude-lockfile || words=(--exclude-lockfile)
+    if compgen -G "$debian/cc-*" > "$room/log"; then
+        mkdir "$registry"
+        ln -s "$debian"/* "$registry"
+        words+=(--offline --config 'source.crates-io.replace-with="here"'
+            --config "source.here.directory=\"$registry\"")
+        package dethrux
+        tar -C "$registry" -xzf "$room/target/package/dethrux-$version.crate"
+        echo '{"files": {}}' > "$registry/dethrux-$version/.cargo-checksum.json"
+        package dethrux-utf16string
+    else
+        package dethrux dethrux-utf16string
+    fi
+    give "$room/target/package/dethrux"{,-utf16string}"-$version.crate"
 }
 
 folder=${1-$here/out}

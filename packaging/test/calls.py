@@ -70,13 +70,15 @@ def results():
         "Option<usize>" in script.rust_function(named("find"))
         and "utf16.as_ptr(), utf16.len(), pattern.as_ptr(), pattern.len()) })"
         in flat(script.rust_function(named("find"))),
-        "Rust changes a slice": "(utf16: &mut [u8]) {\n" in script.rust_function(swap)
-        and "(utf16.as_mut_ptr(), utf16.len()) }" in script.rust_function(swap),
+        "Rust changes a slice": "(order: ByteOrder, utf16: &mut [u8]) -> usize {\n"
+        in script.rust_function(named("make_well_formed"))
+        and "(order, utf16.as_mut_ptr(), utf16.len()) }"
+        in script.rust_function(named("make_well_formed")),
         "Rust writes UTF-32 to a buffer": "to_utf32<B: Buffer<u32> + ?Sized>(order"
         in script.rust_function(named("to_utf32")),
         "what Rust says": "///\n/// As the length of `to`, [`from_utf8_max_len`] suffices; a loop "
-        "needs 4.\n///\n/// The result is how far the call came, with one of these statuses:\n/// - "
-        "[`Status::Done`]: all of the input was read\n" in script.rust_function(named("from_utf8")),
+        "needs 4.\n///\n/// The result is how far the call came, with one of these statuses:\n"
+        "/// - [`Status::Done`]: all of the input was read\n" in script.rust_function(named("from_utf8")),
         "each form has a capacity": all(
             header.looked_up(header.CAPACITIES, it.name) for it in header.calls()
             if it.has_form() and it.result == "dethrux_progress"

@@ -1,7 +1,7 @@
-//! Writes where the proved source is: in the folder `dist` of the package, or in that of the clone.
+//! Writes where the proved source is: the build script of dethrux says it.
 
 use std::process::exit;
-use std::{env, fs};
+use std::{env, fs, path::PathBuf};
 
 /// The modules of the proved source that the strings need.
 const MODULES: [&str; 8] = [
@@ -18,15 +18,7 @@ const MODULES: [&str; 8] = [
 fn main() {
     println!("cargo:rerun-if-changed=build.rs");
     println!("cargo:rustc-check-cfg=cfg(dethrux_arrays)");
-    let here = env::current_dir().unwrap_or_default();
-    let folders = ["dist/rust", "../../../dist/rust"].map(|it| here.join(it));
-    let Some(folder) = folders.iter().find(|it| it.is_dir()) else {
-        eprintln!(
-            "error: there is no {}: take a whole clone",
-            folders[1].display()
-        );
-        exit(1);
-    };
+    let folder = PathBuf::from(env::var_os("DEP_DETHRUX_PROVED").expect("dethrux sets it"));
     let mut lines = String::new();
     for name in MODULES {
         let module = name.trim_end_matches(".rs").trim_end_matches("/mod");

@@ -1,0 +1,3 @@
+//! The crate `dethrux-utf16string` under the name of the original.
+
+pub use ours::*;
