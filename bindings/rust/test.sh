@@ -1,12 +1,13 @@
 #!/usr/bin/env bash
-# Tests the crates of this folder without network: their tests and the examples of their
-# documentation with each set of features, the page docs/RUST.md in an empty project, how the build
-# script finds or compiles the library and what it refuses, the package of dethrux, documentation
-# without the library, formatting and lints. With --tests it skips the last two. The last line is
+# Tests the crates of this folder: their tests and the examples of their documentation with each set
+# of features, the page docs/RUST.md in an empty project, how the build script finds or compiles the
+# library and what it refuses, the packages, vendored sources, documentation without the library,
+# the oldest Rust, formatting and lints. With --tests it skips the last two. The last line is
 # 'N passed, M failed'. The library is what dist/Makefile builds, or is in the folder that
-# DETHRUX_LIB_DIR names. It needs cargo, cc, make, pkg-config, python3, and the crates cc,
-# pkg-config, byteorder, memchr, serde and simdutf8 as Debian packages them. What is missing is a
-# failure, which names its Debian package.
+# DETHRUX_LIB_DIR names. It needs cargo, cc, make, pkg-config, python3, git, and the crates cc,
+# pkg-config, byteorder, memchr, serde and simdutf8 as Debian packages them. Only apt-get, which
+# downloads the oldest Rust, needs a network. What is missing is a failure, which names its Debian
+# package.
 set -uo pipefail
 here=$(cd "$(dirname "$0")" && pwd)
 top=$(cd "$here/../.." && pwd)
@@ -44,7 +45,8 @@ count() {
 on_crate() {
     local crate=$1 command=$2
     shift 2
-    (cd "$room" && cargo "$command" --offline --manifest-path "$here/$crate/Cargo.toml" "$@")
+    (cd "$room" && cargo "$command" --offline --manifest-path "$top/Cargo.toml" \
+        --package "$crate" "$@")
 }
 
 documented() {
@@ -55,7 +57,7 @@ documented() {
 lint() {
     local crate=$1
     [ -n "$lints" ] || return
-    count "$crate: cargo fmt" cargo fmt --check --manifest-path "$here/$crate/Cargo.toml"
+    count "$crate: cargo fmt" cargo fmt --check --manifest-path "$top/Cargo.toml" --package "$crate"
     count "$crate: cargo clippy" on_crate "$crate" clippy --quiet --all-targets "${@:2}" -- \
         -D warnings
 }
@@ -91,11 +93,12 @@ test_dynamic() {
 }
 
 test_utf16string() {
-    count 'utf16string' on_crate utf16string test
-    count 'utf16string with pure and serde' on_crate utf16string test --features pure,serde --tests
+    local strings=dethrux-utf16string
+    count 'utf16string' on_crate $strings test
+    count 'utf16string with pure and serde' on_crate $strings test --features pure,serde --tests
     count 'a program of utf16string 0.2' test_patch
-    count 'the documentation of utf16string' documented utf16string doc --no-deps --features serde
-    lint utf16string --features serde
+    count 'the documentation of utf16string' documented $strings doc --no-deps --features serde
+    lint $strings --features serde
 }
 
 # Begins an empty project in a folder, with lines for its dependencies.
@@ -114,7 +117,7 @@ build_and_run() {
 test_patch() {
     local project=$room/patched
     begin "$project" 'byteorder = "1"' 'utf16string = "0.2"' \
-        '[patch.crates-io]' "utf16string = { path = '$here/utf16string' }"
+        '[patch.crates-io]' "utf16string = { path = '$here/patch' }"
     cat > "$project/src/main.rs" << 'END'
 use byteorder::{ByteOrder, LE};
 use utf16string::{WStr, WString};
@@ -153,10 +156,11 @@ test_page() {
     [ "$(wc -l < "$top/docs/RUST.md")" -le 100 ]
 }
 
-# Runs cargo on a copy of the crate outside of the repository, with words for env before the command.
+# Runs cargo on a copy of the crate without dist, with words for env before the command.
 on_copy() {
-    local copy=$room/clone/bindings/rust/dethrux
-    [ -d "$copy" ] || { mkdir -p "${copy%/*}" && cp -r "$here/dethrux" "$copy"; }
+    local copy=$room/clone
+    [ -d "$copy" ] || { mkdir "$copy" && tar -C "$top" -cf - Cargo.toml bindings/rust |
+        tar -C "$copy" -xf -; } || return
     (cd "$copy" && PKG_CONFIG_LIBDIR=$room env -u DETHRUX_LIB_DIR "$@")
 }
 build_copy() {
@@ -266,11 +270,46 @@ END
         env -u DETHRUX_LIB_DIR cargo test --offline)
 }
 
-# Packages the crate, and unpacks it outside of the clone.
+# Packages the crates, and unpacks them outside of the clone, with the first one among Debian's.
 package() {
-    "$top/packaging/release.sh" "$room" crate &&
-        tar -C "$room" -xzf "$room/dethrux-$(< "$top/VERSION").crate" &&
-        ls "$room/dethrux-$(< "$top/VERSION")"/{LICENSE-APACHE,LICENSE-MIT,THIRD-PARTY.md}
+    local version crate
+    version=$(< "$top/VERSION")
+    "$top/packaging/release.sh" "$room" crates && mkdir "$room/alone" &&
+        ln -s "$registry"/* "$room/alone" || return
+    for crate in dethrux dethrux-utf16string; do
+        tar -C "$room" -xzf "$room/$crate-$version.crate" &&
+            mv "$room/$crate-$version" "$room/$crate" &&
+            ls "$room/$crate"/LICENSE-{APACHE,MIT} || return
+    done
+    ls "$room/dethrux/THIRD-PARTY.md" && cp -r "$room/dethrux" "$room/alone/" &&
+        echo '{"files": {}}' > "$room/alone/dethrux/.cargo-checksum.json"
+}
+
+# The tests of a package, in its folder, without rt and without a library.
+test_package() {
+    (cd "$room/$1" && PATH=$room/bin:/usr/bin:/bin PKG_CONFIG_LIBDIR=$room env -u DETHRUX_LIB_DIR \
+        cargo test --offline --config "source.debian.directory='$room/alone'")
+}
+
+# A project that depends on both crates of a repository, whose sources are vendored.
+test_vendored() {
+    local project=$room/vendored url=file://$room/repository
+    begin "$project" "dethrux = { git = '$url', features = ['bundled'] }" \
+        "utf16string = { package = 'dethrux-utf16string', git = '$url' }"
+    cat > "$project/src/main.rs" << 'END'
+fn main() {
+    let text: utf16string::WString<utf16string::BE> = "h★".into();
+    println!("{}", dethrux::display(dethrux::ByteOrder::BigEndian, text.as_bytes()));
+}
+END
+    mkdir "$room/repository" && (cd "$top" && git ls-files -z --cached --others --exclude-standard \
+        Cargo.toml 'LICENSE-*' THIRD-PARTY.md bindings/rust cases dist |
+        xargs -0 cp --parents -t "$room/repository") && (cd "$room/repository" &&
+        git init --quiet && git add . &&
+        git -c user.name=test -c user.email=test@test commit --quiet --message=all) || return
+    (cd "$project" && mkdir .cargo && CARGO_HOME=$room/home cargo vendor --respect-source-config \
+        > .cargo/config.toml) && rm -r "$room/repository" "$room/home" &&
+        [ "$(env -u DETHRUX_LIB_DIR build_and_run "$project")" = 'h★' ]
 }
 
 # Runs the build script for a target as cargo does, in `folder`, with a feature and words for env.
@@ -335,12 +374,48 @@ test_other_targets() {
     done
 }
 
+# Unpacks an older Rust of Debian, which is not installed, and the libraries that it needs.
+get_rust() {
+    local folder=$room/rust-$1 package
+    mkdir -p "$folder" "$room/debs-$1" && (cd "$room/debs-$1" &&
+        apt-get -o APT::Sandbox::User=root download "${@:2}" libgit2-1.5 libhttp-parser2.9 \
+            libmbedcrypto7 libmbedtls14 libmbedx509-1) || return
+    for package in "$room/debs-$1"/*.deb; do
+        dpkg -x "$package" "$folder" || return
+    done
+}
+
+# Runs a step with an older Rust.
+with_rust() {
+    local usr=$room/rust-$1/usr
+    LD_LIBRARY_PATH=$usr/lib/x86_64-linux-gnu:$usr/lib/llvm-19/lib PATH=$usr/bin:$PATH \
+        CARGO_TARGET_DIR=$room/target-$1 "${@:2}"
+}
+
+# The oldest Rust of each crate, or the next one that Debian has. The proved source is optimized,
+# since a debug build of Rust 1.85 takes more stack than a thread has.
+test_old() {
+    local tests='--test cases --test adapters --test edges --test memory --test std'
+    count 'Rust 1.63' get_rust 1.63 {rustc,libstd-rust-dev}=1.63.\* libstd-rust-1.63 \
+        cargo=0.66.\* libllvm14
+    count 'Rust 1.85' get_rust 1.85 {rustc-web,cargo-web,libstd-rust-web-dev}=1.85.\* \
+        libstd-rust-web-1.85 libllvm19
+    rm -f "$top/Cargo.lock"
+    count 'dethrux with Rust 1.63' with_rust 1.63 on_crate dethrux test $tests
+    count 'the examples with Rust 1.63' with_rust 1.63 on_crate dethrux test --doc
+    export CARGO_PROFILE_TEST_OPT_LEVEL=1
+    count 'the proved source with Rust 1.85' with_rust 1.85 on_crate dethrux test --features pure \
+        $tests
+    count 'utf16string with Rust 1.85' with_rust 1.85 on_crate dethrux-utf16string test --tests
+    unset CARGO_PROFILE_TEST_OPT_LEVEL
+}
+
 # What the build script compiles for other targets than this machine. cargo needs the standard
 # library of a target, so the script that it built before runs with cargo's variables.
 test_targets() {
     local arm=aarch64-linux-gnu windows=x86_64-w64-mingw32 target build_script
-    local folder=$here/dethrux feature=BUNDLED
-    build_script=$(find "$CARGO_TARGET_DIR" -path '*/dethrux-*/build-script-build' | head -n 1)
+    local folder=$top feature=BUNDLED
+    build_script=$(find "$CARGO_TARGET_DIR" -path '*/dethrux-[0-9a-f]*/build-script-build' | head -n 1)
     test_other_targets
     for target in x86_64-unknown-linux-{musl,gnu}; do
         count "$target" makes $target x86_64-linux-gnu:elf64-x86-64 \
@@ -362,7 +437,7 @@ test_targets() {
 
 library=$(realpath -m "${DETHRUX_LIB_DIR:-$room/dist}")/libdethrux.a
 for pair in $lints cargo:cargo rustc:rustc cc:gcc ar:binutils make:make pkg-config:pkg-config \
-    cmp:diffutils python3:python3 \
+    cmp:diffutils python3:python3 git:git \
     x86_64-linux-gnu-gcc:gcc aarch64-linux-gnu-gcc:gcc-aarch64-linux-gnu \
     clang:clang llvm-objdump:llvm \
     qemu-aarch64:qemu-user x86_64-w64-mingw32-gcc:gcc-mingw-w64-x86-64; do
@@ -390,12 +465,17 @@ if [ $failed = 0 ]; then
     host=$(rustc -vV | sed -n 's/^host: //p')
     test_build_script
     mkdir "$room/bin" && ln -s "$(command -v cargo)" "$(command -v rustc)" "$room/bin"
-    count 'the package' package
-    for feature in bundled pure; do
-        count "an empty project with the crate and $feature" test_alone "$here/dethrux" $feature
-        count "an empty project with the package and $feature" \
-            test_alone "$room/dethrux-$(< "$top/VERSION")" $feature
+    count 'the packages' package
+    for crate in dethrux dethrux-utf16string; do
+        count "the tests of the package $crate" test_package $crate
     done
+    for feature in bundled pure; do
+        count "an empty project with the crate and $feature" test_alone "$top" $feature
+        count "an empty project with the package and $feature" \
+            test_alone "$room/dethrux" $feature
+    done
+    count 'a project with vendored sources' test_vendored
+    test_old
     test_targets
 fi
 echo "$passed passed, $failed failed"

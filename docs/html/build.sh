@@ -32,7 +32,7 @@ PYTHON=/usr/bin/python3 bindings/python/build.sh "$room/python"
 site/build.py "$room/source/extra/see/index.html" ../index.html
 
 # A copy, since cargo writes a file next to a crate. As on docs.rs, no library is linked.
-git ls-files -z bindings/rust dist/rust | xargs -0 cp --parents -t "$room"
+git ls-files -z Cargo.toml bindings/rust dist/rust | xargs -0 cp --parents -t "$room"
 settings=('source.crates-io.replace-with="debian"')
 settings+=('source.debian.directory="/usr/share/cargo/registry"')
 # The proved crates are modules of one, each call with its contract.
@@ -48,14 +48,15 @@ mkdir -p "$room/proved/src"
         printf '#[path = "%s"] %smod %s;\n' "$module" "$public" "${name%%[/.]*}"
     done
     echo '}'; } > "$room/proved/src/lib.rs"
-printf '%s\n' '[package]' 'name = "proved"' "version = \"$(< VERSION)\"" 'edition = "2021"' \
+printf '%s\n' '[workspace]' '[package]' 'name = "proved"' "version = \"$(< VERSION)\"" 'edition = "2021"' \
     '[features]' 'std = []' '[dependencies]' 'memchr = { version = "2.4", default-features = false }' \
     'simdutf8 = { version = "0.1.4", default-features = false }' > "$room/proved/Cargo.toml"
-for crate in bindings/rust/{dethrux,utf16string} proved; do
-    (cd "$room/$crate" && DOCS_RS=1 CARGO_TARGET_DIR=$room/target \
-        RUSTDOCFLAGS="-D warnings" cargo doc --quiet --no-deps --offline \
-        "${settings[@]/#/--config=}") || status=1
-done
+document() {
+    (cd "$1" && DOCS_RS=1 CARGO_TARGET_DIR=$room/target RUSTDOCFLAGS="-D warnings" \
+        cargo doc --quiet --no-deps --offline "${settings[@]/#/--config=}" "${@:2}") || status=1
+}
+document "$room" --package dethrux --package dethrux-utf16string
+document "$room/proved"
 cp -r "$room/target/doc/." "$room/source/extra/rust"
 
 rm -rf docs/site

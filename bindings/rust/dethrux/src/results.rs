@@ -5,6 +5,7 @@ use Repertoire::{Ascii, Bmp, Latin1, Unicode};
 
 /// Why a call stopped.
 #[derive(Clone, Copy, Debug, Eq, PartialEq)]
+#[non_exhaustive]
 pub enum Status {
     /// All of the input was read.
     Done,
@@ -63,6 +64,7 @@ pub enum Repertoire {
 
 /// The longest well-formed prefix, what characters it has, and what follows it.
 #[derive(Clone, Copy, Debug, Eq, PartialEq)]
+#[non_exhaustive]
 pub struct Inspection {
     /// The length of the longest well-formed prefix, in bytes.
     pub valid_up_to: usize,

@@ -274,7 +274,7 @@ impl Conversion {
             Status::NoSpace | Status::NotLatin1 => return (progress, output),
             Status::Done => Ok(output.clone()),
             Status::IllFormed(len) => Err(Place(progress.read, Some(len))),
-            Status::Incomplete => Err(Place(progress.read, None)),
+            _ => Err(Place(progress.read, None)),
         };
         let is_native = order == ByteOrder::NATIVE && (self.reads != "utf16" || raw.len() % 2 == 0);
         let mut calls: Vec<&Other> = OTHERS.iter().collect();
@@ -327,6 +327,7 @@ fn came(found: Progress) -> String {
         Status::NoSpace => "no_space".to_string(),
         Status::NotLatin1 => "not_latin1".to_string(),
         Status::IllFormed(len) => format!("ill_formed {len}"),
+        _ => format!("{:?}", found.status),
     };
     format!("{} {} {status}", found.read, found.written)
 }

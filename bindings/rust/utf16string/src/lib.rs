@@ -6,7 +6,7 @@
 //!
 //! ```toml
 //! [dependencies]
-//! utf16string = { path = "dethrux/bindings/rust/utf16string" }
+//! utf16string = { package = "dethrux-utf16string", path = "dethrux/bindings/rust/utf16string" }
 //! ```
 //!
 //! [`LE`] and [`BE`] are types of the crate `byteorder`, as there. What 0.2.0 does not have comes
