@@ -248,28 +248,33 @@ def said_in_rust(call):
     parts = text.split("\n\n")
     for it in tags:
         kind, name, words = [*it.split(" ", 2), ""][:3]
-        if kind == "return":
-            words = f"The result is {name} {words}"
-            is_progress = call.result == "dethrux_progress"
-            parts.append(words if is_progress else words.partition(", with one of")[0])
+        if kind == "return" and call.result == "dethrux_progress":
+            parts[-1] += f". {statuses(words)}"
+        elif kind == "return":
+            parts.append(f"The result is {name} {words}".partition(", with one of")[0])
         elif name == "capacity":
             parts.append(f"As the length of `to`, {words}")
         elif kind == "param" and name not in ("to", "len"):
             parts.append(f"`{name}`: {words}")
-    slices = [it.name for it in call.parameters if it.is_pointer]
-    lines = []
+    slices, lines = [it.name for it in call.parameters if it.is_pointer], []
     for part in parts:
         for old, new in RUST_WORDS.items():
             part = re.sub(old, new, part)
         part = re.sub("`len(?=`| /)", f"`{slices[0]}.len()", part) if slices else part
-        items = [" ".join(it.split()) for it in re.split(r"\n(?=- )", part)]
-        items[0] += "." * (items[0][-1] not in ".:")
-        for it in items:
-            later = "///   " if it.startswith("- ") else "/// "
-            lines += textwrap.wrap(it, WIDTH, initial_indent="/// ", subsequent_indent=later,
-                                   break_on_hyphens=False)
-        lines.append("///")
+        part = " ".join(part.split()).rstrip(".") + "."
+        lines += textwrap.wrap(part, WIDTH, initial_indent="/// ", subsequent_indent="/// ",
+                               break_on_hyphens=False) + ["///"]
     return lines[:-1]
+
+
+def statuses(text):
+    """Returns a sentence about the statuses of a list, and one about what is not read if the input
+    does not just end inside a character."""
+    found = re.findall(r"- (DETHRUX_\w+): (.*?)(?=\n- |\Z)", text, re.DOTALL)
+    names = [status for status, _ in found]
+    more = [f". With {status}, {what}" for status, what in found
+            if status == "DETHRUX_INCOMPLETE" and "the input ends" not in what]
+    return f"The status is {', '.join(names[:-1])} or {names[-1]}" + "".join(more)
 
 
 # A function of dethrux.hpp for code units: what is before its result, the result, its name, its

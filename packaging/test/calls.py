@@ -77,8 +77,9 @@ def results():
         "Rust writes UTF-32 to a buffer": "to_utf32<B: Buffer<u32> + ?Sized>(order"
         in script.rust_function(named("to_utf32")),
         "what Rust says": "///\n/// As the length of `to`, [`from_utf8_max_len`] suffices; a loop "
-        "needs 4.\n///\n/// The result is how far the call came, with one of these statuses:\n"
-        "/// - [`Status::Done`]: all of the input was read\n" in script.rust_function(named("from_utf8")),
+        "needs 4. The status is\n/// [`Status::Done`], [`Status::Incomplete`] or "
+        "[`Status::NoSpace`]. With [`Status::Incomplete`], at\n/// most 3 bytes follow"
+        in script.rust_function(named("from_utf8_partial")),
         "each form has a capacity": all(
             header.looked_up(header.CAPACITIES, it.name) for it in header.calls()
             if it.has_form() and it.result == "dethrux_progress"

@@ -122,20 +122,8 @@ impl UnitsError {
     }
 }
 
-/// Tests that the bytes are UTF-16.
-///
-/// # Errors
-///
-/// The length of the longest well-formed prefix, and the length of the ill-formed sequence after
-/// it.
-///
-/// ```
-/// use dethrux::{validate, ByteOrder::BigEndian};
-///
-/// assert!(validate(BigEndian, b"\0h\0i").is_ok());
-/// let error = validate(BigEndian, b"\0h\xD8").unwrap_err();
-/// assert_eq!((error.valid_up_to(), error.error_len()), (2, None));
-/// ```
+/// Tests that the bytes are UTF-16. The error has the length of the longest well-formed prefix, and
+/// that of the ill-formed sequence after it.
 pub fn validate(order: ByteOrder, utf16: &[u8]) -> Result<(), Utf16Error> {
     // SAFETY: the pointer and the length come from a slice.
     let found = unsafe { ffi::validate(order, utf16.as_ptr(), utf16.len()) };

@@ -1,5 +1,6 @@
 // packaging/calls wrote this from the header: do not edit it.
-//! The functions that only make a call of the library.
+//! The functions that only make a call of the library. Each is safe, since the pointers
+//! and the lengths that it passes are those of slices that do not overlap.
 
 use core::cmp::Ordering;
 
@@ -12,14 +13,12 @@ use crate::*;
 /// trailing surrogates.
 #[must_use]
 pub fn count_chars(order: ByteOrder, utf16: &[u8]) -> usize {
-    // SAFETY: the pointers and the lengths are those of slices that do not overlap.
     unsafe { ffi::count_chars(order, utf16.as_ptr(), utf16.len()) }
 }
 
 /// Returns whether the bytes are UTF-16 whose characters are all ASCII, below U+0080.
 #[must_use]
 pub fn is_ascii(order: ByteOrder, utf16: &[u8]) -> bool {
-    // SAFETY: the pointers and the lengths are those of slices that do not overlap.
     unsafe { ffi::is_ascii(order, utf16.as_ptr(), utf16.len()) }
 }
 
@@ -28,7 +27,6 @@ pub fn is_ascii(order: ByteOrder, utf16: &[u8]) -> bool {
 /// The result is at most [`to_utf8_max_len`], and at most `utf16.len() / 2 * 3` for UTF-16.
 #[must_use]
 pub fn to_utf8_lossy_len(order: ByteOrder, utf16: &[u8]) -> usize {
-    // SAFETY: the pointers and the lengths are those of slices that do not overlap.
     unsafe { ffi::to_utf8_lossy_len(order, utf16.as_ptr(), utf16.len()) }
 }
 
@@ -39,7 +37,6 @@ pub fn to_utf8_lossy_len(order: ByteOrder, utf16: &[u8]) -> usize {
 /// The result is at most [`from_utf8_max_len`].
 #[must_use]
 pub fn from_utf8_len(utf8: &[u8]) -> usize {
-    // SAFETY: the pointers and the lengths are those of slices that do not overlap.
     unsafe { ffi::from_utf8_len(utf8.as_ptr(), utf8.len()) }
 }
 
@@ -50,7 +47,6 @@ pub fn from_utf8_len(utf8: &[u8]) -> usize {
 /// The result is at most [`from_utf8_max_len`].
 #[must_use]
 pub fn from_utf8_lossy_len(utf8: &[u8]) -> usize {
-    // SAFETY: the pointers and the lengths are those of slices that do not overlap.
     unsafe { ffi::from_utf8_lossy_len(utf8.as_ptr(), utf8.len()) }
 }
 
@@ -61,7 +57,6 @@ pub fn from_utf8_lossy_len(utf8: &[u8]) -> usize {
 /// The result is 0 if and only if the input is well formed.
 #[must_use]
 pub fn to_utf8_replacements(order: ByteOrder, utf16: &[u8]) -> usize {
-    // SAFETY: the pointers and the lengths are those of slices that do not overlap.
     unsafe { ffi::to_utf8_replacements(order, utf16.as_ptr(), utf16.len()) }
 }
 
@@ -73,7 +68,6 @@ pub fn to_utf8_replacements(order: ByteOrder, utf16: &[u8]) -> usize {
 /// The result is 0 if and only if the input is well formed.
 #[must_use]
 pub fn from_utf8_replacements(utf8: &[u8]) -> usize {
-    // SAFETY: the pointers and the lengths are those of slices that do not overlap.
     unsafe { ffi::from_utf8_replacements(utf8.as_ptr(), utf8.len()) }
 }
 
@@ -82,17 +76,11 @@ pub fn from_utf8_replacements(utf8: &[u8]) -> usize {
 /// That is an unpaired surrogate of 2 bytes.
 ///
 /// As the length of `to`, `utf16.len() / 2 * 3` suffices, and so does [`to_utf8_max_len`]; a loop
-/// needs 4.
-///
-/// The result is how far the call came, with one of these statuses:
-/// - [`Status::Done`]: all of the input was read
-/// - [`Status::IllFormed`]: an unpaired surrogate follows `read`
-/// - [`Status::Incomplete`]: the input ends inside a character, which follows `read`
-/// - [`Status::NoSpace`]: the next character does not fit: call again with the rest
+/// needs 4. The status is [`Status::Done`], [`Status::IllFormed`], [`Status::Incomplete`] or
+/// [`Status::NoSpace`].
 #[must_use]
 pub fn to_utf8<B: Buffer + ?Sized>(order: ByteOrder, utf16: &[u8], to: &mut B) -> Progress {
     let (to, capacity) = to.raw();
-    // SAFETY: the pointers and the lengths are those of slices that do not overlap.
     unsafe { ffi::to_utf8(order, utf16.as_ptr(), utf16.len(), to, capacity) }.into()
 }
 
@@ -101,15 +89,11 @@ pub fn to_utf8<B: Buffer + ?Sized>(order: ByteOrder, utf16: &[u8], to: &mut B) -
 /// The replacement character U+FFFD replaces each unpaired surrogate, and an incomplete character
 /// at the end.
 ///
-/// As the length of `to`, [`to_utf8_max_len`] suffices; a loop needs 4.
-///
-/// The result is how far the call came, with one of these statuses:
-/// - [`Status::Done`]: all of the input was read
-/// - [`Status::NoSpace`]: the next character does not fit: call again with the rest
+/// As the length of `to`, [`to_utf8_max_len`] suffices; a loop needs 4. The status is
+/// [`Status::Done`] or [`Status::NoSpace`].
 #[must_use]
 pub fn to_utf8_lossy<B: Buffer + ?Sized>(order: ByteOrder, utf16: &[u8], to: &mut B) -> Progress {
     let (to, capacity) = to.raw();
-    // SAFETY: the pointers and the lengths are those of slices that do not overlap.
     unsafe { ffi::to_utf8_lossy(order, utf16.as_ptr(), utf16.len(), to, capacity) }.into()
 }
 
@@ -119,33 +103,23 @@ pub fn to_utf8_lossy<B: Buffer + ?Sized>(order: ByteOrder, utf16: &[u8], to: &mu
 /// may be cut anywhere; no state is kept. However the stream is cut, the same bytes are written in
 /// all.
 ///
-/// As the length of `to`, `utf16.len() / 2 * 3` suffices; a loop needs 4.
-///
-/// The result is how far the call came, with one of these statuses:
-/// - [`Status::Done`]: all of the chunk was read
-/// - [`Status::Incomplete`]: at most 3 bytes follow `read`: put them before the next chunk, and at
-///   the end of the stream pass them to [`to_utf8_lossy`]
-/// - [`Status::NoSpace`]: the next character does not fit: call again with the rest
+/// As the length of `to`, `utf16.len() / 2 * 3` suffices; a loop needs 4. The status is
+/// [`Status::Done`], [`Status::Incomplete`] or [`Status::NoSpace`]. With [`Status::Incomplete`], at
+/// most 3 bytes follow `read`: put them before the next chunk, and at the end of the stream pass
+/// them to [`to_utf8_lossy`].
 #[must_use]
 pub fn to_utf8_partial<B: Buffer + ?Sized>(order: ByteOrder, utf16: &[u8], to: &mut B) -> Progress {
     let (to, capacity) = to.raw();
-    // SAFETY: the pointers and the lengths are those of slices that do not overlap.
     unsafe { ffi::to_utf8_partial(order, utf16.as_ptr(), utf16.len(), to, capacity) }.into()
 }
 
 /// Converts UTF-8 to UTF-16, up to the first ill-formed sequence, of 1 to 3 bytes.
 ///
-/// As the length of `to`, [`from_utf8_max_len`] suffices; a loop needs 4.
-///
-/// The result is how far the call came, with one of these statuses:
-/// - [`Status::Done`]: all of the input was read
-/// - [`Status::IllFormed`]: an ill-formed sequence follows `read`
-/// - [`Status::Incomplete`]: the input ends inside a character, which follows `read`
-/// - [`Status::NoSpace`]: the next character does not fit: call again with the rest
+/// As the length of `to`, [`from_utf8_max_len`] suffices; a loop needs 4. The status is
+/// [`Status::Done`], [`Status::IllFormed`], [`Status::Incomplete`] or [`Status::NoSpace`].
 #[must_use]
 pub fn from_utf8<B: Buffer + ?Sized>(order: ByteOrder, utf8: &[u8], to: &mut B) -> Progress {
     let (to, capacity) = to.raw();
-    // SAFETY: the pointers and the lengths are those of slices that do not overlap.
     unsafe { ffi::from_utf8(order, utf8.as_ptr(), utf8.len(), to, capacity) }.into()
 }
 
@@ -156,15 +130,11 @@ pub fn from_utf8<B: Buffer + ?Sized>(order: ByteOrder, utf8: &[u8], to: &mut B) 
 /// ends inside a character or an ill-formed sequence, so with [`Status::NoSpace`] a call with the
 /// rest continues correctly.
 ///
-/// As the length of `to`, [`from_utf8_max_len`] suffices; a loop needs 4.
-///
-/// The result is how far the call came, with one of these statuses:
-/// - [`Status::Done`]: all of the input was read
-/// - [`Status::NoSpace`]: the next character does not fit: call again with the rest
+/// As the length of `to`, [`from_utf8_max_len`] suffices; a loop needs 4. The status is
+/// [`Status::Done`] or [`Status::NoSpace`].
 #[must_use]
 pub fn from_utf8_lossy<B: Buffer + ?Sized>(order: ByteOrder, utf8: &[u8], to: &mut B) -> Progress {
     let (to, capacity) = to.raw();
-    // SAFETY: the pointers and the lengths are those of slices that do not overlap.
     unsafe { ffi::from_utf8_lossy(order, utf8.as_ptr(), utf8.len(), to, capacity) }.into()
 }
 
@@ -174,13 +144,10 @@ pub fn from_utf8_lossy<B: Buffer + ?Sized>(order: ByteOrder, utf8: &[u8], to: &m
 /// stream may be cut anywhere; no state is kept. However the stream is cut, the same bytes are
 /// written in all.
 ///
-/// As the length of `to`, [`from_utf8_max_len`] suffices; a loop needs 4.
-///
-/// The result is how far the call came, with one of these statuses:
-/// - [`Status::Done`]: all of the chunk was read
-/// - [`Status::Incomplete`]: at most 3 bytes follow `read`: put them before the next chunk, and at
-///   the end of the stream pass them to [`from_utf8_lossy`]
-/// - [`Status::NoSpace`]: the next character does not fit: call again with the rest
+/// As the length of `to`, [`from_utf8_max_len`] suffices; a loop needs 4. The status is
+/// [`Status::Done`], [`Status::Incomplete`] or [`Status::NoSpace`]. With [`Status::Incomplete`], at
+/// most 3 bytes follow `read`: put them before the next chunk, and at the end of the stream pass
+/// them to [`from_utf8_lossy`].
 #[must_use]
 pub fn from_utf8_partial<B: Buffer + ?Sized>(
     order: ByteOrder,
@@ -188,7 +155,6 @@ pub fn from_utf8_partial<B: Buffer + ?Sized>(
     to: &mut B,
 ) -> Progress {
     let (to, capacity) = to.raw();
-    // SAFETY: the pointers and the lengths are those of slices that do not overlap.
     unsafe { ffi::from_utf8_partial(order, utf8.as_ptr(), utf8.len(), to, capacity) }.into()
 }
 
@@ -201,36 +167,24 @@ pub fn from_utf8_partial<B: Buffer + ?Sized>(
 /// The result is the length and the number.
 #[must_use]
 pub fn inspect(order: ByteOrder, utf16: &[u8]) -> Inspection {
-    // SAFETY: the pointers and the lengths are those of slices that do not overlap.
     unsafe { ffi::inspect(order, utf16.as_ptr(), utf16.len()) }.into()
 }
 
 /// Converts UTF-16 to UTF-32, up to the first ill-formed sequence.
 ///
 /// As the length of `to`, `utf16.len() / 2` suffices, and so does [`to_utf32_max_len`]; a loop
-/// needs 1.
-///
-/// The result is how far the call came (`written` counts units of UTF-32), with one of these
-/// statuses:
-/// - [`Status::Done`]: all of the input was read
-/// - [`Status::IllFormed`]: an unpaired surrogate follows `read`
-/// - [`Status::Incomplete`]: the input ends inside a character, which follows `read`
-/// - [`Status::NoSpace`]: the next character does not fit: call again with the rest
+/// needs 1. The status is [`Status::Done`], [`Status::IllFormed`], [`Status::Incomplete`] or
+/// [`Status::NoSpace`].
 #[must_use]
 pub fn to_utf32<B: Buffer<u32> + ?Sized>(order: ByteOrder, utf16: &[u8], to: &mut B) -> Progress {
     let (to, capacity) = to.raw();
-    // SAFETY: the pointers and the lengths are those of slices that do not overlap.
     unsafe { ffi::to_utf32(order, utf16.as_ptr(), utf16.len(), to, capacity) }.into()
 }
 
 /// Converts UTF-16 to UTF-32 and replaces what is ill formed by U+FFFD, as [`to_utf8_lossy`] does.
 ///
-/// As the length of `to`, [`to_utf32_max_len`] suffices; a loop needs 1.
-///
-/// The result is how far the call came (`written` counts units of UTF-32), with one of these
-/// statuses:
-/// - [`Status::Done`]: all of the input was read
-/// - [`Status::NoSpace`]: the next character does not fit: call again with the rest
+/// As the length of `to`, [`to_utf32_max_len`] suffices; a loop needs 1. The status is
+/// [`Status::Done`] or [`Status::NoSpace`].
 #[must_use]
 pub fn to_utf32_lossy<B: Buffer<u32> + ?Sized>(
     order: ByteOrder,
@@ -238,7 +192,6 @@ pub fn to_utf32_lossy<B: Buffer<u32> + ?Sized>(
     to: &mut B,
 ) -> Progress {
     let (to, capacity) = to.raw();
-    // SAFETY: the pointers and the lengths are those of slices that do not overlap.
     unsafe { ffi::to_utf32_lossy(order, utf16.as_ptr(), utf16.len(), to, capacity) }.into()
 }
 
@@ -249,34 +202,23 @@ pub fn to_utf32_lossy<B: Buffer<u32> + ?Sized>(
 /// The result is at most [`to_utf32_max_len`].
 #[must_use]
 pub fn to_utf32_lossy_len(order: ByteOrder, utf16: &[u8]) -> usize {
-    // SAFETY: the pointers and the lengths are those of slices that do not overlap.
     unsafe { ffi::to_utf32_lossy_len(order, utf16.as_ptr(), utf16.len()) }
 }
 
 /// Converts UTF-32 to UTF-16, up to the first ill-formed code unit.
 ///
-/// As the length of `to`, [`from_utf32_max_len`] suffices; a loop needs 4.
-///
-/// The result is how far the call came (`read` counts code units of UTF-32), with one of these
-/// statuses:
-/// - [`Status::Done`]: all of the input was read
-/// - [`Status::IllFormed`]: an ill-formed code unit follows `read` (its length is 1)
-/// - [`Status::NoSpace`]: the next character does not fit: call again with the rest
+/// As the length of `to`, [`from_utf32_max_len`] suffices; a loop needs 4. The status is
+/// [`Status::Done`], [`Status::IllFormed`] or [`Status::NoSpace`].
 #[must_use]
 pub fn from_utf32<B: Buffer + ?Sized>(order: ByteOrder, utf32: &[u32], to: &mut B) -> Progress {
     let (to, capacity) = to.raw();
-    // SAFETY: the pointers and the lengths are those of slices that do not overlap.
     unsafe { ffi::from_utf32(order, utf32.as_ptr(), utf32.len(), to, capacity) }.into()
 }
 
 /// Converts UTF-32 to UTF-16 and replaces each ill-formed code unit by U+FFFD.
 ///
-/// As the length of `to`, [`from_utf32_max_len`] suffices; a loop needs 4.
-///
-/// The result is how far the call came (`read` counts code units of UTF-32), with one of these
-/// statuses:
-/// - [`Status::Done`]: all of the input was read
-/// - [`Status::NoSpace`]: the next character does not fit: call again with the rest
+/// As the length of `to`, [`from_utf32_max_len`] suffices; a loop needs 4. The status is
+/// [`Status::Done`] or [`Status::NoSpace`].
 #[must_use]
 pub fn from_utf32_lossy<B: Buffer + ?Sized>(
     order: ByteOrder,
@@ -284,7 +226,6 @@ pub fn from_utf32_lossy<B: Buffer + ?Sized>(
     to: &mut B,
 ) -> Progress {
     let (to, capacity) = to.raw();
-    // SAFETY: the pointers and the lengths are those of slices that do not overlap.
     unsafe { ffi::from_utf32_lossy(order, utf32.as_ptr(), utf32.len(), to, capacity) }.into()
 }
 
@@ -295,7 +236,6 @@ pub fn from_utf32_lossy<B: Buffer + ?Sized>(
 /// The result is at most [`from_utf32_max_len`].
 #[must_use]
 pub fn from_utf32_lossy_len(utf32: &[u32]) -> usize {
-    // SAFETY: the pointers and the lengths are those of slices that do not overlap.
     unsafe { ffi::from_utf32_lossy_len(utf32.as_ptr(), utf32.len()) }
 }
 
@@ -304,18 +244,12 @@ pub fn from_utf32_lossy_len(utf32: &[u32]) -> usize {
 ///
 /// Each character is one byte. Here the bytes of `to` after `written` stay as they were.
 ///
-/// As the length of `to`, `utf16.len() / 2` suffices; a loop needs 1.
-///
-/// The result is how far the call came, with one of these statuses:
-/// - [`Status::Done`]: all of the input was read
-/// - [`Status::IllFormed`]: an unpaired surrogate follows `read`
-/// - [`Status::Incomplete`]: the input ends inside a character, which follows `read`
-/// - [`Status::NoSpace`]: the buffer is full: call again with the rest
-/// - [`Status::NotLatin1`]: a character above U+00FF follows `read`
+/// As the length of `to`, `utf16.len() / 2` suffices; a loop needs 1. The status is
+/// [`Status::Done`], [`Status::IllFormed`], [`Status::Incomplete`], [`Status::NoSpace`] or
+/// [`Status::NotLatin1`].
 #[must_use]
 pub fn to_latin1<B: Buffer + ?Sized>(order: ByteOrder, utf16: &[u8], to: &mut B) -> Progress {
     let (to, capacity) = to.raw();
-    // SAFETY: the pointers and the lengths are those of slices that do not overlap.
     unsafe { ffi::to_latin1(order, utf16.as_ptr(), utf16.len(), to, capacity) }.into()
 }
 
@@ -323,15 +257,11 @@ pub fn to_latin1<B: Buffer + ?Sized>(order: ByteOrder, utf16: &[u8], to: &mut B)
 ///
 /// Here the bytes of `to` after `written` stay as they were.
 ///
-/// As the length of `to`, [`from_utf8_max_len`] suffices; a loop needs 2.
-///
-/// The result is how far the call came, with one of these statuses:
-/// - [`Status::Done`]: all of the input was read
-/// - [`Status::NoSpace`]: fewer than 2 bytes of `to` are left: call again with the rest
+/// As the length of `to`, [`from_utf8_max_len`] suffices; a loop needs 2. The status is
+/// [`Status::Done`] or [`Status::NoSpace`].
 #[must_use]
 pub fn from_latin1<B: Buffer + ?Sized>(order: ByteOrder, latin1: &[u8], to: &mut B) -> Progress {
     let (to, capacity) = to.raw();
-    // SAFETY: the pointers and the lengths are those of slices that do not overlap.
     unsafe { ffi::from_latin1(order, latin1.as_ptr(), latin1.len(), to, capacity) }.into()
 }
 
@@ -340,16 +270,12 @@ pub fn from_latin1<B: Buffer + ?Sized>(order: ByteOrder, latin1: &[u8], to: &mut
 /// WTF-8 is UTF-8 that may also have unpaired surrogates, of 3 bytes each. [`from_wtf8`] returns
 /// the same code units. Well-formed UTF-16 becomes UTF-8.
 ///
-/// As the length of `to`, [`to_wtf8_max_len`] suffices; a loop needs 4.
-///
-/// The result is how far the call came, with one of these statuses:
-/// - [`Status::Done`]: all of the input was read
-/// - [`Status::Incomplete`]: an odd byte at the end, which is not a code unit, follows `read`
-/// - [`Status::NoSpace`]: the next character or surrogate does not fit: call again with the rest
+/// As the length of `to`, [`to_wtf8_max_len`] suffices; a loop needs 4. The status is
+/// [`Status::Done`], [`Status::Incomplete`] or [`Status::NoSpace`]. With [`Status::Incomplete`], an
+/// odd byte at the end, which is not a code unit, follows `read`.
 #[must_use]
 pub fn to_wtf8<B: Buffer + ?Sized>(order: ByteOrder, utf16: &[u8], to: &mut B) -> Progress {
     let (to, capacity) = to.raw();
-    // SAFETY: the pointers and the lengths are those of slices that do not overlap.
     unsafe { ffi::to_wtf8(order, utf16.as_ptr(), utf16.len(), to, capacity) }.into()
 }
 
@@ -358,7 +284,6 @@ pub fn to_wtf8<B: Buffer + ?Sized>(order: ByteOrder, utf16: &[u8], to: &mut B) -
 /// The result is at most [`to_wtf8_max_len`].
 #[must_use]
 pub fn to_wtf8_len(order: ByteOrder, utf16: &[u8]) -> usize {
-    // SAFETY: the pointers and the lengths are those of slices that do not overlap.
     unsafe { ffi::to_wtf8_len(order, utf16.as_ptr(), utf16.len()) }
 }
 
@@ -368,37 +293,27 @@ pub fn to_wtf8_len(order: ByteOrder, utf16: &[u8]) -> usize {
 /// may follow. The stream may be cut anywhere; no state is kept. However the stream is cut, the
 /// same bytes are written in all.
 ///
-/// As the length of `to`, [`to_wtf8_max_len`] suffices; a loop needs 4.
-///
-/// The result is how far the call came, with one of these statuses:
-/// - [`Status::Done`]: all of the chunk was read
-/// - [`Status::Incomplete`]: at most 3 bytes follow `read`: put them before the next chunk, and at
-///   the end of the stream pass them to [`to_wtf8`]
-/// - [`Status::NoSpace`]: the next character or surrogate does not fit: call again with the rest
+/// As the length of `to`, [`to_wtf8_max_len`] suffices; a loop needs 4. The status is
+/// [`Status::Done`], [`Status::Incomplete`] or [`Status::NoSpace`]. With [`Status::Incomplete`], at
+/// most 3 bytes follow `read`: put them before the next chunk, and at the end of the stream pass
+/// them to [`to_wtf8`].
 #[must_use]
 pub fn to_wtf8_partial<B: Buffer + ?Sized>(order: ByteOrder, utf16: &[u8], to: &mut B) -> Progress {
     let (to, capacity) = to.raw();
-    // SAFETY: the pointers and the lengths are those of slices that do not overlap.
     unsafe { ffi::to_wtf8_partial(order, utf16.as_ptr(), utf16.len(), to, capacity) }.into()
 }
 
 /// Converts WTF-8 to UTF-16, up to the first ill-formed sequence, of 1 to 3 bytes.
 ///
-/// Each surrogate becomes one code unit. A trailing surrogate directly after a leading one is ill
-/// formed: in WTF-8 a pair has the 4 bytes of its character. So do not append one text of WTF-8 to
-/// another: convert both to UTF-16 first.
+/// Each surrogate becomes one code unit. A trailing surrogate directly after a leading one is an
+/// ill-formed sequence of 3 bytes: in WTF-8 a pair has the 4 bytes of its character. So do not
+/// append one text of WTF-8 to another: convert both to UTF-16 first.
 ///
-/// As the length of `to`, [`from_utf8_max_len`] suffices; a loop needs 4.
-///
-/// The result is how far the call came, with one of these statuses:
-/// - [`Status::Done`]: all of the input was read
-/// - [`Status::IllFormed`]: an ill-formed sequence follows `read`
-/// - [`Status::Incomplete`]: the input ends inside a character or surrogate, which follows `read`
-/// - [`Status::NoSpace`]: the next character or surrogate does not fit: call again with the rest
+/// As the length of `to`, [`from_utf8_max_len`] suffices; a loop needs 4. The status is
+/// [`Status::Done`], [`Status::IllFormed`], [`Status::Incomplete`] or [`Status::NoSpace`].
 #[must_use]
 pub fn from_wtf8<B: Buffer + ?Sized>(order: ByteOrder, wtf8: &[u8], to: &mut B) -> Progress {
     let (to, capacity) = to.raw();
-    // SAFETY: the pointers and the lengths are those of slices that do not overlap.
     unsafe { ffi::from_wtf8(order, wtf8.as_ptr(), wtf8.len(), to, capacity) }.into()
 }
 
@@ -409,24 +324,18 @@ pub fn from_wtf8<B: Buffer + ?Sized>(order: ByteOrder, wtf8: &[u8], to: &mut B) 
 /// The result is at most [`from_utf8_max_len`].
 #[must_use]
 pub fn from_wtf8_len(wtf8: &[u8]) -> usize {
-    // SAFETY: the pointers and the lengths are those of slices that do not overlap.
     unsafe { ffi::from_wtf8_len(wtf8.as_ptr(), wtf8.len()) }
 }
 
 /// Converts the next chunk of a stream of WTF-8, cut anywhere, to UTF-16.
 ///
-/// This is like [`from_wtf8`], but does not read what more bytes could change at the end: a leading
-/// surrogate, the beginning of a character or surrogate, or both.
+/// This is like [`from_wtf8`], but at the end it does not read a leading surrogate, the beginning
+/// of a character or surrogate, or one and then the other.
 ///
-/// As the length of `to`, [`from_utf8_max_len`] suffices; a loop needs 4.
-///
-/// The result is how far the call came, with one of these statuses:
-/// - [`Status::Done`]: all of the chunk was read
-/// - [`Status::IllFormed`]: an ill-formed sequence follows `read`
-/// - [`Status::Incomplete`]: at most 6 bytes follow `read`: put them before the next chunk, and at
-///   the end of the stream pass them to [`from_wtf8`]
-/// - [`Status::NoSpace`]: the next character or surrogate does not fit, even if it is a leading
-///   surrogate at the end: call again with the rest
+/// As the length of `to`, [`from_utf8_max_len`] suffices; a loop needs 4. The status is
+/// [`Status::Done`], [`Status::IllFormed`], [`Status::Incomplete`] or [`Status::NoSpace`]. With
+/// [`Status::Incomplete`], at most 6 bytes follow `read`: put them before the next chunk, and at
+/// the end of the stream pass them to [`from_wtf8`].
 #[must_use]
 pub fn from_wtf8_partial<B: Buffer + ?Sized>(
     order: ByteOrder,
@@ -434,7 +343,6 @@ pub fn from_wtf8_partial<B: Buffer + ?Sized>(
     to: &mut B,
 ) -> Progress {
     let (to, capacity) = to.raw();
-    // SAFETY: the pointers and the lengths are those of slices that do not overlap.
     unsafe { ffi::from_wtf8_partial(order, wtf8.as_ptr(), wtf8.len(), to, capacity) }.into()
 }
 
@@ -450,7 +358,6 @@ pub fn from_wtf8_partial<B: Buffer + ?Sized>(
 /// `at`: the offset; only the two bytes before it and the two from it on are read.
 #[must_use]
 pub fn is_char_boundary(order: ByteOrder, utf16: &[u8], at: usize) -> bool {
-    // SAFETY: the pointers and the lengths are those of slices that do not overlap.
     unsafe { ffi::is_char_boundary(order, utf16.as_ptr(), utf16.len(), at) }
 }
 
@@ -459,7 +366,6 @@ pub fn is_char_boundary(order: ByteOrder, utf16: &[u8], at: usize) -> bool {
 /// The result is a boundary at most 3 bytes before the smaller of `at` and `utf16.len()`.
 #[must_use]
 pub fn floor_char_boundary(order: ByteOrder, utf16: &[u8], at: usize) -> usize {
-    // SAFETY: the pointers and the lengths are those of slices that do not overlap.
     unsafe { ffi::floor_char_boundary(order, utf16.as_ptr(), utf16.len(), at) }
 }
 
@@ -474,7 +380,6 @@ pub fn floor_char_boundary(order: ByteOrder, utf16: &[u8], at: usize) -> usize {
 /// offset at most 3 bytes before `at`.
 #[must_use]
 pub fn floor_char_boundary_around(order: ByteOrder, around: &[u8], at: u64) -> u64 {
-    // SAFETY: the pointers and the lengths are those of slices that do not overlap.
     unsafe { ffi::floor_char_boundary_around(order, around.as_ptr(), around.len(), at) }
 }
 
@@ -487,7 +392,6 @@ pub fn floor_char_boundary_around(order: ByteOrder, around: &[u8], at: u64) -> u
 /// surrogate pair: move it to a boundary with [`floor_char_boundary_around`].
 #[must_use]
 pub fn shard_offset(len: u64, count: u64, index: u64) -> u64 {
-    // SAFETY: the call takes only numbers.
     unsafe { ffi::shard_offset(len, count, index) }
 }
 
@@ -505,7 +409,6 @@ pub fn shard_offset(len: u64, count: u64, index: u64) -> u64 {
 /// The result is the offset, 0 for the empty pattern, or `None` if the pattern occurs nowhere.
 #[must_use]
 pub fn find(order: ByteOrder, utf16: &[u8], pattern: &[u8]) -> Option<usize> {
-    // SAFETY: the pointers and the lengths are those of slices that do not overlap.
     found(unsafe { ffi::find(order, utf16.as_ptr(), utf16.len(), pattern.as_ptr(), pattern.len()) })
 }
 
@@ -519,7 +422,6 @@ pub fn find(order: ByteOrder, utf16: &[u8], pattern: &[u8]) -> Option<usize> {
 /// nowhere.
 #[must_use]
 pub fn rfind(order: ByteOrder, utf16: &[u8], pattern: &[u8]) -> Option<usize> {
-    // SAFETY: the pointers and the lengths are those of slices that do not overlap.
     found(unsafe { ffi::rfind(
         order, utf16.as_ptr(), utf16.len(), pattern.as_ptr(), pattern.len()) })
 }
@@ -532,7 +434,6 @@ pub fn rfind(order: ByteOrder, utf16: &[u8], pattern: &[u8]) -> Option<usize> {
 /// The result is the offset, or `utf16.len()` if there is no NUL.
 #[must_use]
 pub fn nul_offset(utf16: &[u8]) -> usize {
-    // SAFETY: the pointers and the lengths are those of slices that do not overlap.
     unsafe { ffi::nul_offset(utf16.as_ptr(), utf16.len()) }
 }
 
@@ -540,7 +441,6 @@ pub fn nul_offset(utf16: &[u8]) -> usize {
 ///
 /// An odd byte at the end stays.
 pub fn swap_byte_order(utf16: &mut [u8]) {
-    // SAFETY: the pointers and the lengths are those of slices that do not overlap.
     unsafe { ffi::swap_byte_order(utf16.as_mut_ptr(), utf16.len()) }
 }
 
@@ -551,7 +451,6 @@ pub fn swap_byte_order(utf16: &mut [u8]) {
 ///
 /// The result is how many there were.
 pub fn make_well_formed(order: ByteOrder, utf16: &mut [u8]) -> usize {
-    // SAFETY: the pointers and the lengths are those of slices that do not overlap.
     unsafe { ffi::make_well_formed(order, utf16.as_mut_ptr(), utf16.len()) }
 }
 
@@ -570,7 +469,6 @@ pub fn compare(
     second_order: ByteOrder,
     second: &[u8],
 ) -> Ordering {
-    // SAFETY: the pointers and the lengths are those of slices that do not overlap.
     unsafe { ffi::compare(
         first_order, first.as_ptr(), first.len(), second_order, second.as_ptr(),
         second.len()) }.cmp(&0)

@@ -31,13 +31,6 @@ pub struct Bom {
 /// Returns the byte order that the byte order mark at the start of a stream gives, or the default
 /// without one, or `None` if fewer than two bytes have come. The Unicode Standard says big endian
 /// for a stream without a mark; most files from Windows are little endian.
-///
-/// ```
-/// use dethrux::{detect_bom, Bom, ByteOrder::{BigEndian, LittleEndian}};
-///
-/// let marked = Bom { len: 2, byte_order: LittleEndian };
-/// assert_eq!(detect_bom(b"\xFF\xFEh\0", BigEndian), Some(marked));
-/// ```
 #[must_use]
 pub fn detect_bom(bytes: &[u8], default_order: ByteOrder) -> Option<Bom> {
     // SAFETY: the pointer and the length come from a slice.

@@ -86,17 +86,6 @@ macro_rules! stream {
 stream! {
     /// Decodes a stream of UTF-16, cut anywhere, to UTF-8, with U+FFFD for each unpaired surrogate
     /// and for an incomplete character at the end.
-    ///
-    /// ```
-    /// use dethrux::{ByteOrder::LittleEndian, Decoder, Status};
-    ///
-    /// let (mut decoder, mut utf8) = (Decoder::new(LittleEndian), [0; 4]);
-    /// let progress = decoder.feed(b"\x3D\xD8\0", &mut utf8);
-    /// assert_eq!((progress.written, decoder.pending()), (0, &b"\x3D\xD8\0"[..]));
-    /// let progress = decoder.feed(b"\xDEh\0", &mut utf8);
-    /// assert_eq!((progress.read, progress.status), (1, Status::NoSpace));
-    /// assert_eq!(utf8, "\u{1F600}".as_bytes());
-    /// ```
     pub struct Decoder([u8; 3]);
     fn max_len(len) = to_utf8_max_len(len.saturating_add(2));
     fn feed = ffi::decoder_feed;

@@ -79,15 +79,6 @@ pub fn decode(order: ByteOrder, utf16: &[u8]) -> Result<String, Utf16Error> {
 
 /// Appends the text of UTF-16 to a string, or returns the error of [`validate`], and then the
 /// string is unchanged. It allocates at most once.
-///
-/// ```
-/// use dethrux::{decode_to, ByteOrder::LittleEndian};
-///
-/// let mut text = String::from("a");
-/// assert!(decode_to(LittleEndian, b"b\0\0\xDC", &mut text).is_err());
-/// assert!(decode_to(LittleEndian, b"b\0", &mut text).is_ok());
-/// assert_eq!(text, "ab");
-/// ```
 pub fn decode_to(order: ByteOrder, utf16: &[u8], to: &mut String) -> Result<(), Utf16Error> {
     let len = to.len();
     // SAFETY: the library writes UTF-8, and the length is taken back to one between characters.
@@ -186,14 +177,6 @@ pub fn decode_to_wtf8(order: ByteOrder, utf16: &[u8]) -> Result<Vec<u8>, Utf16Er
 
 /// Returns WTF-8 in UTF-16, with each surrogate as one code unit, or an error if the bytes are not
 /// WTF-8.
-///
-/// ```
-/// use dethrux::{encode_from_wtf8, ByteOrder::LittleEndian};
-///
-/// assert_eq!(encode_from_wtf8(LittleEndian, b"h\xED\xA0\xBD").unwrap(), b"h\0\x3D\xD8");
-/// let pair = encode_from_wtf8(LittleEndian, b"\xED\xA0\xBD\xED\xB8\x80").unwrap_err();
-/// assert_eq!((pair.valid_up_to(), pair.error_len()), (3, Some(3)));
-/// ```
 pub fn encode_from_wtf8(order: ByteOrder, wtf8: &[u8]) -> Result<Vec<u8>, Wtf8Error> {
     let (utf16, progress) = filled(from_wtf8, order, wtf8, from_utf8_max_len(wtf8.len()));
     Wtf8Error::after(progress).map_or(Ok(utf16), Err)

@@ -2,7 +2,7 @@
 
 use dethrux::io::{Reader, Writer};
 use dethrux::ByteOrder::{BigEndian, LittleEndian};
-use dethrux::{decode_lossy, encode, encode_lossy, Decoder, Encoder, Utf16Error};
+use dethrux::{decode_lossy, encode, encode_lossy, Decoder, Encoder, Utf16Error, Utf8Error};
 use std::io::{BufRead, Error, ErrorKind, Read, Result, Write};
 
 /// A text with characters of each length, longer than a buffer of an adapter.
@@ -59,23 +59,6 @@ fn read_all(mut reader: impl Read, len: usize) -> (Vec<u8>, usize) {
 }
 
 #[test]
-fn a_reader_fills_buffers_of_any_length() {
-    let utf16 = [&encode(BigEndian, &text())[..], b"\xD8\x00\x00"].concat();
-    let utf8 = [text().as_bytes(), b"\xE2\x98"].concat();
-    let expected = text() + "\u{FFFD}";
-    for len in [1, 2, 3, 4, 5, 100, 100_000] {
-        let (found, _) = read_all(Reader::new(&utf16[..], Decoder::new(BigEndian)), len);
-        assert!(found == expected.as_bytes(), "a buffer of {len} bytes");
-        let (found, _) = read_all(Reader::new(&utf8[..], Encoder::new(LittleEndian)), len);
-        let units = expected.encode_utf16();
-        assert!(
-            found.into_iter().eq(units.flat_map(u16::to_le_bytes)),
-            "a buffer of {len} bytes"
-        );
-    }
-}
-
-#[test]
 fn a_reader_goes_on_after_errors_and_replaces_what_is_ill_formed_wherever_it_is_cut() {
     let utf16 = b"\0\xD8\0\xD8a\0\0\xDC\0\xD8\0\xDCb\0\0\xD8\0\0\0\xDC\0";
     let utf8 = b"\xE4\xB8\xE4\xB8\x80\xF0\x9F\x98\xF0\x9F\x98\x80a\xC0\x80\xED\xA0\x80\xF0";
@@ -92,45 +75,6 @@ fn a_reader_goes_on_after_errors_and_replaces_what_is_ill_formed_wherever_it_is_
             (encoded.clone(), errors(utf8))
         );
     }
-}
-
-#[test]
-fn a_reader_at_its_end_stays_there() {
-    let mut reader = Reader::new(&b"\0"[..], Decoder::new(LittleEndian));
-    let mut text = String::new();
-    assert_eq!(reader.read_to_string(&mut text).unwrap(), 3);
-    assert_eq!(reader.read_to_string(&mut text).unwrap(), 0);
-    assert_eq!(text, "\u{FFFD}");
-    assert!(reader.get_ref().is_empty());
-}
-
-#[test]
-fn a_writer_encodes_chunks_of_any_length() {
-    let expected: Vec<u8> = text().encode_utf16().flat_map(u16::to_be_bytes).collect();
-    for len in [1, 2, 3, 7, 5000, 100_000] {
-        let mut writer = Writer::new(Vec::new(), Encoder::new(BigEndian));
-        for chunk in text().as_bytes().chunks(len) {
-            writer.write_all(chunk).unwrap();
-        }
-        writer.finish().unwrap();
-        assert!(writer.into_inner() == expected, "chunks of {len} bytes");
-    }
-}
-
-#[test]
-fn a_writer_decodes_and_ends_with_what_is_incomplete() {
-    let mut writer = Writer::new(Vec::new(), Decoder::new(LittleEndian));
-    writer.write_all(b"h\0\0\xD8\0").unwrap();
-    writer.flush().unwrap();
-    assert_eq!(writer.get_ref(), b"h");
-    writer.finish().unwrap();
-    writer.finish().unwrap();
-    let error = writer.write(b"i\0").unwrap_err();
-    assert_eq!(
-        error.to_string(),
-        "the writer is finished: make another for the next stream"
-    );
-    assert_eq!(writer.into_inner(), "h\u{FFFD}".as_bytes());
 }
 
 #[test]
@@ -248,20 +192,16 @@ fn a_writer_ends_once_whatever_fails() {
         assert!(writer.get_ref().bytes.is_empty());
         assert_eq!(writer.finish().unwrap_err().to_string(), "at the end");
         let error = writer.write(b"a").unwrap_err();
-        assert_eq!(error.kind(), ErrorKind::Other);
+        let wanted = "the writer is finished: make another for the next stream";
+        assert_eq!(
+            (error.kind(), &*error.to_string()),
+            (ErrorKind::Other, wanted)
+        );
         writer.finish().unwrap();
         writer.finish().unwrap();
         writer.flush().unwrap();
         assert_eq!(writer.into_inner().bytes, b"\xFF\xFD");
     }
-}
-
-#[test]
-fn a_writer_without_its_end_keeps_what_is_incomplete() {
-    let mut writer = Writer::new(Vec::new(), Decoder::new(BigEndian));
-    writer.write_all(b"\0a\xD8").unwrap();
-    writer.flush().unwrap();
-    assert_eq!(writer.into_inner(), b"a");
 }
 
 #[test]
@@ -333,13 +273,6 @@ fn a_mark_is_read_again_after_an_interruption() {
     }
 }
 
-#[test]
-fn a_reader_reads_nothing_for_an_empty_buffer() {
-    let mut reader = Reader::new(&b"\0a"[..], Decoder::new(BigEndian));
-    assert_eq!(reader.read(&mut []).unwrap(), 0);
-    assert_eq!(reader.into_inner(), b"\0a");
-}
-
 /// The offset and the length of an error about the UTF-16 of a strict reader.
 fn fields(error: &Error) -> (usize, Option<usize>) {
     assert_eq!(error.kind(), ErrorKind::InvalidData);
@@ -348,39 +281,47 @@ fn fields(error: &Error) -> (usize, Option<usize>) {
     (inner.valid_up_to(), inner.error_len())
 }
 
-/// Reads to an error about the UTF-16 through a buffer of `len` bytes.
-fn read_strictly(mut reader: impl Read, len: usize) -> (String, (usize, Option<usize>)) {
-    let (mut all, mut buffer) = (Vec::new(), vec![0; len]);
-    loop {
-        match reader.read(&mut buffer) {
-            Ok(read) => all.extend(&buffer[..read]),
-            Err(error) => return (String::from_utf8(all).unwrap(), fields(&error)),
-        }
+#[test]
+fn strict_adapters_stop_in_a_long_stream() {
+    for order in [LittleEndian, BigEndian] {
+        let surrogate = encode(order, "\u{10000}").split_off(2);
+        let utf16 = [encode(order, &text()), surrogate, encode(order, "a")].concat();
+        let (len, mut found) = (utf16.len() - 4, String::new());
+        let mut reader = Reader::strict(&utf16[..], order);
+        let error = reader.read_to_string(&mut found).unwrap_err();
+        assert_eq!(fields(&error), (len, Some(2)));
+        assert_eq!((found == text(), reader.skip_error()), (true, 2));
+        assert_eq!(reader.lines().next().unwrap().unwrap(), "a");
+
+        let mut writer = Writer::strict(Vec::new(), order);
+        let utf8 = [text().as_bytes(), b"\xE2\x98a"].concat();
+        let error = writer.write_all(&utf8).unwrap_err();
+        let error = *error
+            .get_ref()
+            .unwrap()
+            .downcast_ref::<Utf8Error>()
+            .unwrap();
+        assert_eq!(
+            (error.valid_up_to(), error.error_len()),
+            (text().len(), Some(2))
+        );
+        assert!(writer.into_inner() == utf16[..len]);
     }
+    let error = Reader::strict_with_bom(Steps::new([Err(fault("at once"))]), LittleEndian);
+    assert_eq!(error.unwrap_err().to_string(), "at once");
 }
 
 #[test]
-fn a_strict_reader_counts_from_the_start_of_the_stream() {
-    for order in [LittleEndian, BigEndian] {
-        let marked = encode(order, &format!("\u{FEFF}{}", text()));
-        let len = marked.len();
-        let surrogate = encode(order, "\u{10000}").split_off(2);
-        let marked = [marked, surrogate, encode(order, "a")].concat();
-        for buffer_len in [3, 100, 100_000] {
-            let reader = Reader::strict(&marked[2..], order);
-            assert!(read_strictly(reader, buffer_len) == (text(), (len - 2, Some(2))));
-            let reader = Reader::strict_with_bom(&marked[2..], order).unwrap();
-            assert!(read_strictly(reader, buffer_len) == (text(), (len - 2, Some(2))));
-            for default_order in [LittleEndian, BigEndian] {
-                let reader = Reader::strict_with_bom(&marked[..], default_order).unwrap();
-                assert!(read_strictly(reader, buffer_len) == (text(), (len, Some(2))));
-            }
-        }
-    }
-    let reader = Reader::strict_with_bom(&b"\xFF"[..], LittleEndian).unwrap();
-    assert_eq!(read_strictly(reader, 9), (String::new(), (0, None)));
-    let error = Reader::strict_with_bom(Steps::new([Err(fault("at once"))]), LittleEndian);
-    assert_eq!(error.unwrap_err().to_string(), "at once");
+fn the_device_of_an_adapter_can_be_used() {
+    let mut reader = Reader::new(&b"\0a\0b"[..], Decoder::new(BigEndian));
+    assert_eq!(reader.read(&mut []).unwrap(), 0);
+    reader.get_mut().consume(2);
+    assert_eq!(read_all(reader, 4).0, b"b");
+    let mut writer = Writer::new(Vec::new(), Encoder::new(BigEndian));
+    writer.get_mut().push(b'>');
+    writer.write_all(b"a\xE2").unwrap();
+    writer.flush().unwrap();
+    assert_eq!(writer.into_inner(), b">\0a");
 }
 
 #[test]
