@@ -6,7 +6,7 @@
 
 use std::path::{Path, PathBuf};
 use std::process::{exit, Command};
-use std::{env, fs, io};
+use std::{env, fs};
 
 /// A program that prints the version of the library.
 const PROGRAM: &str = "unsigned dethrux_version(void); int printf(const char *, ...);
@@ -25,9 +25,6 @@ const TARGETS: [(&str, &[&str]); 5] = [
     ("x86_64-apple-darwin", &["macos-x86-64-v2.s", "macos-x86-64-v3.s"]),
     ("aarch64-apple-darwin", &["macos-aarch64.s"]),
 ];
-
-/// The modules of the proved source that only the tests and the crate `utf16string` use.
-const STRINGS: [&str; 2] = ["utf16_str", "utf16string"];
 
 /// The options of gcc's assembler and of clang that move branches which cross or end a block of 32
 /// bytes. On processors from Skylake to Cascade Lake these slow their loops down.
@@ -60,10 +57,9 @@ fn is_set(name: &str) -> bool {
 /// Links a library, or compiles one.
 fn provide(dist: &Path) -> Result<(), String> {
     if is_set("CARGO_FEATURE_PURE") {
-        return translate(dist);
+        println!("cargo:rustc-cfg=dethrux_pure");
+        return Ok(());
     }
-    // Only the tests need the source in a crate that links a library.
-    let _ = list_modules(dist);
     let is_bundled = is_set("CARGO_FEATURE_BUNDLED");
     let target = env::var("TARGET").unwrap_or_default();
     let is_native = env::var("HOST").as_ref() == Ok(&target);
@@ -136,44 +132,6 @@ fn version_of(library: &Path) -> Option<String> {
     version.filter(|it| !it.is_empty())
 }
 
-/// Writes where the modules of the proved source are: each file and folder of `dist/rust`.
-fn list_modules(dist: &Path) -> io::Result<()> {
-    let mut lines = String::new();
-    for entry in fs::read_dir(dist.join("rust"))? {
-        let mut path = entry?.path();
-        let name = path
-            .file_stem()
-            .unwrap_or_default()
-            .to_string_lossy()
-            .into_owned();
-        if path.is_dir() {
-            path.push("mod.rs");
-        }
-        let cfg = if STRINGS.contains(&&name[..]) {
-            "#[cfg(test)]\n"
-        } else {
-            ""
-        };
-        lines += &format!("{cfg}#[path = {path:?}]\npub(crate) mod {name};\n");
-    }
-    fs::write(
-        PathBuf::from(env::var_os("OUT_DIR").unwrap_or_default()).join("proved.rs"),
-        lines,
-    )
-}
-
-/// Has the crate compile the proved source instead of a library.
-fn translate(dist: &Path) -> Result<(), String> {
-    println!("cargo:rustc-cfg=dethrux_pure");
-    let folder = dist.join("rust");
-    list_modules(dist).map_err(|error| {
-        format!(
-            "{}: {error}: take a whole clone, or the package of a release",
-            folder.display()
-        )
-    })
-}
-
 /// Compiles the assembly for the target, and links it. If there is none, the crate compiles the
 /// proved source.
 fn compile(dist: &Path, target: &str) -> Result<(), String> {
@@ -181,7 +139,10 @@ fn compile(dist: &Path, target: &str) -> Result<(), String> {
     let glibc = target.replace("-musl", "-gnu");
     let sources = match TARGETS.into_iter().find(|(name, _)| *name == glibc) {
         Some((_, sources)) => sources,
-        None => return translate(dist),
+        None => {
+            println!("cargo:rustc-cfg=dethrux_pure");
+            return Ok(());
+        }
     };
     let folder = dist.join("src");
     // The whole folder, since choose.S and windows.c include calls.inc.
