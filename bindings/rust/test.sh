@@ -309,7 +309,7 @@ END
         git -c user.name=test -c user.email=test@test commit --quiet --message=all) || return
     (cd "$project" && mkdir .cargo && CARGO_HOME=$room/home cargo vendor --respect-source-config \
         > .cargo/config.toml) && rm -r "$room/repository" "$room/home" &&
-        [ "$(env -u DETHRUX_LIB_DIR build_and_run "$project")" = 'h★' ]
+        [ "$(unset DETHRUX_LIB_DIR && build_and_run "$project")" = 'h★' ]
 }
 
 # Runs the build script for a target as cargo does, in `folder`, with a feature and words for env.
