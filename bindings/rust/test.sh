@@ -391,8 +391,8 @@ with_rust() {
         CARGO_TARGET_DIR=$room/target-$1 "${@:2}"
 }
 
-# The oldest Rust of each crate, or the next one that Debian has. The proved source is optimized,
-# since a debug build of Rust 1.85 takes more stack than a thread has.
+# The oldest Rust of each crate, or the next one that Debian has. A debug build of the proved source
+# by Rust 1.85 takes more stack than the 2 MiB of a thread.
 test_old() {
     local tests='--test cases --test adapters --test edges --test memory --test std'
     count 'Rust 1.63' get_rust 1.63 {rustc,libstd-rust-dev}=1.63.\* libstd-rust-1.63 \
@@ -402,11 +402,9 @@ test_old() {
     rm -f "$top/Cargo.lock"
     count 'dethrux with Rust 1.63' with_rust 1.63 on_crate dethrux test $tests
     count 'the examples with Rust 1.63' with_rust 1.63 on_crate dethrux test --doc
-    export CARGO_PROFILE_TEST_OPT_LEVEL=1
-    count 'the proved source with Rust 1.85' with_rust 1.85 on_crate dethrux test --features pure \
-        $tests
+    RUST_MIN_STACK=4194304 count 'the proved source with Rust 1.85' with_rust 1.85 \
+        on_crate dethrux test --features pure $tests
     count 'utf16string with Rust 1.85' with_rust 1.85 on_crate dethrux-utf16string test --tests
-    unset CARGO_PROFILE_TEST_OPT_LEVEL
 }
 
 # What the build script compiles for other targets than this machine. cargo needs the standard
