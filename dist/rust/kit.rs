@@ -38,6 +38,12 @@ pub fn two(bytes: &[u8], at: usize) -> [u8; 2] {
     bytes[at..at + 2].try_into().expect("two bytes")
 }
 
+/// Writes two bytes in a row.
+#[inline(always)]
+pub fn put_two(bytes: &mut [u8], at: usize, two: [u8; 2]) {
+    bytes[at..at + 2].copy_from_slice(&two);
+}
+
 /// Returns an empty vector with a capacity. It is faster than `try_reserve_exact`.
 #[inline]
 fn allocate<T>(capacity: usize) -> Result<Items<T>, AllocError> {
@@ -227,6 +233,22 @@ impl<T: Copy, A: Allocator> Vec<T, A> {
     pub fn extend_from_slice(&mut self, items: &[T]) -> Result<(), AllocError> {
         self.reserve(items.len())?;
         self.items.extend_from_slice(items);
+        Ok(())
+    }
+
+    /// Inserts items at an index, and moves what follows once.
+    #[inline]
+    pub fn insert_from_slice(&mut self, index: usize, items: &[T]) -> Result<(), AllocError> {
+        let (len, count) = (self.items.len(), items.len());
+        assert!(index <= len);
+        self.reserve(count)?;
+        // SAFETY: the capacity is enough, and each item up to the new length is written.
+        unsafe {
+            let at = self.items.as_mut_ptr().add(index);
+            at.copy_to(at.add(count), len - index);
+            at.copy_from_nonoverlapping(items.as_ptr(), count);
+            self.items.set_len(len + count);
+        }
         Ok(())
     }
 

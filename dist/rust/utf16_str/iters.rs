@@ -10,6 +10,7 @@ use core::fmt;
 /// An iterator over the remaining characters of a [`WStr`], from either end. Once none is left,
 /// `next` and `next_back` always return `None`.
 
+#[derive(Clone)]
 pub struct WStrChars<'a, E: Utf16Order> {
     pub(crate) rest: WStr<'a, E>,
 }
@@ -94,6 +95,7 @@ impl<'a, E: Utf16Order> fmt::Debug for WStrChars<'a, E> {
 /// An iterator over the remaining characters of a [`WStr`], each with its byte offset in it, from
 /// either end. Once none is left, `next` and `next_back` always return `None`.
 
+#[derive(Clone)]
 pub struct WStrCharIndices<'a, E: Utf16Order> {
     pub(crate) offset: usize,
     pub(crate) chars: WStrChars<'a, E>,

@@ -7,6 +7,7 @@ use crate::proved::utf16_units::Utf16Order;
 /// An iterator over the remaining lines of a [`WStr`], from either end. Each is a view without its
 /// line ending. Once none is left, `next` and `next_back` always return `None`.
 
+#[derive(Clone)]
 pub struct WStrLines<'a, E: Utf16Order> {
     rest: Option<WStr<'a, E>>,
 }

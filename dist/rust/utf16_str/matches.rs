@@ -9,6 +9,7 @@ use crate::proved::utf16_units::Utf16Order;
 /// An iterator over the remaining occurrences of a pattern in a [`WStr`], each a view with its byte
 /// offset. Once none is left, `next` always returns `None`.
 
+#[derive(Clone)]
 pub struct WStrMatchIndices<'a, E: Utf16Order, P: Pattern<E>> {
     left: Remaining<'a, E, P>,
     offset: usize,
@@ -33,6 +34,7 @@ impl<'a, E: Utf16Order, P: Pattern<E>> Iterator for WStrMatchIndices<'a, E, P> {
 /// An iterator over the remaining occurrences of a pattern in a [`WStr`], each a view. Once none is
 /// left, `next` always returns `None`.
 
+#[derive(Clone)]
 pub struct WStrMatches<'a, E: Utf16Order, P: Pattern<E>> {
     indices: WStrMatchIndices<'a, E, P>,
 }
@@ -50,6 +52,7 @@ impl<'a, E: Utf16Order, P: Pattern<E>> Iterator for WStrMatches<'a, E, P> {
 /// An iterator over the remaining occurrences of a pattern in a [`WStr`], the last first, each a
 /// view with its byte offset. Once none is left, `next` always returns `None`.
 
+#[derive(Clone)]
 pub struct WStrRMatchIndices<'a, E: Utf16Order, P: Pattern<E>> {
     left: Remaining<'a, E, P>,
 }

@@ -7,6 +7,7 @@ use crate::proved::utf16_units::Utf16Order;
 
 // What is left of a text that is split at each occurrence of a pattern.
 
+#[derive(Clone)]
 pub(crate) struct Remaining<'a, E: Utf16Order, P: Pattern<E>> {
     // `None` once the last part was taken.
     pub(crate) rest: Option<WStr<'a, E>>,
@@ -84,6 +85,7 @@ pub trait Direction {
 }
 
 /// Parts are taken from the start of a text.
+#[derive(Clone)]
 pub struct Forward;
 
 impl Direction for Forward {
@@ -105,6 +107,7 @@ impl Direction for Forward {
 }
 
 /// Parts are taken from the end of a text.
+#[derive(Clone)]
 pub struct Backward;
 
 impl Direction for Backward {

@@ -11,6 +11,7 @@ use core::marker::PhantomData;
 /// direction `D`, and for a `char` from either end. Each is a view without the delimiter. Once none
 /// is left, `next` and `next_back` always return `None`.
 
+#[derive(Clone)]
 pub struct WStrParts<'a, E: Utf16Order, P: Pattern<E>, D: Direction> {
     left: Remaining<'a, E, P>,
     direction: PhantomData<D>,

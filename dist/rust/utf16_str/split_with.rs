@@ -8,6 +8,7 @@ use crate::proved::utf16_units::Utf16Order;
 /// predicate is true, from either end. Each is a view without the character. Once none is left,
 /// `next` and `next_back` always return `None`. `F` is the type of the predicate.
 
+#[derive(Clone)]
 pub struct WStrSplitWith<'a, E: Utf16Order, F> {
     rest: Option<WStr<'a, E>>,
     predicate: F,

@@ -11,6 +11,7 @@ use core::marker::PhantomData;
 /// delimiter, in the direction `D`. Each is a view; the last one that it gives has the rest of the
 /// text. Once none is left, `next` always returns `None`.
 
+#[derive(Clone)]
 pub struct WStrPartsN<'a, E: Utf16Order, P: Pattern<E>, D: Direction> {
     left: Remaining<'a, E, P>,
     count: usize,

@@ -9,6 +9,7 @@ use crate::proved::utf16_units::Utf16Order;
 /// An iterator over the remaining substrings of a [`WStr`] that each end with a terminator. Each is
 /// a view without it. Once none is left, `next` always returns `None`.
 
+#[derive(Clone)]
 pub struct WStrSplitTerminator<'a, E: Utf16Order, P: Pattern<E>> {
     left: Remaining<'a, E, P>,
 }
@@ -29,6 +30,7 @@ impl<'a, E: Utf16Order, P: Pattern<E>> Iterator for WStrSplitTerminator<'a, E, P
 /// An iterator over the remaining substrings of a [`WStr`] that each end with a terminator. Each is
 /// a view with it. Once none is left, `next` always returns `None`.
 
+#[derive(Clone)]
 pub struct WStrSplitInclusive<'a, E: Utf16Order, P: Pattern<E>> {
     left: Remaining<'a, E, P>,
 }

@@ -16,6 +16,7 @@ pub trait Space {
 }
 
 /// The white space of Unicode: what has the property `White_Space`, as in `char::is_whitespace`.
+#[derive(Clone)]
 pub struct UnicodeSpace;
 
 impl Space for UnicodeSpace {
@@ -26,6 +27,7 @@ impl Space for UnicodeSpace {
 }
 
 /// The white space of ASCII, as in `char::is_ascii_whitespace`.
+#[derive(Clone)]
 pub struct AsciiSpace;
 
 impl Space for AsciiSpace {
@@ -39,6 +41,7 @@ impl Space for AsciiSpace {
 /// not empty, from either end. Each is a view. Once none is left, `next` and `next_back` always
 /// return `None`. `S` is what is white space.
 
+#[derive(Clone)]
 pub struct WStrWords<'a, E: Utf16Order, S: Space> {
     rest: WStr<'a, E>,
     space: PhantomData<S>,

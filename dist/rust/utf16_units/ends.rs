@@ -22,11 +22,11 @@ use crate::proved::utf16_units::{
 /// - ensures well_formed: `IsUtf16 E.BIG (drop result.1 raw.now)`
 #[inline]
 pub fn first_char<E: Utf16Order>(raw: &[u8]) -> (char, usize) {
-    let unit = E::read_unit([raw[0], raw[1]]);
+    let unit = E::read_unit(crate::proved::kit::two(raw, 0));
     if !is_leading_surrogate(unit) {
         return (unsafe { char::from_u32_unchecked(unit as u32) }, 2);
     }
-    let trailing = E::read_unit([raw[2], raw[3]]);
+    let trailing = E::read_unit(crate::proved::kit::two(raw, 2));
     (decode_surrogates(unit, trailing), 4)
 }
 

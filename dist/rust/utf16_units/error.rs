@@ -43,7 +43,7 @@ impl Utf16Error {
     ///
     /// - ensures `result ≡ detail self.now`
     #[inline]
-    pub fn detail(&self) -> Detail {
+    pub(crate) fn detail(&self) -> Detail {
         Detail { error: *self }
     }
 }

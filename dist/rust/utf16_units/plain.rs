@@ -48,7 +48,7 @@ pub(crate) fn plain_prefix_len<E: Utf16Order>(raw: &[u8]) -> usize {
 pub fn is_short_plain<E: Utf16Order>(raw: &[u8]) -> bool {
     // Tested first: on the shortest text, the cost of any earlier test would be visible.
     if raw.len() == 2 {
-        return is_no_surrogate::<E>([raw[0], raw[1]]);
+        return is_no_surrogate::<E>(crate::proved::kit::two(raw, 0));
     }
     if raw.len() < 8 {
         return is_plain_few::<E>(raw);
@@ -92,12 +92,13 @@ fn has_no_surrogate_short<E: Utf16Order>(raw: &[u8]) -> bool {
 #[inline(always)]
 fn is_plain_few<E: Utf16Order>(raw: &[u8]) -> bool {
     if raw.len() == 4 {
-        return is_no_surrogate::<E>([raw[0], raw[1]]) & is_no_surrogate::<E>([raw[2], raw[3]]);
+        return is_no_surrogate::<E>(crate::proved::kit::two(raw, 0))
+            & is_no_surrogate::<E>(crate::proved::kit::two(raw, 2));
     }
     if raw.len() == 6 {
-        return is_no_surrogate::<E>([raw[0], raw[1]])
-            & is_no_surrogate::<E>([raw[2], raw[3]])
-            & is_no_surrogate::<E>([raw[4], raw[5]]);
+        return is_no_surrogate::<E>(crate::proved::kit::two(raw, 0))
+            & is_no_surrogate::<E>(crate::proved::kit::two(raw, 2))
+            & is_no_surrogate::<E>(crate::proved::kit::two(raw, 4));
     }
     raw.is_empty()
 }

@@ -73,9 +73,8 @@ pub fn trailing_units<E: Utf16Order>(raw: &[u8]) -> usize {
         trailing += trailing_bits(units32::<E>(block)).count_ones() as usize;
         at += BLOCK;
     }
-    while raw.len() - at >= 2 {
-        trailing += is_trailing_surrogate(E::read_unit(crate::proved::kit::two(raw, at))) as usize;
-        at += 2;
+    for unit in raw[at..].chunks_exact(2) {
+        trailing += is_trailing_surrogate(E::read_unit(crate::proved::kit::two(unit, 0))) as usize;
     }
     trailing
 }
@@ -132,11 +131,10 @@ pub fn has_ascii_units<E: Utf16Order>(raw: &[u8]) -> bool {
 #[inline]
 fn has_few_ascii_units<E: Utf16Order>(raw: &[u8]) -> bool {
     let mut at = 0;
-    while raw.len() - at >= 2 {
-        if E::read_unit(crate::proved::kit::two(raw, at)) >= 0x80 {
+    for unit in raw[at..].chunks_exact(2) {
+        if E::read_unit(crate::proved::kit::two(unit, 0)) >= 0x80 {
             return false;
         }
-        at += 2;
     }
     true
 }

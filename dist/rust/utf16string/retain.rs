@@ -160,7 +160,6 @@ fn move_down(bytes: &mut [u8], to: usize, start: usize, size: usize) {
 // - ensures rest: `drop (start + 2) bytes.new ≡ drop (start + 2) bytes.old`
 #[inline]
 fn move_unit(bytes: &mut [u8], to: usize, start: usize) {
-    let two = [bytes[start], bytes[start + 1]];
-    bytes[to] = two[0];
-    bytes[to + 1] = two[1];
+    let two = crate::proved::kit::two(bytes, start);
+    crate::proved::kit::put_two(bytes, to, two);
 }

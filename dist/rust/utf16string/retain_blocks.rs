@@ -164,6 +164,5 @@ fn write_some<E: Utf16Order>(
 #[inline]
 pub(crate) fn write_unit<E: Utf16Order>(bytes: &mut [u8], at: usize, unit: u16) {
     let two = E::write_unit(unit);
-    bytes[at] = two[0];
-    bytes[at + 1] = two[1];
+    crate::proved::kit::put_two(bytes, at, two);
 }

@@ -236,20 +236,18 @@ fn insert_char<E: Utf16Order, A: Allocator>(
 ) -> Result<(), AllocError> {
     let mut units = [0; 4];
     let len = ch.encode_utf16_into::<E>(&mut units);
-    push_units(raw, units, len)?;
+
     // Each length has its own call: the distance is a constant there, so LLVM makes a `memmove` of
     // the move.
     if len == 2 {
-        move_in(raw, index, &units[..2]);
+        insert_bytes(raw, index, &units[..2])
     } else {
-        move_in(raw, index, &units[..4]);
+        insert_bytes(raw, index, &units[..4])
     }
-    Ok(())
 }
 
 // Inserts bytes at an index. Reserves capacity for them first; if that fails, nothing has changed.
-// The bytes are written twice: a vector grows only at its end, so they are appended first and then
-// written to their place.
+// They are written once.
 //
 // Proved:
 //
@@ -265,9 +263,7 @@ fn insert_bytes<A: Allocator>(
     index: usize,
     bytes: &[u8],
 ) -> Result<(), AllocError> {
-    append(raw, bytes)?;
-    move_in(raw, index, bytes);
-    Ok(())
+    raw.insert_from_slice(index, bytes)
 }
 
 // Moves the bytes at the end, which were appended, to an index.
