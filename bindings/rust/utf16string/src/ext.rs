@@ -5,9 +5,8 @@ use std::borrow::{Borrow, BorrowMut};
 use std::collections::TryReserveError;
 use std::str::FromStr;
 
-use crate::error::allocated;
 use crate::index::part;
-use crate::pattern::proved;
+use crate::pattern::{Search, Split};
 use crate::proved::kit::Global;
 use crate::proved::utf16_bytes::nul_offset;
 use crate::proved::utf16_str::{SliceIndex, WStr as View};
@@ -19,6 +18,25 @@ type Both<'t, E> = (&'t WStr<E>, &'t WStr<E>);
 
 fn both<'t, E: ByteOrder>(parts: (View<'t, E>, View<'t, E>)) -> Both<'t, E> {
     (WStr::of(parts.0), WStr::of(parts.1))
+}
+
+/// Calls the proved search for a text, or the one for a character that passes a test.
+macro_rules! search {
+    ($string:expr, $pattern:expr, $by_text:ident, $by_test:ident) => {{
+        let view = $string.borrow().view();
+        match $pattern.search(view) {
+            Search::Text(text) => view.$by_text(text),
+            Search::Test(test) => view.$by_test(&test),
+        }
+    }};
+}
+
+/// Calls a proved function that takes a text.
+macro_rules! by_text {
+    ($string:expr, $call:ident, $text:expr $(, $n:expr)?) => {{
+        let view = $string.borrow().view();
+        view.$call($($n,)? $text.search(view).text())
+    }};
 }
 
 /// More methods of [`WStr`]: those of [`str`] that `utf16string` 0.2.0 does not have, and do what
@@ -53,62 +71,100 @@ pub trait WStrExt<E: 'static + ByteOrder>: Borrow<WStr<E>> {
     methods! {
         /// Returns the least offset at which a pattern occurs, for the empty string 0.
         fn find[P: Pattern<E>](&self, pattern: P) -> Option<usize> =
-            pattern.find(self.borrow().view());
+            search!(self, pattern, find, find_by);
         /// Returns the greatest offset at which a pattern occurs, for the empty string the length.
         fn rfind[P: Pattern<E>](&self, pattern: P) -> Option<usize> =
-            pattern.rfind(self.borrow().view());
+            search!(self, pattern, rfind, rfind_by);
         /// Returns whether a pattern occurs.
-        fn contains[P: Pattern<E>](&self, pattern: P) -> bool =
-            pattern.find(self.borrow().view()).is_some();
+        fn contains[P: Pattern<E>](&self, pattern: P) -> bool = self.find(pattern).is_some();
         /// Returns whether the string begins with a pattern.
         fn starts_with[P: Pattern<E>](&self, pattern: P) -> bool =
-            pattern.strip_prefix(self.borrow().view()).is_some();
+            self.strip_prefix(pattern).is_some();
         /// Returns whether the string ends with a pattern.
         fn ends_with[P: Pattern<E>](&self, pattern: P) -> bool =
-            pattern.strip_suffix(self.borrow().view()).is_some();
+            self.strip_suffix(pattern).is_some();
         /// Returns what follows a pattern at the start, if it is there.
-        fn strip_prefix[P: Pattern<E>](&self, prefix: P) -> Option<&WStr<E>> =
-            prefix.strip_prefix(self.borrow().view()).map(WStr::of);
+        fn strip_prefix[P: Pattern<E>](&self, prefix: P) -> Option<&WStr<E>> = {
+            let view = self.borrow().view();
+            let rest = match prefix.search(view) {
+                Search::Text(text) => view.strip_prefix(text),
+                Search::Test(test) => view.split_first().filter(|it| test(it.0)).map(|it| it.1),
+            };
+            rest.map(WStr::of)
+        };
         /// Returns what is before a pattern at the end, if it is there.
-        fn strip_suffix[P: Pattern<E>](&self, suffix: P) -> Option<&WStr<E>> =
-            suffix.strip_suffix(self.borrow().view()).map(WStr::of);
-        /// Returns what is before an offset, and what follows it. Panics if the offset is not a
-        /// character boundary.
+        fn strip_suffix[P: Pattern<E>](&self, suffix: P) -> Option<&WStr<E>> = {
+            let view = self.borrow().view();
+            let rest = match suffix.search(view) {
+                Search::Text(text) => view.strip_suffix(text),
+                Search::Test(test) => view.split_last().filter(|it| test(it.0)).map(|it| it.1),
+            };
+            rest.map(WStr::of)
+        };
+        /// Returns what is before a character boundary, and what follows it. Panics at no boundary.
         fn split_at(&self, mid: usize) -> Both<'_, E> =
-            both(self.borrow().view().split_at_checked(mid).expect("slice index out of bounds"));
-        /// Returns what is before an offset, and what follows it, or `None` if the offset is not a
-        /// character boundary.
+            self.split_at_checked(mid).expect("slice index out of bounds");
+        /// Like [`split_at`](WStrExt::split_at), but returns `None` at no character boundary.
         fn split_at_checked(&self, mid: usize) -> Option<Both<'_, E>> =
             self.borrow().view().split_at_checked(mid).map(both);
         /// Returns what is before the first occurrence, and what follows it.
         fn split_once[P: Pattern<E>](&self, delimiter: P) -> Option<Both<'_, E>> =
-            delimiter.split_once(self.borrow().view()).map(both);
+            search!(self, delimiter, split_once, cut_by).map(both);
         /// Returns what is before the last occurrence, and what follows it.
         fn rsplit_once[P: Pattern<E>](&self, delimiter: P) -> Option<Both<'_, E>> =
-            delimiter.rsplit_once(self.borrow().view()).map(both);
+            search!(self, delimiter, rsplit_once, cut_last_by).map(both);
         /// Returns the parts between the occurrences of a pattern.
-        fn split[P: Pattern<E>](&self, delimiter: P) -> impl Iterator<Item = &WStr<E>> =
-            delimiter.split(self.borrow().view()).map(WStr::of);
-        /// Returns the parts between the occurrences of a text, the last one first.
-        fn rsplit[P: TextPattern<E>](&self, delimiter: P) -> impl Iterator<Item = &WStr<E>> =
-            self.borrow().view().rsplit(proved(&delimiter)).map(WStr::of);
-        /// Returns at most `n` parts between occurrences of a text. The last one is the rest.
-        fn splitn[P: TextPattern<E>](&self, n: usize, text: P) -> impl Iterator<Item = &WStr<E>> =
-            self.borrow().view().splitn(n, proved(&text)).map(WStr::of);
-        /// Returns the occurrences of a text that do not overlap, and their offsets.
-        fn match_indices[P: TextPattern<E>](&self, text: P)
-            -> impl Iterator<Item = (usize, &WStr<E>)> = {
-            let found = self.borrow().view().match_indices(proved(&text));
-            found.map(|(at, part)| (at, WStr::of(part)))
+        fn split[P: Pattern<E>](&self, delimiter: P) -> Split<'_, E, P> = {
+            let view = self.borrow().view();
+            Split(match delimiter.search(view) {
+                Search::Text(text) => Search::Text(view.split(text)),
+                Search::Test(test) => Search::Test(view.split_with(test)),
+            })
         };
+        /// Returns the parts between the occurrences of a text, the last one first.
+        fn rsplit[P: TextPattern<E>](&self, text: P)
+            -> impl Iterator<Item = &WStr<E>> + Clone =
+            by_text!(self, rsplit, text).map(WStr::of);
+        /// Returns at most `n` parts between occurrences of a text. The last one is the rest.
+        fn splitn[P: TextPattern<E>](&self, n: usize, text: P)
+            -> impl Iterator<Item = &WStr<E>> + Clone =
+            by_text!(self, splitn, text, n).map(WStr::of);
+        /// Returns at most `n` parts like [`rsplit`](WStrExt::rsplit). The last one is the rest.
+        fn rsplitn[P: TextPattern<E>](&self, n: usize, text: P)
+            -> impl Iterator<Item = &WStr<E>> + Clone =
+            by_text!(self, rsplitn, text, n).map(WStr::of);
+        /// Returns the parts that end with a text, and the rest if it is not empty.
+        fn split_inclusive[P: TextPattern<E>](&self, text: P)
+            -> impl Iterator<Item = &WStr<E>> + Clone =
+            by_text!(self, split_inclusive, text).map(WStr::of);
+        /// Like [`split_inclusive`](WStrExt::split_inclusive), without that text.
+        fn split_terminator[P: TextPattern<E>](&self, text: P)
+            -> impl Iterator<Item = &WStr<E>> + Clone =
+            by_text!(self, split_terminator, text).map(WStr::of);
+        /// Returns the occurrences of a text that do not overlap.
+        fn matches[P: TextPattern<E>](&self, text: P)
+            -> impl Iterator<Item = &WStr<E>> + Clone =
+            by_text!(self, matches, text).map(WStr::of);
+        /// Returns the occurrences of a text that do not overlap, the last one first.
+        fn rmatches[P: TextPattern<E>](&self, text: P)
+            -> impl Iterator<Item = &WStr<E>> + Clone =
+            by_text!(self, rmatch_indices, text).map(|(_, part)| WStr::of(part));
+        /// Returns what [`matches`](WStrExt::matches) returns, with offsets.
+        fn match_indices[P: TextPattern<E>](&self, text: P)
+            -> impl Iterator<Item = (usize, &WStr<E>)> + Clone =
+            by_text!(self, match_indices, text).map(|(at, part)| (at, WStr::of(part)));
+        /// Returns what [`rmatches`](WStrExt::rmatches) returns, with offsets.
+        fn rmatch_indices[P: TextPattern<E>](&self, text: P)
+            -> impl Iterator<Item = (usize, &WStr<E>)> + Clone =
+            by_text!(self, rmatch_indices, text).map(|(at, part)| (at, WStr::of(part)));
         /// Returns the lines, without their ends `\n` or `\r\n`.
-        fn lines(&self) -> impl DoubleEndedIterator<Item = &WStr<E>> =
+        fn lines(&self) -> impl DoubleEndedIterator<Item = &WStr<E>> + Clone =
             self.borrow().view().lines().map(WStr::of);
         /// Returns the parts between white space, none of which is empty.
-        fn split_whitespace(&self) -> impl DoubleEndedIterator<Item = &WStr<E>> =
+        fn split_whitespace(&self) -> impl DoubleEndedIterator<Item = &WStr<E>> + Clone =
             self.borrow().view().split_whitespace().map(WStr::of);
         /// Returns the parts between white space of ASCII, none of which is empty.
-        fn split_ascii_whitespace(&self) -> impl DoubleEndedIterator<Item = &WStr<E>> =
+        fn split_ascii_whitespace(&self) -> impl DoubleEndedIterator<Item = &WStr<E>> + Clone =
             self.borrow().view().split_ascii_whitespace().map(WStr::of);
         /// Returns the string without white space at both ends.
         fn trim(&self) -> &WStr<E> = WStr::of(self.borrow().view().trim());
@@ -118,13 +174,13 @@ pub trait WStrExt<E: 'static + ByteOrder>: Borrow<WStr<E>> {
         fn trim_end(&self) -> &WStr<E> = WStr::of(self.borrow().view().trim_end());
         /// Returns the string without the occurrences of a pattern at both ends.
         fn trim_matches[P: Pattern<E>](&self, pattern: P) -> &WStr<E> =
-            WStr::of(pattern.trim_end_matches(pattern.trim_start_matches(self.borrow().view())));
+            WStr::of(search!(self, pattern, trim_matches, trim_with));
         /// Returns the string without the occurrences of a pattern at the start.
         fn trim_start_matches[P: Pattern<E>](&self, pattern: P) -> &WStr<E> =
-            WStr::of(pattern.trim_start_matches(self.borrow().view()));
+            WStr::of(search!(self, pattern, trim_start_matches, trim_start_with));
         /// Returns the string without the occurrences of a pattern at the end.
         fn trim_end_matches[P: Pattern<E>](&self, pattern: P) -> &WStr<E> =
-            WStr::of(pattern.trim_end_matches(self.borrow().view()));
+            WStr::of(search!(self, pattern, trim_end_matches, trim_end_with));
         /// Returns the value that the text stands for.
         fn parse[T: FromStr](&self) -> Result<T, T::Err> = self.borrow().to_utf8().parse();
         /// Returns whether two strings are equal if the case of ASCII letters is ignored.
@@ -145,7 +201,7 @@ pub trait WStrExt<E: 'static + ByteOrder>: Borrow<WStr<E>> {
         /// Returns the string `n` times.
         fn repeat(&self, n: usize) -> WString<E> = {
             let text = WString::from(self.borrow()).text;
-            WString::of(allocated(text.repeat(Global, n), 0, text.len().saturating_mul(n)))
+            WString::made(text.repeat(Global, n), text.len().saturating_mul(n))
         };
         /// Returns the string with another one instead of each occurrence of a text.
         fn replace[P: TextPattern<E>](&self, from: P, to: &WStr<E>) -> WString<E> =
@@ -153,12 +209,12 @@ pub trait WStrExt<E: 'static + ByteOrder>: Borrow<WStr<E>> {
         /// Returns the string with another one instead of the first `count` occurrences.
         fn replacen[P: TextPattern<E>](&self, from: P, to: &WStr<E>, count: usize) -> WString<E> = {
             let text = WString::from(self.borrow()).text;
-            let made = text.replacen(Global, proved(&from), to.view(), count);
-            WString::of(allocated(made, 0, usize::MAX))
+            let from = from.search(self.borrow().view()).text();
+            WString::made(text.replacen(Global, from, to.view(), count), usize::MAX)
         };
         /// Returns the string in another byte order.
         fn to_byte_order[F: 'static + ByteOrder](&self) -> WString<F> =
-            WString::of(WString::from(self.borrow()).text.into_byte_order());
+            WString { text: WString::from(self.borrow()).text.into_byte_order() };
     }
 }
 
@@ -198,8 +254,7 @@ pub trait WStringExt<E: 'static + ByteOrder>: BorrowMut<WString<E>> {
     }
 
     methods! {
-        /// Makes the capacity at least the length plus `additional` bytes. If there is no memory,
-        /// it returns an error, and nothing changes.
+        /// Like `reserve`, but if there is no memory it returns an error, and nothing changes.
         #[doc = example!("a", "assert!(text.try_reserve(usize::MAX).is_err());", "a")]
         fn try_reserve(&mut self, additional: usize) -> Result<(), TryReserveError> =
             self.borrow_mut().text.raw.as_mut_vec().try_reserve(additional);
@@ -214,29 +269,29 @@ pub trait WStringExt<E: 'static + ByteOrder>: BorrowMut<WString<E>> {
             self.borrow_mut().text.shrink_to(min_capacity).unwrap_or_default();
         /// Appends a text in UTF-8.
         #[doc = example!("a", "text.push_str(\"b😀\");", "ab😀")]
-        fn push_str(&mut self, string: &str) = *self.borrow_mut() += string;
+        fn push_str(&mut self, string: &str) =
+            self.borrow_mut().edit(2 * string.len(), |text| text.push_str(string));
         /// Inserts a text in UTF-8 at an offset. It moves the bytes after it. Panics if the offset
         /// is not a character boundary.
         #[doc = example!("ab", "text.insert_str(2, \"😀\");", "a😀b")]
         fn insert_str(&mut self, idx: usize, string: &str) = {
             let it = self.borrow_mut();
             assert!(it.is_char_boundary(idx), "insert not on char boundary");
-            let len = it.len();
-            allocated(it.text.insert_str(idx, string), len, 2 * string.len())
+            it.edit(2 * string.len(), |text| text.insert_str(idx, string))
         };
         /// Replaces a range with another string. Panics if the range is not a substring.
         #[doc = example!("abcd", "text.replace_range(2..6, &WString::from(\"😀\"));", "a😀d")]
         fn replace_range[R: SliceIndex<E>](&mut self, range: R, replace_with: &WStr<E>) = {
             let it = self.borrow_mut();
-            let (range, len) = (part(range, it), it.len());
-            allocated(it.text.replace_range(range, replace_with.view()), len, replace_with.len())
+            let range = part(range, it);
+            it.edit(replace_with.len(), |text| text.replace_range(range, replace_with.view()))
         };
         /// Removes a range, and returns it as a string. Panics if the range is not a substring.
         #[doc = example!("abcd", "assert_eq!(text.drain(..4), \"ab\");", "cd")]
         fn drain[R: SliceIndex<E>](&mut self, range: R) -> WString<E> = {
             let it = self.borrow_mut();
-            let (range, len) = (part(range, it), it.len());
-            WString::of(allocated(it.text.drain(range), 0, len))
+            let range = part(range, it);
+            WString::made(it.text.drain(range.clone()), range.len())
         };
         /// Changes capital letters of ASCII to small ones.
         #[doc = example!("AÄ", "text.make_ascii_lowercase();", "aÄ")]

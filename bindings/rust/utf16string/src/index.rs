@@ -1,30 +1,18 @@
 //! Slicing with brackets and with `get`. The proved source says which bytes a range has.
 
 use std::ops::{Index, IndexMut, Range};
-use std::ops::{RangeFrom, RangeFull, RangeInclusive, RangeTo, RangeToInclusive};
 
 use crate::proved::utf16_str;
-use crate::ByteOrder;
-use crate::{WStr, WString};
+use crate::{ByteOrder, WStr, WString};
 
-mod private {
-    use super::*;
+/// Nobody else can name this trait, so nobody else can implement [`SliceIndex`].
+pub trait Sealed<T: ?Sized> {}
 
-    pub trait SealedSliceIndex {}
-
-    macro_rules! seal {
-        ($($Range:ty)*) => {$(
-            impl SealedSliceIndex for $Range {}
-        )*};
-    }
-
-    seal!(RangeFull Range<usize> RangeFrom<usize> RangeTo<usize> RangeInclusive<usize>
-        RangeToInclusive<usize>);
-}
+impl<I: utf16_str::SliceIndex<E>, E: 'static + ByteOrder> Sealed<WStr<E>> for I {}
 
 /// A range of offsets, like [`std::slice::SliceIndex`]. The trait is sealed: only the ranges of
 /// `usize` implement it.
-pub trait SliceIndex<T: ?Sized>: private::SealedSliceIndex {
+pub trait SliceIndex<T: ?Sized>: Sealed<T> {
     /// The type of a substring: the same as the type of the string.
     type Output: ?Sized;
 
@@ -72,17 +60,11 @@ pub(crate) fn part<E: ByteOrder>(
     text: &WStr<E>,
 ) -> Range<usize> {
     let window = window(range, text);
-    assert!(
-        text.get(window.clone()).is_some(),
-        "slice index out of bounds"
-    );
+    window.clone().index(text);
     window
 }
 
-impl<I, E: 'static + ByteOrder> SliceIndex<WStr<E>> for I
-where
-    I: private::SealedSliceIndex + utf16_str::SliceIndex<E>,
-{
+impl<I: utf16_str::SliceIndex<E>, E: 'static + ByteOrder> SliceIndex<WStr<E>> for I {
     type Output = WStr<E>;
 
     #[inline]

@@ -1,90 +1,96 @@
 use std::fmt;
-use std::hint::assert_unchecked;
 use std::iter::FusedIterator;
 use std::marker::PhantomData;
 
-use crate::proved::utf16_bytes::count_chars;
-use crate::proved::utf16_str;
+use crate::proved::utf16_str::{self, WStr as View};
+use crate::proved::utf16_units::text::trailing_units;
 use crate::proved::utf16_units::{is_leading_surrogate, is_trailing_surrogate};
 use crate::ByteOrder;
 
 /// An iterator over the characters of a [`WStr`](crate::WStr), from both ends.
 /// [`WStr::chars`](crate::WStr::chars) returns it.
+#[derive(Clone)]
 pub struct WStrChars<'a, E: 'static + ByteOrder>(pub(crate) utf16_str::WStrChars<'a, E>);
 
 /// An iterator over the characters of a [`WStr`](crate::WStr) and their offsets, from both ends.
 /// [`WStr::char_indices`](crate::WStr::char_indices) returns it.
-pub struct WStrCharIndices<'a, E: 'static + ByteOrder>(
-    pub(crate) utf16_str::WStrCharIndices<'a, E>,
-);
-
-/// Calls a function at two places, so that the compiler makes one code for a character of 2 bytes
-/// and one for a pair, without tests of bounds: well-formed bytes have an even length, and a pair
-/// has 4.
-macro_rules! by_length {
-    ($bytes:expr, $unit:expr, $is_pair:ident, $call:expr) => {{
-        let bytes: &[u8] = $bytes;
-        // SAFETY: the length is even.
-        unsafe { assert_unchecked(bytes.len() != 1) };
-        if bytes.is_empty() || !$is_pair(E::read_u16(&bytes[$unit(bytes.len())..])) {
-            $call
-        } else {
-            // SAFETY: each surrogate of a text is half of a pair.
-            unsafe { assert_unchecked(bytes.len() >= 4) };
-            $call
-        }
-    }};
+#[derive(Clone, Debug)]
+pub struct WStrCharIndices<'a, E: 'static + ByteOrder> {
+    pub(crate) chars: WStrChars<'a, E>,
+    pub(crate) index: usize,
 }
 
-macro_rules! iterators {
-    ($($Name:ident $Item:ty;)*) => {$(
-        impl<E: ByteOrder> Iterator for $Name<'_, E> {
-            type Item = $Item;
-
-            methods! {
-                fn next(&mut self) -> Option<$Item> = {
-                    let bytes = self.0.as_wstr().as_bytes();
-                    by_length!(bytes, |_| 0, is_leading_surrogate, self.0.next())
-                };
-                fn count(self) -> usize = count_chars::<E>(self.0.as_wstr().as_bytes());
-                fn last(self) -> Option<$Item> = self.0.last();
-            }
-        }
-
-        impl<E: ByteOrder> DoubleEndedIterator for $Name<'_, E> {
-            methods! {
-                fn next_back(&mut self) -> Option<$Item> = {
-                    let bytes = self.0.as_wstr().as_bytes();
-                    by_length!(bytes, |len| len - 2, is_trailing_surrogate, self.0.next_back())
-                };
-            }
-        }
-
-        impl<E: ByteOrder> FusedIterator for $Name<'_, E> {}
-    )*};
-}
-
-iterators! {
-    WStrChars char;
-    WStrCharIndices (usize, char);
-}
-
-impl<E: ByteOrder> Clone for WStrChars<'_, E> {
-    #[inline]
-    fn clone(&self) -> Self {
-        WStrChars(self.0.as_wstr().chars())
+impl<'a, E: ByteOrder> WStrChars<'a, E> {
+    /// Keeps the rest, and returns an iterator over one character. Each length has its own code, so
+    /// that the compiler knows it.
+    #[inline(always)]
+    fn keep(&mut self, rest: &'a [u8], character: &'a [u8]) -> utf16_str::WStrChars<'a, E> {
+        self.0 = View::from_utf16_unchecked(rest).chars();
+        View::from_utf16_unchecked(character).chars()
     }
 }
 
-impl<E: ByteOrder> Clone for WStrCharIndices<'_, E> {
-    #[inline]
-    fn clone(&self) -> Self {
-        WStrCharIndices(utf16_str::WStrCharIndices {
-            offset: self.0.offset,
-            chars: self.0.as_wstr().chars(),
-        })
+impl<E: ByteOrder> Iterator for WStrChars<'_, E> {
+    type Item = char;
+
+    methods! {
+        fn next(&mut self) -> Option<char> = {
+            let bytes = self.0.as_wstr().as_bytes();
+            let (two, rest) = bytes.split_first_chunk::<2>()?;
+            if !is_leading_surrogate(E::read_u16(two)) {
+                return self.keep(rest, two).next();
+            }
+            let (four, rest) = bytes.split_first_chunk::<4>()?;
+            self.keep(rest, four).next()
+        };
+        fn count(self) -> usize = {
+            let bytes = self.0.as_wstr().as_bytes();
+            bytes.len() / 2 - trailing_units::<E>(bytes)
+        };
+        fn last(self) -> Option<char> = self.0.last();
     }
 }
+
+impl<E: ByteOrder> DoubleEndedIterator for WStrChars<'_, E> {
+    methods! {
+        fn next_back(&mut self) -> Option<char> = {
+            let bytes = self.0.as_wstr().as_bytes();
+            let (rest, two) = bytes.split_last_chunk::<2>()?;
+            if !is_trailing_surrogate(E::read_u16(two)) {
+                return self.keep(rest, two).next_back();
+            }
+            let (rest, four) = bytes.split_last_chunk::<4>()?;
+            self.keep(rest, four).next_back()
+        };
+    }
+}
+
+impl<E: ByteOrder> FusedIterator for WStrChars<'_, E> {}
+
+impl<E: ByteOrder> Iterator for WStrCharIndices<'_, E> {
+    type Item = (usize, char);
+
+    methods! {
+        fn next(&mut self) -> Option<(usize, char)> = {
+            let (index, c) = (self.index, self.chars.next()?);
+            self.index += 2 * c.len_utf16();
+            Some((index, c))
+        };
+        fn count(self) -> usize = self.chars.count();
+        fn last(mut self) -> Option<(usize, char)> = self.next_back();
+    }
+}
+
+impl<E: ByteOrder> DoubleEndedIterator for WStrCharIndices<'_, E> {
+    methods! {
+        fn next_back(&mut self) -> Option<(usize, char)> = {
+            let c = self.chars.next_back()?;
+            Some((self.index + self.chars.0.as_wstr().len(), c))
+        };
+    }
+}
+
+impl<E: ByteOrder> FusedIterator for WStrCharIndices<'_, E> {}
 
 /// Shows the fields of `utf16string` 0.2.0.
 impl<E: ByteOrder> fmt::Debug for WStrChars<'_, E> {
@@ -92,16 +98,6 @@ impl<E: ByteOrder> fmt::Debug for WStrChars<'_, E> {
         f.debug_struct("WStrChars")
             .field("chunks", &self.0.as_wstr().as_bytes().chunks_exact(2))
             .field("_endian", &PhantomData::<&'static E>)
-            .finish()
-    }
-}
-
-/// Shows the fields of `utf16string` 0.2.0.
-impl<E: ByteOrder> fmt::Debug for WStrCharIndices<'_, E> {
-    fn fmt(&self, f: &mut fmt::Formatter<'_>) -> fmt::Result {
-        f.debug_struct("WStrCharIndices")
-            .field("chars", &WStrChars(self.0.as_wstr().chars()))
-            .field("index", &self.0.offset)
             .finish()
     }
 }

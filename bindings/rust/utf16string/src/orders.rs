@@ -15,22 +15,14 @@ macro_rules! constructors {
                     Self::from_utf16_mut(raw);
             }
 
-            /// Returns the bytes as a string, without testing them.
-            ///
-            /// # Safety
-            ///
-            #[doc = concat!("The bytes are well-formed ", $name, ".")]
+            #[doc = unchecked!($name)]
             #[inline]
             pub unsafe fn $unchecked(raw: &[u8]) -> &Self {
                 // SAFETY: the caller says it.
                 unsafe { Self::from_utf16_unchecked(raw) }
             }
 
-            /// Returns the bytes as a mutable string, without testing them.
-            ///
-            /// # Safety
-            ///
-            #[doc = concat!("The bytes are well-formed ", $name, ".")]
+            #[doc = unchecked!($name)]
             #[inline]
             pub unsafe fn $unchecked_mut(raw: &mut [u8]) -> &mut Self {
                 // SAFETY: the caller says it.
@@ -44,11 +36,7 @@ macro_rules! constructors {
                 pub fn $new(buf: Vec<u8>) -> Result<Self, Utf16Error> = Self::from_utf16(buf);
             }
 
-            /// Returns the bytes as a string, without testing them.
-            ///
-            /// # Safety
-            ///
-            #[doc = concat!("The bytes are well-formed ", $name, ".")]
+            #[doc = unchecked!($name)]
             #[inline]
             pub unsafe fn $unchecked(buf: Vec<u8>) -> Self {
                 // SAFETY: the caller says it.

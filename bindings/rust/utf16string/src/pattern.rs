@@ -1,56 +1,75 @@
 use crate::proved::utf16_bytes;
 use crate::proved::utf16_str::{WStr as View, WStrSplit, WStrSplitWith};
-use crate::ByteOrder;
-use crate::{WStr, WString};
+use crate::{ByteOrder, WStr, WString};
 
-mod private {
-    use super::*;
-
-    /// What the methods of `WStrExt` do with a pattern and a proved view.
-    pub trait SealedPattern<E: 'static + ByteOrder> {
-        type Split<'t>: Iterator<Item = View<'t, E>>;
-
-        fn find(&self, text: View<'_, E>) -> Option<usize>;
-        fn rfind(&self, text: View<'_, E>) -> Option<usize>;
-        fn strip_prefix<'t>(&self, text: View<'t, E>) -> Option<View<'t, E>>;
-        fn strip_suffix<'t>(&self, text: View<'t, E>) -> Option<View<'t, E>>;
-        fn split_once<'t>(&self, text: View<'t, E>) -> Option<(View<'t, E>, View<'t, E>)>;
-        fn rsplit_once<'t>(&self, text: View<'t, E>) -> Option<(View<'t, E>, View<'t, E>)>;
-        fn trim_start_matches<'t>(&self, text: View<'t, E>) -> View<'t, E>;
-        fn trim_end_matches<'t>(&self, text: View<'t, E>) -> View<'t, E>;
-        fn split(self, text: View<'_, E>) -> Self::Split<'_>;
-    }
-
-    /// A text or a character: what has one encoding.
-    pub trait SealedText<E: 'static + ByteOrder> {
-        type Proved: utf16_bytes::Pattern<E>;
-
-        /// Returns what the proved code takes. Without a key nobody else can call it.
-        fn proved(&self, key: Key) -> Self::Proved;
-    }
-
-    #[allow(missing_debug_implementations)]
-    pub struct Key(pub(crate) ());
+/// What the proved code looks for: a text, or a character that passes a test.
+#[derive(Clone, Debug)]
+pub enum Search<T, F> {
+    Text(T),
+    Test(F),
 }
 
-/// Returns what the proved code takes.
-#[inline]
-pub(crate) fn proved<E: 'static + ByteOrder, P: TextPattern<E>>(pattern: &P) -> P::Proved {
-    pattern.proved(private::Key(()))
+impl<T, F> Search<T, F> {
+    /// Returns the text of a [`TextPattern`].
+    pub(crate) fn text(self) -> T {
+        match self {
+            Search::Text(text) => text,
+            Search::Test(_) => unreachable!("only a closure is a test"),
+        }
+    }
+}
+
+/// Says what the proved code looks for. Nobody else can name this trait, or has a `View` to call it.
+pub trait SealedPattern<E: 'static + ByteOrder> {
+    type Text: utf16_bytes::Pattern<E>;
+    type Test: Fn(char) -> bool;
+
+    fn search(self, _: View<'_, E>) -> Search<Self::Text, Self::Test>;
 }
 
 /// What a search looks for: a [`char`], a [`&str`](str), a `&WStr<E>`, or a closure that says of a
 /// [`char`] whether it matches, like `std::str::pattern::Pattern`. The trait is sealed.
 ///
 /// For a [`WString`] pass its [`as_wstr`](WString::as_wstr).
-pub trait Pattern<E: 'static + ByteOrder>: private::SealedPattern<E> {}
+pub trait Pattern<E: 'static + ByteOrder>: SealedPattern<E> {}
 
-impl<E: 'static + ByteOrder, P: private::SealedPattern<E>> Pattern<E> for P {}
+impl<E: 'static + ByteOrder, P: SealedPattern<E>> Pattern<E> for P {}
 
 /// A [`Pattern`] that is a text: a [`char`], a [`&str`](str) or a `&WStr<E>`. The trait is sealed.
-pub trait TextPattern<E: 'static + ByteOrder>: private::SealedText<E> {}
+pub trait TextPattern<E: 'static + ByteOrder>: Pattern<E> {}
 
-impl<E: 'static + ByteOrder, P: private::SealedText<E>> TextPattern<E> for P {}
+macro_rules! texts {
+    ($($Given:ty => $Text:ty: |$given:ident| $text:expr;)*) => {$(
+        impl<'p, E: 'static + ByteOrder> SealedPattern<E> for $Given {
+            type Text = $Text;
+            type Test = fn(char) -> bool;
+
+            #[inline]
+            fn search(self, _: View<'_, E>) -> Search<Self::Text, Self::Test> {
+                let $given = self;
+                Search::Text($text)
+            }
+        }
+
+        impl<'p, E: 'static + ByteOrder> TextPattern<E> for $Given {}
+    )*};
+}
+
+texts! {
+    char => char: |character| character;
+    &'p str => Utf8<'p>: |text| Utf8(text);
+    &'p WStr<E> => View<'p, E>: |text| text.view();
+}
+
+impl<E: 'static + ByteOrder, F: Fn(char) -> bool> SealedPattern<E> for F {
+    type Text = char;
+    type Test = F;
+
+    #[inline]
+    fn search(self, _: View<'_, E>) -> Search<char, F> {
+        Search::Test(self)
+    }
+}
 
 /// A text in UTF-8, which each search converts.
 #[derive(Clone, Copy, Debug)]
@@ -77,76 +96,22 @@ macro_rules! convert {
 
 convert!(first_in next_in last_in prefix_len suffix_len);
 
-macro_rules! texts {
-    ($($Text:ty => $Proved:ty: |$pattern:ident| $proved:expr;)*) => {$(
-        impl<'p, E: 'static + ByteOrder> private::SealedText<E> for $Text {
-            type Proved = $Proved;
+/// The parts between occurrences of a pattern. [`split`](crate::WStrExt::split) returns it.
+#[derive(Clone)]
+#[allow(missing_debug_implementations)]
+pub struct Split<'t, E: 'static + ByteOrder, P: Pattern<E>>(
+    pub(crate) Search<WStrSplit<'t, E, P::Text>, WStrSplitWith<'t, E, P::Test>>,
+);
 
-            #[inline]
-            fn proved(&self, _: private::Key) -> $Proved {
-                let $pattern = *self;
-                $proved
-            }
-        }
+impl<'t, E: ByteOrder, P: Pattern<E>> Iterator for Split<'t, E, P> {
+    type Item = &'t WStr<E>;
 
-        impl<'p, E: 'static + ByteOrder> private::SealedPattern<E> for $Text {
-            type Split<'t> = WStrSplit<'t, E, $Proved>;
-
-            forward! {
-                find -> Option<usize>;
-                rfind -> Option<usize>;
-                strip_prefix -> Option<View<'t, E>>;
-                strip_suffix -> Option<View<'t, E>>;
-                split_once -> Option<(View<'t, E>, View<'t, E>)>;
-                rsplit_once -> Option<(View<'t, E>, View<'t, E>)>;
-                trim_start_matches -> View<'t, E>;
-                trim_end_matches -> View<'t, E>;
-            }
-
-            #[inline]
-            fn split(self, text: View<'_, E>) -> Self::Split<'_> {
-                text.split(proved::<E, _>(&self))
-            }
-        }
-    )*};
-}
-
-macro_rules! forward {
-    ($($search:ident -> $Result:ty;)*) => {$(
-        #[inline]
-        fn $search<'t>(&self, text: View<'t, E>) -> $Result {
-            text.$search(proved::<E, _>(self))
-        }
-    )*};
-}
-
-texts! {
-    char => char: |character| character;
-    &'p str => Utf8<'p>: |text| Utf8(text);
-    &'p WStr<E> => View<'p, E>: |text| text.view();
-}
-
-impl<E: 'static + ByteOrder, F: Fn(char) -> bool> private::SealedPattern<E> for F {
-    type Split<'t> = WStrSplitWith<'t, E, F>;
-
-    methods! {
-        fn find(&self, text: View<'_, E>) -> Option<usize> = text.find_with(self);
-        fn rfind(&self, text: View<'_, E>) -> Option<usize> = text.rfind_with(self);
-        fn strip_prefix['t](&self, text: View<'t, E>) -> Option<View<'t, E>> = {
-            let mut chars = text.chars();
-            self(chars.next()?).then_some(chars.as_wstr())
+    #[inline]
+    fn next(&mut self) -> Option<&'t WStr<E>> {
+        let part = match &mut self.0 {
+            Search::Text(parts) => parts.next(),
+            Search::Test(parts) => parts.next(),
         };
-        fn strip_suffix['t](&self, text: View<'t, E>) -> Option<View<'t, E>> = {
-            let mut chars = text.chars();
-            self(chars.next_back()?).then_some(chars.as_wstr())
-        };
-        fn split_once['t](&self, text: View<'t, E>) -> Option<(View<'t, E>, View<'t, E>)> =
-            text.cut_by(self);
-        fn rsplit_once['t](&self, text: View<'t, E>) -> Option<(View<'t, E>, View<'t, E>)> =
-            text.cut_last_by(self);
-        fn trim_start_matches['t](&self, text: View<'t, E>) -> View<'t, E> =
-            text.trim_start_with(self);
-        fn trim_end_matches['t](&self, text: View<'t, E>) -> View<'t, E> = text.trim_end_with(self);
-        fn split(self, text: View<'_, E>) -> Self::Split<'_> = text.split_with(self);
+        part.map(WStr::of)
     }
 }

@@ -4,16 +4,15 @@ use std::borrow::{Borrow, BorrowMut, Cow};
 use std::cmp::Ordering;
 use std::convert::Infallible;
 use std::fmt;
-use std::hash::{Hash, Hasher};
 use std::ops::{Add, AddAssign, Deref, DerefMut};
 use std::rc::Rc;
 use std::str::FromStr;
 use std::sync::Arc;
 
-use crate::error::{allocated, FromUtf16Error};
+use crate::error::FromUtf16Error;
 use crate::proved::{kit::Global, utf16string};
 use crate::view::{byte_order, validate};
-use crate::{ByteOrder, Utf16Error, WStr, WString};
+use crate::{ByteOrder, Utf16Error, WStr, WString, WStringExt};
 
 /// Implementations whose methods are one expression each. What is in brackets are generics.
 macro_rules! impls {
@@ -34,45 +33,6 @@ macro_rules! impls {
     )*};
 }
 
-macro_rules! impls_of_both {
-    ($($Text:ty)*) => {$(
-        impls! {
-            Eq, $Text {}
-            PartialEq, $Text {
-                fn eq(&self, other: &Self) -> bool = self.view() == other.view();
-            }
-            PartialEq<str>, $Text {
-                fn eq(&self, other: &str) -> bool = self.view().eq_str(other);
-            }
-            PartialEq<$Text>, str {
-                fn eq(&self, other: &$Text) -> bool = other == self;
-            }
-            PartialOrd, $Text {
-                fn partial_cmp(&self, other: &Self) -> Option<Ordering> = Some(self.cmp(other));
-            }
-            Ord, $Text {
-                fn cmp(&self, other: &Self) -> Ordering = self.view().cmp(&other.view());
-            }
-            Hash, $Text {
-                fn hash[H: Hasher](&self, state: &mut H) = self.view().hash(state);
-            }
-            /// Writes the text. Width and fill are ignored.
-            fmt::Display, $Text {
-                fn fmt(&self, f: &mut fmt::Formatter<'_>) -> fmt::Result =
-                    dethrux::display(byte_order::<E>(), self.as_bytes()).fmt(f);
-            }
-            AsRef<[u8]>, $Text {
-                fn as_ref(&self) -> &[u8] = self.as_bytes();
-            }
-            AsRef<WStr<E>>, $Text {
-                fn as_ref(&self) -> &WStr<E> = self;
-            }
-        }
-    )*};
-}
-
-impls_of_both!(WStr<E> WString<E>);
-
 /// Pairs of types whose texts are compared, in both directions.
 macro_rules! equal {
     ($($Left:ty, $Right:ty: |$left:ident, $right:ident| $is_equal:expr;)*) => {$(
@@ -88,6 +48,8 @@ macro_rules! equal {
 }
 
 equal! {
+    WStr<E>, str: |left, right| left.view().eq_str(right);
+    WString<E>, str: |left, right| left.view().eq_str(right);
     WString<E>, WStr<E>: |left, right| **left == *right;
     WString<E>, &WStr<E>: |left, right| **left == **right;
     WString<E>, &str: |left, right| *left == **right;
@@ -97,6 +59,32 @@ equal! {
 }
 
 impls! {
+    AsRef<[u8]>, WStr<E> {
+        fn as_ref(&self) -> &[u8] = self.as_bytes();
+    }
+    AsRef<[u8]>, WString<E> {
+        fn as_ref(&self) -> &[u8] = self.as_bytes();
+    }
+    AsRef<WStr<E>>, WStr<E> {
+        fn as_ref(&self) -> &WStr<E> = self;
+    }
+    AsRef<WStr<E>>, WString<E> {
+        fn as_ref(&self) -> &WStr<E> = self;
+    }
+    /// Writes the text. Width and fill are ignored.
+    fmt::Display, WStr<E> {
+        fn fmt(&self, f: &mut fmt::Formatter<'_>) -> fmt::Result =
+            dethrux::display(byte_order::<E>(), self.as_bytes()).fmt(f);
+    }
+    fmt::Display, WString<E> {
+        fn fmt(&self, f: &mut fmt::Formatter<'_>) -> fmt::Result = (**self).fmt(f);
+    }
+    PartialOrd, WStr<E> {
+        fn partial_cmp(&self, other: &Self) -> Option<Ordering> = Some(self.cmp(other));
+    }
+    Ord, WStr<E> {
+        fn cmp(&self, other: &Self) -> Ordering = self.view().cmp(&other.view());
+    }
     Clone, WString<E> {
         fn clone(&self) -> Self = self.as_wstr().into();
     }
@@ -175,8 +163,7 @@ from! {
     String => WString<E>: |text| Self::from(text.as_str());
     char => WString<E>: |character| Self::from_iter([character]);
     &WStr<E> => WString<E>: |text| {
-        let made = utf16string::WString::from_wstr(Global, text.view());
-        Self::of(allocated(made, 0, text.len()))
+        Self::made(utf16string::WString::from_wstr(Global, text.view()), text.len())
     };
     &mut WStr<E> => WString<E>: |text| Self::from(&*text);
     &WString<E> => WString<E>: |text| text.clone();
@@ -203,40 +190,18 @@ from! {
     WString<E> => String: |text| text.to_utf8();
 }
 
-/// What a string is collected from, and how an item is appended.
-macro_rules! collect {
+/// What a string is collected from, and what `+` and `+=` append.
+macro_rules! append {
     ($($Item:ty: |$to:ident, $item:ident| $push:expr;)*) => {$(
         impls! {
             Extend<$Item>, WString<E> {
-                fn extend[I: IntoIterator<Item = $Item>](&mut self, items: I) = {
-                    let $to = self;
-                    items.into_iter().for_each(|$item| $push);
-                };
+                fn extend[I: IntoIterator<Item = $Item>](&mut self, items: I) =
+                    items.into_iter().for_each(|item| *self += item);
             }
             FromIterator<$Item>, WString<E> {
-                fn from_iter[I: IntoIterator<Item = $Item>](items: I) -> Self = {
-                    let mut made = Self::new();
-                    made.extend(items);
-                    made
-                };
+                fn from_iter[I: IntoIterator<Item = $Item>](items: I) -> Self =
+                    items.into_iter().fold(Self::new(), |made, item| made + item);
             }
-        }
-    )*};
-}
-
-collect! {
-    char: |to, character| to.push(character);
-    &'a char: |to, character| to.push(*character);
-    &'a str: |to, text| *to += text;
-    String: |to, text| *to += &*text;
-    &'a WStr<E>: |to, text| to.push_wstr(text);
-    WString<E>: |to, text| to.push_wstr(&text);
-}
-
-/// What `+` and `+=` append.
-macro_rules! add {
-    ($($Item:ty: |$to:ident, $item:ident| $push:expr;)*) => {$(
-        impls! {
             AddAssign<$Item>, WString<E> {
                 fn add_assign(&mut self, $item: $Item) = { let $to = self; $push };
             }
@@ -248,11 +213,12 @@ macro_rules! add {
     )*};
 }
 
-add! {
-    &str: |to, text| {
-        let len = to.len();
-        allocated(to.text.push_str(text), len, text.len().saturating_mul(2));
-    };
-    &WStr<E>: |to, text| to.push_wstr(text);
-    &WString<E>: |to, text| to.push_wstr(text);
+append! {
+    char: |to, character| to.push(character);
+    &'a char: |to, character| to.push(*character);
+    &'a str: |to, string| to.push_str(string);
+    String: |to, string| to.push_str(&string);
+    &'a WStr<E>: |to, text| to.push_wstr(text);
+    &'a WString<E>: |to, text| to.push_wstr(text);
+    WString<E>: |to, text| to.push_wstr(&text);
 }

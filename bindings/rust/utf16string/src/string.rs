@@ -2,27 +2,26 @@ use std::fmt;
 use std::marker::PhantomData;
 use std::panic::{catch_unwind, resume_unwind, AssertUnwindSafe};
 
-use crate::error::{allocated, FromUtf16Error};
-use crate::proved::{kit::Global, utf16string};
+use crate::error::{refuse, FromUtf16Error};
+use crate::proved::kit::{AllocError, Global};
+use crate::proved::utf16string;
 use crate::{ByteOrder, Utf16Error, WStr};
 
 /// An owned UTF-16 string: a vector of bytes that are well formed in the byte order `E`. It is to
 /// [`WStr`] what [`String`] is to [`str`]. [`WStringExt`](crate::WStringExt) has more methods.
 ///
 /// It is ordered by scalar values, like [`String`].
+#[derive(Eq, Hash, Ord, PartialEq, PartialOrd)]
 pub struct WString<E: 'static + ByteOrder> {
     pub(crate) text: utf16string::WString<E>,
 }
 
 impl<E: ByteOrder> WString<E> {
-    /// Returns the bytes as a string, without testing them.
-    ///
-    /// # Safety
-    ///
-    /// The bytes are well formed in the byte order.
+    #[doc = unchecked!("UTF-16 in the byte order")]
     #[inline]
     pub unsafe fn from_utf16_unchecked(buf: Vec<u8>) -> Self {
-        Self::of(utf16string::WString::from_utf16_unchecked(buf.into()))
+        let text = utf16string::WString::from_utf16_unchecked(buf.into());
+        WString { text }
     }
 
     /// Returns the vector of bytes, mutable.
@@ -35,23 +34,34 @@ impl<E: ByteOrder> WString<E> {
         self.text.raw.as_mut_vec()
     }
 
+    /// Returns a string that the proved code made, for which there may be no memory.
+    #[inline]
+    pub(crate) fn made(made: Result<utf16string::WString<E>, AllocError>, len: usize) -> Self {
+        match made {
+            Ok(text) => WString { text },
+            Err(AllocError) => refuse(0, len),
+        }
+    }
+
+    /// Makes a proved edit, which changes nothing if there is no memory for these additional bytes.
+    #[inline(always)]
+    pub(crate) fn edit(
+        &mut self,
+        additional: usize,
+        call: impl FnOnce(&mut utf16string::WString<E>) -> Result<(), AllocError>,
+    ) {
+        if call(&mut self.text).is_err() {
+            refuse(self.len(), additional);
+        }
+    }
+
     methods! {
-        /// Returns the string of a proved one.
-        pub(crate) fn of(text: utf16string::WString<E>) -> Self = WString { text };
         /// Returns an empty string. It does not allocate.
-        pub fn new() -> Self = Self::of(utf16string::WString::new(Global));
+        pub fn new() -> Self = WString { text: utf16string::WString::new(Global) };
         /// Returns an empty string with a capacity in bytes.
-        pub fn with_capacity(capacity: usize) -> Self = {
-            let made = utf16string::WString::with_capacity(Global, capacity);
-            Self::of(allocated(made, 0, capacity))
-        };
-        /// Returns the bytes as a string, if they are well formed. The vector is dropped if they
-        /// are not; `TryFrom` returns it.
-        ///
-        /// # Errors
-        ///
-        /// The length of the longest well-formed prefix, and the length of the ill-formed sequence
-        /// after it.
+        pub fn with_capacity(capacity: usize) -> Self =
+            Self::made(utf16string::WString::with_capacity(Global, capacity), capacity);
+        /// Like [`WStr::from_utf16`]. An error drops the vector; that of `TryFrom` has it.
         pub fn from_utf16(buf: Vec<u8>) -> Result<Self, Utf16Error> =
             Self::try_from(buf).map_err(|error: FromUtf16Error| error.utf16_error());
         /// Returns the bytes.
@@ -63,10 +73,8 @@ impl<E: ByteOrder> WString<E> {
         /// Returns the capacity in bytes.
         pub fn capacity(&self) -> usize = self.text.capacity();
         /// Makes the capacity at least the length plus `additional` bytes.
-        pub fn reserve(&mut self, additional: usize) = {
-            let len = self.len();
-            allocated(self.text.reserve(additional), len, additional)
-        };
+        pub fn reserve(&mut self, additional: usize) =
+            self.edit(additional, |text| text.reserve(additional));
         /// Makes the capacity as small as the allocator allows.
         // An error only says that the allocator left more.
         pub fn shrink_to_fit(&mut self) = self.text.shrink_to_fit().unwrap_or_default();
@@ -76,31 +84,24 @@ impl<E: ByteOrder> WString<E> {
         pub fn is_empty(&self) -> bool = self.text.is_empty();
         /// Appends a character.
         #[doc = example!("a", "text.push('😀');", "a😀")]
-        pub fn push(&mut self, ch: char) = {
-            let len = self.len();
-            allocated(self.text.push(ch), len, 4)
-        };
+        pub fn push(&mut self, ch: char) = self.edit(4, |text| text.push(ch));
         /// Appends a string.
         #[doc = example!("a", "text.push_wstr(&WString::from(\"b😀\"));", "ab😀")]
-        pub fn push_wstr(&mut self, string: &WStr<E>) = {
-            let len = self.len();
-            allocated(self.text.push_wstr(string.view()), len, string.len())
-        };
+        pub fn push_wstr(&mut self, string: &WStr<E>) =
+            self.edit(string.len(), |text| text.push_wstr(string.view()));
         /// Inserts a character at an offset. It moves the bytes after it. Panics if the offset is
         /// not a character boundary.
         #[doc = example!("ab", "text.insert(2, '😀');", "a😀b")]
         pub fn insert(&mut self, idx: usize, ch: char) = {
             assert!(self.is_char_boundary(idx), "insert not on char boundary");
-            let len = self.len();
-            allocated(self.text.insert(idx, ch), len, 4)
+            self.edit(4, |text| text.insert(idx, ch))
         };
         /// Inserts a string at an offset. It moves the bytes after it. Panics if the offset is not
         /// a character boundary.
         #[doc = example!("ad", "text.insert_wstr(2, &WString::from(\"bc\"));", "abcd")]
         pub fn insert_wstr(&mut self, idx: usize, string: &WStr<E>) = {
             assert!(self.is_char_boundary(idx));
-            let len = self.len();
-            allocated(self.text.insert_wstr(idx, string.view()), len, string.len())
+            self.edit(string.len(), |text| text.insert_wstr(idx, string.view()))
         };
         /// Removes the last character and returns it, or returns `None` if the string is empty.
         #[doc = example!("a😀", "assert_eq!(text.pop(), Some('😀'));", "a")]
@@ -127,8 +128,8 @@ impl<E: ByteOrder> WString<E> {
         #[must_use = "`truncate` drops what follows"]
         pub fn split_off(&mut self, at: usize) -> WString<E> = {
             assert!(self.is_char_boundary(at), "split_off not on a char boundary");
-            let len = self.len();
-            Self::of(allocated(self.text.split_off(at), 0, len - at))
+            let len = self.len() - at;
+            Self::made(self.text.split_off(at), len)
         };
         /// Removes all characters. The capacity is unchanged.
         #[doc = example!("abc", "text.clear();", "")]

@@ -21,7 +21,7 @@ const LONG: usize = 256;
 /// ```
 ///
 /// [`WString`]: crate::WString
-#[derive(Debug)]
+#[derive(Debug, Eq, Hash, PartialEq)]
 #[repr(transparent)]
 pub struct WStr<E: 'static + ByteOrder> {
     _endian: PhantomData<&'static E>,
@@ -38,34 +38,24 @@ pub(crate) fn byte_order<E: ByteOrder>() -> dethrux::ByteOrder {
     }
 }
 
-/// Tests that the bytes are well formed.
+/// Tests that the bytes are well formed. The error is of the proved source.
 #[inline]
 pub(crate) fn validate<E: ByteOrder>(raw: &[u8]) -> Result<(), Utf16Error> {
-    if raw.len() < LONG {
+    if raw.len() < LONG || dethrux::validate(byte_order::<E>(), raw).is_err() {
         View::<E>::from_utf16(raw)?;
-    } else {
-        dethrux::validate(byte_order::<E>(), raw)?;
     }
     Ok(())
 }
 
 impl<E: ByteOrder> WStr<E> {
-    /// Returns the bytes as a string, without testing them.
-    ///
-    /// # Safety
-    ///
-    /// The bytes are well formed in the byte order.
+    #[doc = unchecked!("UTF-16 in the byte order")]
     #[inline]
     pub unsafe fn from_utf16_unchecked(raw: &[u8]) -> &Self {
         // SAFETY: a string has the layout of its bytes.
         unsafe { &*(raw as *const [u8] as *const Self) }
     }
 
-    /// Returns the bytes as a mutable string, without testing them.
-    ///
-    /// # Safety
-    ///
-    /// The bytes are well formed in the byte order.
+    #[doc = unchecked!("UTF-16 in the byte order")]
     #[inline]
     pub unsafe fn from_utf16_unchecked_mut(raw: &mut [u8]) -> &mut Self {
         // SAFETY: a string has the layout of its bytes.
@@ -152,14 +142,26 @@ impl<E: ByteOrder> WStr<E> {
         pub fn chars(&self) -> WStrChars<'_, E> = WStrChars(self.view().chars());
         /// Returns an iterator over the characters and their offsets.
         pub fn char_indices(&self) -> WStrCharIndices<'_, E> =
-            WStrCharIndices(self.view().char_indices());
+            WStrCharIndices { chars: self.chars(), index: 0 };
         /// Returns the text in UTF-8.
         pub fn to_utf8(&self) -> String = dethrux::decode_lossy(byte_order::<E>(), &self.raw);
         /// Returns whether all characters are ASCII, below U+0080.
-        pub fn is_ascii(&self) -> bool = if self.len() < LONG {
-            self.view().is_ascii()
-        } else {
-            dethrux::is_ascii(byte_order::<E>(), &self.raw)
+        pub fn is_ascii(&self) -> bool = {
+            let mut others = [0; 8];
+            E::write_u16_into(&[0xFF80; 4], &mut others);
+            let is_ascii = |four: &[u8]| {
+                let four = four.try_into().expect("four code units");
+                u64::from_ne_bytes(four) & u64::from_ne_bytes(others) == 0
+            };
+            let mut fours = self.raw.chunks_exact(8);
+            let last = fours.remainder().chunks_exact(2);
+            if !fours.next().map_or(true, is_ascii) {
+                return false;
+            }
+            if self.len() >= LONG {
+                return dethrux::is_ascii(byte_order::<E>(), &self.raw);
+            }
+            fours.all(is_ascii) && last.map(E::read_u16).all(|unit| unit < 0x80)
         };
     }
 }
