@@ -101,10 +101,10 @@ pub trait WStrExt<E: 'static + ByteOrder>: Borrow<WStr<E>> {
             };
             rest.map(WStr::of)
         };
-        /// Returns what is before a character boundary, and what follows it. Panics at no boundary.
+        /// Returns what is before a character boundary, and what follows it. Panics elsewhere.
         fn split_at(&self, mid: usize) -> Both<'_, E> =
             self.split_at_checked(mid).expect("slice index out of bounds");
-        /// Like [`split_at`](WStrExt::split_at), but returns `None` at no character boundary.
+        /// Like [`split_at`](WStrExt::split_at), but returns `None` elsewhere.
         fn split_at_checked(&self, mid: usize) -> Option<Both<'_, E>> =
             self.borrow().view().split_at_checked(mid).map(both);
         /// Returns what is before the first occurrence, and what follows it.
@@ -122,8 +122,7 @@ pub trait WStrExt<E: 'static + ByteOrder>: Borrow<WStr<E>> {
             })
         };
         /// Returns the parts between the occurrences of a text, the last one first.
-        fn rsplit[P: TextPattern<E>](&self, text: P)
-            -> impl Iterator<Item = &WStr<E>> + Clone =
+        fn rsplit[P: TextPattern<E>](&self, text: P) -> impl Iterator<Item = &WStr<E>> + Clone =
             by_text!(self, rsplit, text).map(WStr::of);
         /// Returns at most `n` parts between occurrences of a text. The last one is the rest.
         fn splitn[P: TextPattern<E>](&self, n: usize, text: P)
@@ -142,12 +141,10 @@ pub trait WStrExt<E: 'static + ByteOrder>: Borrow<WStr<E>> {
             -> impl Iterator<Item = &WStr<E>> + Clone =
             by_text!(self, split_terminator, text).map(WStr::of);
         /// Returns the occurrences of a text that do not overlap.
-        fn matches[P: TextPattern<E>](&self, text: P)
-            -> impl Iterator<Item = &WStr<E>> + Clone =
+        fn matches[P: TextPattern<E>](&self, text: P) -> impl Iterator<Item = &WStr<E>> + Clone =
             by_text!(self, matches, text).map(WStr::of);
         /// Returns the occurrences of a text that do not overlap, the last one first.
-        fn rmatches[P: TextPattern<E>](&self, text: P)
-            -> impl Iterator<Item = &WStr<E>> + Clone =
+        fn rmatches[P: TextPattern<E>](&self, text: P) -> impl Iterator<Item = &WStr<E>> + Clone =
             by_text!(self, rmatch_indices, text).map(|(_, part)| WStr::of(part));
         /// Returns what [`matches`](WStrExt::matches) returns, with offsets.
         fn match_indices[P: TextPattern<E>](&self, text: P)

@@ -19,7 +19,7 @@ impl<T, F> Search<T, F> {
     }
 }
 
-/// Says what the proved code looks for. Nobody else can name this trait, or has a `View` to call it.
+/// Says what the proved code looks for. Nobody else can name this trait, or has a `View` for it.
 pub trait SealedPattern<E: 'static + ByteOrder> {
     type Text: utf16_bytes::Pattern<E>;
     type Test: Fn(char) -> bool;

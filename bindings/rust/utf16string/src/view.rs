@@ -147,6 +147,8 @@ impl<E: ByteOrder> WStr<E> {
         pub fn to_utf8(&self) -> String = dethrux::decode_lossy(byte_order::<E>(), &self.raw);
         /// Returns whether all characters are ASCII, below U+0080.
         pub fn is_ascii(&self) -> bool = {
+            // Four code units at once, with the bits that no ASCII character has. In most text
+            // that is not ASCII the first four have one.
             let mut others = [0; 8];
             E::write_u16_into(&[0xFF80; 4], &mut others);
             let is_ascii = |four: &[u8]| {

@@ -1,7 +1,7 @@
 //! What `WStrExt` adds, compared with `str`, in both byte orders, for each pair of a text and a
 //! pattern, and each kind of pattern.
 
-use utf16string::{ByteOrder, Pattern, TextPattern, WStr, WStrExt, WString, BE, LE};
+use utf16string::{ByteOrder, TextPattern, WStr, WStrExt, WString, BE, LE};
 
 /// Two characters have the bytes of another in the middle, and two pairs share a surrogate.
 const TEXTS: [&str; 12] = [
@@ -33,109 +33,135 @@ const PATTERNS: [&str; 11] = [
     "longer than each of the texts is",
 ];
 
-/// The offset in UTF-16 of an offset in UTF-8.
-fn offset(text: &str, at_utf8: usize) -> usize {
-    2 * text[..at_utf8].encode_utf16().count()
+/// What a search of `str` or of `WStr` returns, with the offsets of `str` converted to UTF-16.
+trait Found<T: ?Sized> {
+    fn shown(self, text: &T) -> String;
 }
 
-fn utf8<E: ByteOrder>(text: &WStr<E>) -> String {
-    text.to_utf8()
+impl Found<str> for &str {
+    fn shown(self, _: &str) -> String {
+        format!("{self:?}")
+    }
 }
 
-fn utf8_of_both<E: ByteOrder>((first, second): (&WStr<E>, &WStr<E>)) -> (String, String) {
-    (first.to_utf8(), second.to_utf8())
+impl Found<str> for usize {
+    fn shown(self, text: &str) -> String {
+        format!("{:?}", 2 * text[..self].encode_utf16().count())
+    }
 }
 
-/// Compares what every pattern finds with what a pattern of std finds, by the same calls.
-macro_rules! compare {
-    ($text:ident, $string:ident, $pattern:expr, $by_std:expr) => {{
-        let at = |at: Option<usize>| at.map(|at| offset($text, at));
-        let own = |part: Option<&str>| part.map(str::to_string);
-        let both = |parts: Option<(&str, &str)>| parts.map(|(a, b)| (a.into(), b.into()));
-        let (pattern, by_std) = (|| $pattern, || $by_std);
-        let why = format!("{:?} {:?}", $text, stringify!($pattern));
-        assert_eq!($string.find(pattern()), at($text.find(by_std())), "{why}");
-        assert_eq!($string.rfind(pattern()), at($text.rfind(by_std())), "{why}");
-        assert_eq!($string.contains(pattern()), $text.contains(by_std()));
-        assert_eq!($string.starts_with(pattern()), $text.starts_with(by_std()));
-        assert_eq!($string.ends_with(pattern()), $text.ends_with(by_std()));
-        let (found, expected) = (
-            $string.strip_prefix(pattern()),
-            $text.strip_prefix(by_std()),
-        );
-        assert_eq!(found.map(utf8), own(expected), "{why}");
-        let (found, expected) = (
-            $string.strip_suffix(pattern()),
-            $text.strip_suffix(by_std()),
-        );
-        assert_eq!(found.map(utf8), own(expected), "{why}");
-        let (found, expected) = ($string.split_once(pattern()), $text.split_once(by_std()));
-        assert_eq!(found.map(utf8_of_both), both(expected), "{why}");
-        let (found, expected) = ($string.rsplit_once(pattern()), $text.rsplit_once(by_std()));
-        assert_eq!(found.map(utf8_of_both), both(expected), "{why}");
-        let found: Vec<String> = $string.split(pattern()).map(utf8).collect();
-        assert_eq!(found, $text.split(by_std()).collect::<Vec<_>>(), "{why}");
-        let (found, expected) = (
-            $string.trim_start_matches(pattern()),
-            $text.trim_start_matches(by_std()),
-        );
-        assert_eq!(found, expected, "{why}");
-        let (found, expected) = (
-            $string.trim_end_matches(pattern()),
-            $text.trim_end_matches(by_std()),
-        );
-        assert_eq!(found, expected, "{why}");
+impl<E: ByteOrder> Found<WStr<E>> for &WStr<E> {
+    fn shown(self, _: &WStr<E>) -> String {
+        format!("{:?}", self.to_utf8())
+    }
+}
+
+impl<E: ByteOrder> Found<WStr<E>> for usize {
+    fn shown(self, _: &WStr<E>) -> String {
+        format!("{self:?}")
+    }
+}
+
+impl<T: ?Sized> Found<T> for bool {
+    fn shown(self, _: &T) -> String {
+        format!("{self:?}")
+    }
+}
+
+impl<T: ?Sized, A: Found<T>, B: Found<T>> Found<T> for (A, B) {
+    fn shown(self, text: &T) -> String {
+        self.0.shown(text) + &self.1.shown(text)
+    }
+}
+
+/// Makes calls that `str` and `WStr` have, and shows what they return.
+macro_rules! called {
+    ($text:ident; $($call:ident($($argument:expr),*))*) => {
+        [$({
+            let found = $text.$call($($argument),*).into_iter().map(|it| it.shown($text));
+            format!("{} {:?}", stringify!($call), found.collect::<Vec<_>>())
+        }),*]
+    };
+}
+
+/// The calls that take each pattern.
+macro_rules! by_pattern {
+    ($text:ident, $pattern:expr) => {{
+        let is_there = [$text.contains($pattern), $text.starts_with($pattern)];
+        let parts = [
+            $text.trim_start_matches($pattern),
+            $text.trim_end_matches($pattern),
+        ];
+        let found = called! { $text;
+            find($pattern) rfind($pattern) strip_prefix($pattern) strip_suffix($pattern)
+            split_once($pattern) rsplit_once($pattern) split($pattern)
+        };
+        let ends = (is_there[0], (is_there[1], $text.ends_with($pattern))).shown($text);
+        (found, ends, (parts[0], parts[1]).shown($text))
     }};
 }
 
 /// The calls that take no closure.
-fn texts<E: 'static + ByteOrder, P: TextPattern<E> + Pattern<E> + Copy>(
+macro_rules! by_text {
+    ($text:ident, $pattern:expr, $n:expr) => {
+        called! { $text;
+            rsplit($pattern) splitn($n, $pattern) rsplitn($n, $pattern) split_inclusive($pattern)
+            split_terminator($pattern) matches($pattern) rmatches($pattern)
+            match_indices($pattern) rmatch_indices($pattern)
+        }
+    };
+}
+
+/// Compares each call on a text of std with the same call on a string.
+fn compare<E: 'static + ByteOrder>(
     text: &str,
     string: &WStr<E>,
-    pattern: P,
+    pattern: impl TextPattern<E> + Copy,
     by_std: &str,
 ) {
-    let parts: Vec<String> = string.rsplit(pattern).map(utf8).collect();
-    assert_eq!(parts, text.rsplit(by_std).collect::<Vec<_>>());
+    let found = by_pattern!(string, pattern);
+    assert_eq!(found, by_pattern!(text, by_std), "{text:?} {by_std:?}");
     for n in 0..4 {
-        let parts: Vec<String> = string.splitn(n, pattern).map(utf8).collect();
-        assert_eq!(parts, text.splitn(n, by_std).collect::<Vec<_>>());
-        let more = WString::from("\u{1F600}-");
-        let replaced = string.replacen(pattern, &more, n);
+        let found = by_text!(string, pattern, n);
+        assert_eq!(found, by_text!(text, by_std, n), "{text:?} {by_std:?}");
+        let replaced = string.replacen(pattern, &WString::from("\u{1F600}-"), n);
         assert_eq!(replaced, text.replacen(by_std, "\u{1F600}-", n));
     }
-    let found = string.match_indices(pattern);
-    let expected = text
-        .match_indices(by_std)
-        .map(|(at, part)| (offset(text, at), part));
-    assert!(found
-        .map(|(at, part)| (at, part.to_utf8()))
-        .eq(expected.map(|(at, part)| (at, part.into()))));
-    let replaced = string.replace(pattern, WString::from("ab").as_wstr());
+    let mut starts = string.rmatches(pattern).map(WStr::as_ptr);
+    for (at, _) in string.rmatch_indices(pattern) {
+        assert_eq!(starts.next(), Some(string[at..].as_ptr()));
+    }
+    let replaced = string.replace(pattern, &WString::from("ab"));
     assert_eq!(replaced, text.replace(by_std, "ab"));
 }
 
+fn compare_test<E: 'static + ByteOrder>(text: &str, string: &WStr<E>, test: fn(char) -> bool) {
+    assert_eq!(
+        by_pattern!(string, test),
+        by_pattern!(text, test),
+        "{text:?}"
+    );
+    assert_eq!(string.trim_matches(test), text.trim_matches(test));
+}
+
 fn search<E: 'static + ByteOrder>() {
-    for text in TEXTS {
-        let string = WString::<E>::from(text);
+    for (text, string) in TEXTS.map(|text| (text, WString::<E>::from(text))) {
         for pattern in PATTERNS {
             let part = WString::<E>::from(pattern);
-            compare!(text, string, pattern, pattern);
-            compare!(text, string, part.as_wstr(), pattern);
-            texts(text, &string, pattern, pattern);
-            texts(text, &string, part.as_wstr(), pattern);
+            compare(text, &string, pattern, pattern);
+            compare(text, &string, part.as_wstr(), pattern);
             let mut characters = pattern.chars();
             if let (Some(character), None) = (characters.next(), characters.next()) {
-                compare!(text, string, character, character);
-                texts(text, &string, character, pattern);
-                let (found, expected) =
-                    (string.trim_matches(character), text.trim_matches(character));
-                assert_eq!(found, expected);
+                compare(text, &string, character, pattern);
+                assert_eq!(string.trim_matches(character), text.trim_matches(character));
             }
         }
-        compare!(text, string, |c: char| c > 'a', |c: char| c > 'a');
-        compare!(text, string, char::is_whitespace, char::is_whitespace);
-        compare!(text, string, |c| c == '\u{10000}', |c| c == '\u{10000}');
+        let (mut by_text, mut by_test) = (string.split("a"), string.split(|c| c == 'a'));
+        assert_eq!(by_text.next(), by_test.next());
+        assert!(by_text.clone().eq(by_test.clone()) && by_text.eq(by_test));
+        compare_test(text, &string, |c| c > 'a');
+        compare_test(text, &string, |c| c == '\u{10000}');
+        compare_test(text, &string, char::is_whitespace);
     }
 }
 
@@ -147,22 +173,20 @@ fn each_pattern_is_found_in_each_text_as_std_finds_it() {
 
 /// Takes the items of an iterator of `str` and of one of `WStr`, from both ends in turn.
 fn same<'a, E: 'static + ByteOrder>(
-    mut found: impl DoubleEndedIterator<Item = &'a WStr<E>>,
+    mut found: impl DoubleEndedIterator<Item = &'a WStr<E>> + Clone,
     mut expected: impl DoubleEndedIterator<Item = &'a str>,
 ) {
+    assert!(found.clone().eq(found.clone()));
     while let Some(item) = expected.next() {
         assert_eq!(found.next().unwrap(), item);
-        assert_eq!(
-            found.next_back().map(utf8),
-            expected.next_back().map(str::to_string)
-        );
+        let (found, expected) = (found.next_back(), expected.next_back());
+        assert_eq!(found.map(WStr::to_utf8).as_deref(), expected);
     }
     assert!(found.next().is_none() && found.next_back().is_none());
 }
 
 fn read<E: 'static + ByteOrder>() {
-    for text in TEXTS {
-        let string = WString::<E>::from(text);
+    for (text, string) in TEXTS.map(|text| (text, WString::<E>::from(text))) {
         same(string.lines(), text.lines());
         same(string.split_whitespace(), text.split_whitespace());
         same(
@@ -174,11 +198,6 @@ fn read<E: 'static + ByteOrder>() {
         assert_eq!(string.trim_end(), text.trim_end());
         assert_eq!(string.repeat(3), text.repeat(3));
         assert_eq!(string.repeat(0), "");
-        assert_eq!(string.to_ascii_uppercase(), text.to_ascii_uppercase());
-        assert_eq!(
-            string.to_ascii_uppercase().to_ascii_lowercase(),
-            text.to_ascii_lowercase()
-        );
         assert!(string.eq_ignore_ascii_case(&string.to_ascii_uppercase()));
         assert!(!string.eq_ignore_ascii_case(&(string.clone() + "b")));
         assert_eq!(
@@ -189,24 +208,13 @@ fn read<E: 'static + ByteOrder>() {
             string.to_byte_order::<BE>().as_bytes(),
             WString::<BE>::from(text).as_bytes()
         );
-        for at in 0..string.len() + 2 {
-            let is_boundary = string.is_char_boundary(at);
-            let parts = string.split_at_checked(at);
-            assert_eq!(parts.is_some(), is_boundary);
-            if let Some((front, back)) = parts {
-                assert_eq!((front, back), (&string[..at], &string[at..]));
-                assert_eq!(string.split_at(at), (front, back));
-            }
-        }
     }
     assert_eq!(WString::<E>::from("-12").parse(), Ok(-12));
     assert!(WString::<E>::from("").parse::<u8>().is_err());
     let raw = WString::<E>::from("h\u{100}\0\u{1F600}").into_bytes();
-    assert_eq!(WStr::<E>::from_utf16_until_nul(&raw).unwrap(), "h\u{100}");
-    assert_eq!(
-        WStr::<E>::from_utf16_until_nul(&raw[..4]).unwrap(),
-        "h\u{100}"
-    );
+    for raw in [&raw[..], &raw[..4]] {
+        assert_eq!(WStr::<E>::from_utf16_until_nul(raw).unwrap(), "h\u{100}");
+    }
     assert!(WStr::<E>::from_utf16_until_nul(&raw[..3]).is_err());
 }
 
@@ -214,10 +222,4 @@ fn read<E: 'static + ByteOrder>() {
 fn a_string_is_read_as_std_reads_it() {
     read::<LE>();
     read::<BE>();
-}
-
-#[test]
-#[should_panic(expected = "slice index out of bounds")]
-fn a_string_is_not_split_inside_a_pair() {
-    WString::<BE>::from("\u{10000}").split_at(2);
 }

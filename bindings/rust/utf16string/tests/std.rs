@@ -1,117 +1,42 @@
-//! What `WString` and `WStr` implement of std, the edits of `WStringExt`, and panics.
+//! What `WString` and `WStr` implement of std.
 
 use std::borrow::Cow;
 use std::collections::{BTreeMap, HashMap};
 use std::fmt::Write;
-use std::panic::{catch_unwind, AssertUnwindSafe};
 use std::rc::Rc;
 use std::sync::Arc;
-use utf16string::{
-    BigEndian, ByteOrder, LittleEndian, Utf16Error, WStr, WString, WStringExt, BE, LE,
-};
-
-/// The message of the panic of a call.
-fn panic_message(call: impl FnOnce()) -> String {
-    let payload = catch_unwind(AssertUnwindSafe(call)).unwrap_err();
-    let text = payload.downcast_ref::<&str>().map(|text| text.to_string());
-    text.or_else(|| payload.downcast_ref::<String>().cloned())
-        .unwrap()
-}
+use utf16string::{ByteOrder, Utf16Error, WStr, WString, WStringExt, BE, LE};
 
 #[test]
-fn a_panic_says_why_a_range_is_wrong() {
-    let text = WString::<BE>::from("a\u{10000}");
-    let overflow = panic_message(|| drop(text[..=usize::MAX].to_utf8()));
-    assert_eq!(overflow, "index overflow");
-    let inside = panic_message(|| drop(text[1..].to_utf8()));
-    assert_eq!(inside, "slice index out of bounds");
-}
-
-#[test]
-fn a_capacity_that_no_vector_has_is_a_panic() {
-    let with = || drop(WString::<LE>::with_capacity(usize::MAX));
-    assert_eq!(panic_message(with), "capacity overflow");
-    let mut text = WString::<LE>::from("a");
-    let most = isize::MAX as usize;
-    assert_eq!(panic_message(|| text.reserve(most)), "capacity overflow");
-    assert!(text.try_reserve(most).is_err() && text.try_reserve_exact(most).is_err());
-    assert_eq!(text, "a");
-}
-
-#[test]
-fn a_predicate_that_panics_leaves_a_string() {
-    let long = "xy\u{10000}".repeat(40) + &"abcdefghijklmnop".repeat(40);
-    let characters: Vec<char> = long.chars().collect();
-    for last in [0, 1, 2, 16, 119, 120, 121, 140, 500, characters.len() - 1] {
-        let (mut text, mut number) = (WString::<LE>::from(&long), 0);
-        let message = panic_message(|| {
-            text.retain(|character| {
-                assert_eq!(character, characters[number]);
-                number += 1;
-                if number > last {
-                    panic!("stop at {last}");
-                }
-                number % 3 == 0
-            })
-        });
-        assert_eq!(message, format!("stop at {last}"));
-        assert_eq!(
-            number,
-            last + 1,
-            "the predicate is not called after its panic"
-        );
-        let kept = characters[..last].iter().skip(2).step_by(3);
-        let expected: String = kept.chain(&characters[last..]).collect();
-        assert_eq!(text, expected);
-    }
-}
-
-#[test]
-fn errors_have_one_message() {
-    let error = WStr::<BE>::from_utf16(b"\xDC\0").unwrap_err();
-    assert_eq!(error.to_string(), "Invalid UTF-16LE data in byte slice");
-    let error: Box<dyn std::error::Error + Send + Sync> = error.into();
-    assert_eq!(error.to_string(), "Invalid UTF-16LE data in byte slice");
-}
-
-#[test]
-fn errors_become_those_of_std() {
-    let error = WStr::<LE>::from_utf16(b"h\0\0\xDC").unwrap_err();
-    let found = std::io::Error::from(error);
-    assert_eq!(found.kind(), std::io::ErrorKind::InvalidData);
-    let inner = found
-        .get_ref()
-        .and_then(|inner| inner.downcast_ref::<Utf16Error>());
-    assert_eq!(inner, Some(&error));
-}
-
-#[test]
-fn an_error_gives_the_vector_back() {
+fn errors_have_one_message_and_become_those_of_std() {
     let bytes = b"h\0\0\xDC".to_vec();
     let (start, copy) = (bytes.as_ptr(), bytes.clone());
-    let error = WString::<LE>::try_from(bytes).unwrap_err();
-    assert_eq!(error.as_bytes(), copy);
-    assert_eq!(error.utf16_error().error_len(), Some(2));
-    assert_eq!(error.to_string(), error.utf16_error().to_string());
-    let bytes = error.into_bytes();
-    assert_eq!(bytes.as_ptr(), start);
+    let error = WStr::<LE>::from_utf16(&bytes).unwrap_err();
+    let with_vector = WString::<LE>::try_from(bytes).unwrap_err();
+    assert_eq!(with_vector.utf16_error(), error);
+    assert_eq!(with_vector.as_bytes(), copy);
+    let errors: [Box<dyn std::error::Error + Send + Sync>; 2] =
+        [error.into(), with_vector.clone().into()];
+    for error in errors {
+        assert_eq!(error.to_string(), "Invalid UTF-16LE data in byte slice");
+    }
+    let bytes = with_vector.into_bytes();
+    assert_eq!((bytes.as_ptr(), bytes), (start, copy));
+    let found = std::io::Error::from(error);
+    assert_eq!(found.kind(), std::io::ErrorKind::InvalidData);
+    let inner = found.get_ref().and_then(|it| it.downcast_ref());
+    assert_eq!(inner, Some(&error));
     assert_eq!(WString::<LE>::try_from(b"h\0".to_vec()).unwrap(), "h");
     assert_eq!(<&WStr<BE>>::try_from(&b"\0h"[..]).unwrap(), "h");
     assert!(<&WStr<BE>>::try_from(&b"\0h\0"[..]).is_err());
 }
 
 #[test]
-fn width_and_fill_are_ignored() {
-    let text = WString::<LE>::from("hi");
-    assert_eq!(format!("<{:*>9}>", text.as_wstr()), "<hi>");
-    assert_eq!(format!("<{text:*>9}>"), "<hi>");
-}
-
-#[test]
 fn strings_may_go_to_other_threads() {
     fn is_send_and_sync<T: Send + Sync + ?Sized>() {}
-    is_send_and_sync::<WStr<LittleEndian>>();
-    is_send_and_sync::<WString<BigEndian>>();
+    is_send_and_sync::<WStr<LE>>();
+    is_send_and_sync::<WString<BE>>();
+    is_send_and_sync::<Utf16Error>();
 }
 
 /// A user's trait, with names that `WStrExt` has too.
@@ -139,100 +64,80 @@ fn a_users_trait_keeps_its_methods() {
 
 fn conversions<E: 'static + ByteOrder>(utf8: &str) {
     let text: WString<E> = utf8.into();
-    let view = text.as_wstr();
-    assert_eq!(WString::<E>::from(utf8.to_string()), text);
-    assert_eq!(WString::<E>::from(view), text);
-    assert_eq!(WString::<E>::from(&text), text);
-    assert_eq!(WString::<E>::from(text.clone().as_mut_wstr()), text);
-    assert_eq!(utf8.parse::<WString<E>>().unwrap(), text);
-    assert_eq!(view.to_owned(), text);
-    assert_eq!(String::from(text.clone()), utf8);
-    assert_eq!(Vec::from(text.clone()), text.as_bytes());
+    let (view, own) = (text.as_wstr(), utf8.to_string());
+    let units: Vec<u16> = utf8.encode_utf16().collect();
     let boxed: Box<WStr<E>> = text.clone().into();
-    assert_eq!(&*boxed, view);
-    assert_eq!(Box::from(view), boxed);
-    assert_eq!(WString::from(boxed.clone()), text);
-    assert_eq!(&*Rc::<WStr<E>>::from(view), view);
-    assert_eq!(&*Rc::<WStr<E>>::from(text.clone()), view);
-    assert_eq!(&*Arc::<WStr<E>>::from(view), view);
-    assert_eq!(&*Arc::<WStr<E>>::from(text.clone()), view);
+    let shared: [Rc<WStr<E>>; 2] = [view.into(), text.clone().into()];
+    let atomic: [Arc<WStr<E>>; 2] = [view.into(), text.clone().into()];
     let cows: [Cow<WStr<E>>; 3] = [view.into(), (&text).into(), text.clone().into()];
     assert!(matches!(
         cows,
         [Cow::Borrowed(_), Cow::Borrowed(_), Cow::Owned(_)]
     ));
-    for cow in cows {
-        assert_eq!(cow.to_string(), utf8);
-        assert_eq!(WString::from(cow), text);
+    assert_eq!(Box::from(view), boxed);
+    for found in [
+        &*boxed,
+        &*shared[0],
+        &*shared[1],
+        &*atomic[0],
+        &*atomic[1],
+        text.as_ref(),
+    ] {
+        assert_eq!(found, view);
     }
-    let bytes: &[u8] = text.as_ref();
-    assert_eq!(bytes, AsRef::<WStr<E>>::as_ref(&text).as_bytes());
-    assert_eq!(text.is_ascii(), utf8.is_ascii());
+    for found in [
+        WString::from_units(&units).unwrap(),
+        own.clone().into(),
+        (&own).into(),
+        own.clone().as_mut_str().into(),
+        utf8.parse().unwrap(),
+        view.into(),
+        (&text).into(),
+        text.clone().as_mut_wstr().into(),
+        view.to_owned(),
+        boxed.clone().into(),
+        boxed.into(),
+        utf8.chars().collect(),
+        WString::from_iter(&utf8.chars().collect::<Vec<_>>()),
+    ]
+    .into_iter()
+    .chain(cows.into_iter().map(WString::from))
+    {
+        assert_eq!(found, text);
+    }
     assert_eq!(text.chars().count(), utf8.chars().count());
-    let odd = [text.as_bytes(), b"\0"].concat();
-    let error = WStr::<E>::from_utf16(&odd).unwrap_err();
-    assert_eq!((error.valid_up_to(), error.error_len()), (text.len(), None));
-    let (own, other) = (utf8.to_string(), utf8.to_string() + "a");
-    let with_text = [
-        text == *utf8,
-        text == utf8,
-        text == own,
-        text == *view,
-        text == view,
-    ];
-    let of_text = [
-        *utf8 == text,
-        utf8 == text,
-        own == text,
-        *view == text,
-        view == text,
-    ];
-    let with_view = [
-        view == utf8,
-        *view == *utf8,
-        *view == own,
-        view == own,
-        own == view,
-    ];
-    assert_eq!([with_text, of_text, with_view], [[true; 5]; 3]);
-    let others = [
-        text == *other,
-        text == other,
-        other == text,
-        *view == other,
-        *view == *other,
-    ];
-    assert_eq!(others, [false; 5]);
-    let characters: WString<E> = utf8.chars().collect();
-    assert_eq!(characters, text);
-    assert_eq!(
-        WString::<E>::from_iter(&utf8.chars().collect::<Vec<_>>()),
-        text
-    );
+    let bytes: [&[u8]; 2] = [text.as_ref(), view.as_ref()];
+    assert_eq!(bytes, [&*Vec::from(text.clone()); 2]);
+    assert_eq!(String::from(text.clone()), utf8);
+    // Width and fill are ignored.
+    assert_eq!(format!("{text:*>99}{view:*>99}"), [utf8, utf8].concat());
+    let other = own.clone() + "a";
+    for (utf8, own, is_equal) in [(utf8, own.clone(), true), (&*other, other.clone(), false)] {
+        assert_eq!([text == *utf8, text == utf8, text == own], [is_equal; 3]);
+        assert_eq!([*utf8 == text, utf8 == text, own == text], [is_equal; 3]);
+        assert_eq!([*view == *utf8, *view == own, view == own], [is_equal; 3]);
+        assert_eq!([*utf8 == *view, own == *view, own == view], [is_equal; 3]);
+        let string = WString::<E>::from(utf8);
+        assert_eq!([string == *view, string == view], [is_equal; 2]);
+        assert_eq!([*view == string, view == string], [is_equal; 2]);
+    }
     let twice = [utf8, utf8].concat();
-    assert_eq!(WString::<E>::from_iter([utf8, utf8]), twice);
-    assert_eq!(WString::<E>::from_iter([own.clone(), own]), twice);
-    assert_eq!([view, view].into_iter().collect::<WString<E>>(), twice);
-    assert_eq!(WString::<E>::from_iter([text.clone(), text.clone()]), twice);
-    assert_eq!(text.clone() + utf8, twice);
-    assert_eq!(text.clone() + view, twice);
-    assert_eq!(text.clone() + &text, twice);
+    for found in [
+        WString::<E>::from_iter([utf8, utf8]),
+        WString::from_iter([own.clone(), own]),
+        [view, view].into_iter().collect(),
+        WString::from_iter([text.clone(), text.clone()]),
+        WString::from_iter([&text, &text]),
+        text.clone() + utf8,
+        text.clone() + view,
+        text.clone() + &text,
+    ] {
+        assert_eq!(found, twice);
+    }
     let mut written = WString::<E>::from('>');
     write!(written, "{text}{:?}", 'a').unwrap();
     written.write_char('\u{10400}').unwrap();
     assert_eq!(written, format!(">{utf8}'a'\u{10400}"));
-    let mut added = WString::<E>::new();
-    added += utf8;
-    added += view;
-    assert_eq!(added, twice);
-    let mut rest = text.chars();
-    rest.next();
-    assert!(rest.clone().eq(rest.clone()));
-    assert_eq!(rest.clone().count(), rest.count());
-    let mut rest = text.char_indices();
-    rest.next();
-    rest.next_back();
-    assert!(rest.clone().rev().eq(rest.rev()));
 }
 
 #[test]
@@ -255,90 +160,6 @@ fn maps_are_searched_by_views() {
     let view = WStr::from_utf16be(b"\xD8\x3D\xDE\0").unwrap();
     assert_eq!((hashed.get(view), sorted.get(view)), (Some(&1), Some(&1)));
     assert_eq!(hashed.get(&view[..0]), None);
-}
-
-/// Makes each edit at each pair of boundaries, and the same edit of a `String`.
-fn edit<E: 'static + ByteOrder>(utf8: &str) {
-    let ends: Vec<usize> = (0..=utf8.len())
-        .filter(|at| utf8.is_char_boundary(*at))
-        .collect();
-    let offset = |at: usize| 2 * utf8[..at].encode_utf16().count();
-    let more = "b\u{10400}\u{4E00}";
-    for (start, end) in ends
-        .iter()
-        .flat_map(|end| ends.iter().map(move |start| (*start, *end)))
-    {
-        let (from, to) = (offset(start), offset(end));
-        let (mut text, mut expected) = (WString::<E>::from(utf8), utf8.to_string());
-        if start > end {
-            let drained = panic_message(|| drop(text.drain(from..to)));
-            assert_eq!(drained, "slice index out of bounds");
-            let replaced = panic_message(|| text.replace_range(from..to, &WString::from("a")));
-            assert_eq!(replaced, "slice index out of bounds");
-        } else {
-            assert_eq!(
-                text.drain(from..to),
-                expected.drain(start..end).collect::<String>()
-            );
-        }
-        assert_eq!(text, expected);
-        for more in ["", "x", more] {
-            let (mut text, mut expected) = (WString::<E>::from(utf8), utf8.to_string());
-            text.insert_str(from, more);
-            text.push_str(more);
-            expected.insert_str(start, more);
-            expected.push_str(more);
-            assert_eq!(text, expected);
-            if start <= end {
-                let (mut text, mut expected) = (WString::<E>::from(utf8), utf8.to_string());
-                text.replace_range(from..to, &WString::from(more));
-                expected.replace_range(start..end, more);
-                assert_eq!(text, expected);
-            }
-        }
-        text.make_ascii_uppercase();
-        assert_eq!(text, expected.to_ascii_uppercase());
-        text.make_ascii_lowercase();
-        assert_eq!(text, expected.to_ascii_lowercase());
-    }
-}
-
-#[test]
-fn edits_are_those_of_a_string() {
-    for text in [
-        "",
-        "a",
-        "\u{10000}",
-        "aZ\u{C4}\u{1F600}z",
-        "\u{4E00}\u{10000}\u{10001}",
-    ] {
-        edit::<LE>(text);
-        edit::<BE>(text);
-    }
-    let mut text = WString::<LE>::from("\u{10000}");
-    let message = panic_message(|| text.insert_str(2, "a"));
-    assert_eq!(message, "insert not on char boundary");
-    assert_eq!(
-        panic_message(|| drop(text.drain(..2))),
-        "slice index out of bounds"
-    );
-    assert_eq!(
-        panic_message(|| drop(text.drain(..=usize::MAX))),
-        "index overflow"
-    );
-    assert_eq!(text, "\u{10000}");
-    text.reserve(50);
-    text.shrink_to(20);
-    assert!((20..54).contains(&text.capacity()));
-}
-
-#[test]
-fn code_units_are_read() {
-    let units = [0x61, 0xD83D, 0xDE00];
-    assert_eq!(WString::<LE>::from_units(&units).unwrap(), "a\u{1F600}");
-    assert_eq!(WString::<BE>::from_units(&units).unwrap(), "a\u{1F600}");
-    let error = WString::<BE>::from_units(&units[..2]).unwrap_err();
-    assert_eq!((error.valid_up_to(), error.error_len()), (2, None));
 }
 
 #[cfg(feature = "serde")]
