@@ -312,6 +312,19 @@ fn strict_adapters_stop_in_a_long_stream() {
 }
 
 #[test]
+fn a_strict_reader_takes_what_comes_after_an_end() {
+    let steps = Steps::new([Ok(&b"\0h\0"[..]), Ok(b""), Ok(b"i")]);
+    let (mut reader, mut text) = (Reader::strict(steps, BigEndian), String::new());
+    let error = reader.read_to_string(&mut text).unwrap_err();
+    assert_eq!(fields(&error), (2, None));
+    reader.read_to_string(&mut text).unwrap();
+    assert_eq!(
+        (&text[..], reader.skip_error(), reader.position()),
+        ("hi", 0, 4)
+    );
+}
+
+#[test]
 fn the_device_of_an_adapter_can_be_used() {
     let mut reader = Reader::new(&b"\0a\0b"[..], Decoder::new(BigEndian));
     assert_eq!(reader.read(&mut []).unwrap(), 0);
