@@ -749,8 +749,8 @@ DETHRUX_NODISCARD dethrux_progress dethrux_wtf8_decoder_finish(
  * Converts WTF-8 to UTF-16, up to the first ill-formed sequence, of 1 to 3 bytes.
  *
  * Each surrogate becomes one code unit. A trailing surrogate directly after a leading one is an
- * ill-formed sequence of 3 bytes: in WTF-8 a pair has the 4 bytes of its character. So do not append
- * one text of WTF-8 to another: convert both to UTF-16 first.
+ * ill-formed sequence of 3 bytes: in WTF-8 a pair has the 4 bytes of its character. So do not
+ * append one text of WTF-8 to another: convert both to UTF-16 first.
  *
  * @param capacity DETHRUX_UTF16_MAX(len) suffices; a loop needs 4
  * @return how far the call came, with one of these statuses:
@@ -777,8 +777,8 @@ DETHRUX_NODISCARD size_t dethrux_from_wtf8_len(const void *wtf8, size_t len);
 /**
  * Converts the next chunk of a stream of WTF-8, cut anywhere, to UTF-16.
  *
- * This is like dethrux_from_wtf8, but at the end it does not read a leading surrogate, the beginning
- * of a character or surrogate, or one and then the other.
+ * This is like dethrux_from_wtf8, but at the end it does not read a leading surrogate, the
+ * beginning of a character or surrogate, or one and then the other.
  *
  * @param capacity DETHRUX_UTF16_MAX(len) suffices; a loop needs 4
  * @return how far the call came, with one of these statuses:
