@@ -2,8 +2,7 @@
 
 // The crates are libraries, of which the calls use a part, and some of what they have is only for
 // proofs. Their style is theirs.
-#![allow(dead_code, unreachable_pub, unused_imports, unused_variables)]
-#![allow(missing_docs, missing_debug_implementations, unused_unsafe)]
+#![allow(missing_docs, missing_debug_implementations, unreachable_pub, unused)]
 #![allow(clippy::all, rustdoc::all)]
 #![warn(clippy::incompatible_msrv)]
 
