@@ -155,7 +155,7 @@ makes_same_release() {
     "$top/packaging/release.sh" "$room/first" && sleep 1 &&
         "$top/packaging/release.sh" "$room/second" && diff -r "$room/first" "$room/second" &&
         diff <(printf '%s\n' SHA256SUMS "dethrux-$version"{,-{dist,{x86_64,aarch64}-linux-gnu}}.tar.gz \
-            "dethrux-$version"{.crate,.tgz,-x86_64-windows.zip} \
+            "dethrux-$version"{.tgz,-x86_64-windows.zip} dethrux{,-utf16string}-"$version.crate" \
             {dethrux-{iconv,tools},libdethrux{-dev,0.2}}"_${version}_"{amd,arm}64.deb | sort) \
             <(cd "$room/first" && printf '%s\n' * | grep -v "^dethrux-$version-.*\.whl$" | sort) &&
         (cd "$room/first" && sha256sum -c SHA256SUMS)
