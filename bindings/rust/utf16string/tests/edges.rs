@@ -390,7 +390,7 @@ fn edit<E: 'static + ByteOrder>(text: &str) {
     });
 }
 
-/// Makes the edits at an offset that is no boundary, or no start of a character.
+/// Makes the edits at an offset that is not a boundary, or not the start of a character.
 fn wrong_edits<E: 'static + ByteOrder>(text: &str, at: usize) {
     type Edit<E> = fn(&mut WString<E>, usize);
     let (len, is_boundary) = (2 * text.encode_utf16().count(), is_boundary(text, at));
