@@ -3,7 +3,7 @@
 ghost use Rattle.std.specs.Prelude.{◌≡◌, ◌≢◌, ◌↔◌, ◌+◌, ◌-◌, ◌*◌, ◌/◌, ◌<◌, ◌≤◌, [], ◌++◌, All, drop, length, take, encode_utf8_all};
 ghost use Rattle.std.specs.Char.{encode_utf8};
 ghost use Rattle.utf16_units.specs.Split.{decided_text, whole_lossy_chars};
-ghost use Rattle.utf16_transcode.specs.Stream.{Feeds, stream_pending, StopsFeeding};
+ghost use Rattle.utf16_transcode.specs.Stream.{Feeds, IsNewStream, StopsFeeding, stream_pending};
 ghost use Rattle.utf16_transcode.specs.declared.progress.Stop.TheVariants.{Done, NoSpace};
 ghost use Rattle.utf16_transcode.specs.Decodes.{utf16_split};
 ghost use Rattle.dethrux.specs.Numbers.{AreNumbers, is_big, stop_of};
@@ -57,6 +57,7 @@ pub extern "C" fn dethrux_decoder_finish(
     ensures within { result.written ≤ length to.new }
     ensures rest { drop result.written to.new ≡ drop result.written to.old }
     ensures pending { stop_of result ≡ Done → stream_pending decoder.new ≡ [] }
+    ensures fresh { stop_of result ≡ Done → IsNewStream decoder.new }
     ensures no_space { stop_of result ≢ Done → (stop_of result ≡ NoSpace) × (result.written ≡ 0) }
     ensures unchanged { stop_of result ≢ Done → (decoder.new ≡ decoder.old) × (to.new ≡ to.old) }
     ensures numbers { AreNumbers result.status result.error_len }

@@ -3,7 +3,7 @@
 ghost use Rattle.std.specs.Prelude.{◌≡◌, ◌≢◌, ◌↔◌, ◌+◌, ◌-◌, ◌*◌, ◌<◌, ◌≤◌, [], ◌++◌, drop, length, take};
 ghost use Rattle.utf16_units.specs.Encoding.{encode, size, char_bytes};
 ghost use Rattle.utf8_bytes.specs.Split.{IsTail, decided_text, whole_lossy_chars};
-ghost use Rattle.utf16_transcode.specs.Stream.{stream_pending, StopsFeeding};
+ghost use Rattle.utf16_transcode.specs.Stream.{IsNewStream, StopsFeeding, stream_pending};
 ghost use Rattle.utf16_transcode.specs.Utf8Stream.{FeedsUtf8, utf8_split};
 ghost use Rattle.utf16_transcode.specs.declared.progress.Stop.TheVariants.{Done, NoSpace};
 ghost use Rattle.dethrux.specs.Numbers.{AreNumbers, is_big, stop_of};
@@ -61,6 +61,7 @@ pub extern "C" fn dethrux_encoder_finish(
     ensures within { result.written ≤ length to.new }
     ensures rest { drop result.written to.new ≡ drop result.written to.old }
     ensures pending { stop_of result ≡ Done → stream_pending encoder.new ≡ [] }
+    ensures fresh { stop_of result ≡ Done → IsNewStream encoder.new }
     ensures no_space { stop_of result ≢ Done → (stop_of result ≡ NoSpace) × (result.written ≡ 0) }
     ensures unchanged { stop_of result ≢ Done → (encoder.new ≡ encoder.old) × (to.new ≡ to.old) }
     ensures numbers { AreNumbers result.status result.error_len }

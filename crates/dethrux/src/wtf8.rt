@@ -4,7 +4,7 @@ ghost use Rattle.std.specs.Prelude.{◌≡◌, ◌≢◌, ◌↔◌, ◌+◌, �
 ghost use Rattle.std.specs.List.{flat_map};
 ghost use Rattle.utf16_transcode.specs.StreamSplit.{decided};
 ghost use Rattle.utf16_transcode.specs.WholeText.{WritesWhole};
-ghost use Rattle.utf16_transcode.specs.Stream.{FeedsAs, StopsFeeding, stream_pending};
+ghost use Rattle.utf16_transcode.specs.Stream.{FeedsAs, IsNewStream, StopsFeeding, stream_pending};
 ghost use Rattle.utf16_transcode.specs.Transcoded.{Writes};
 ghost use Rattle.utf16_transcode.specs.declared.progress.Stop.TheVariants.{Done, Incomplete, NoSpace};
 ghost use Rattle.utf16_transcode.specs.Stops.{StopsPartial};
@@ -118,6 +118,7 @@ pub extern "C" fn dethrux_wtf8_decoder_finish(
     ensures within { result.written ≤ length to.new }
     ensures rest { drop result.written to.new ≡ drop result.written to.old }
     ensures pending { stop_of result ≢ NoSpace → stream_pending decoder.new ≡ [] }
+    ensures fresh { stop_of result ≢ NoSpace → IsNewStream decoder.new }
     ensures unchanged { stop_of result ≡ NoSpace
         → (result.written ≡ 0) × (decoder.new ≡ decoder.old) × (to.new ≡ to.old) }
     ensures numbers { AreNumbers result.status result.error_len }

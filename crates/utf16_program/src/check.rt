@@ -1,11 +1,12 @@
 //! The check of what a reader has, reported to a writer.
 
-ghost use Rattle.std.specs.Prelude.{◌≡◌, ◌+◌, ◌-◌, ◌<◌, ◌≤◌, ◌^◌, All, IfErr, IfOk, OnOk, drop, length, take};
+ghost use Rattle.std.specs.Prelude.{◌≡◌, ◌+◌, ◌-◌, ◌<◌, ◌≤◌, ◌^◌, All, IfErr, IfOk, OnOk, drop, length, take, vec_capacity};
 ghost use Rattle.std.specs.Io.KnownBytes.{Appends, ReadConsumes};
 ghost use Rattle.utf16_streams.specs.Watched.{Counts, CountsFaults, watched_faults, watched_inner};
 ghost use Rattle.utf16_program.specs.Status.{reads_failed, writes_failed};
 ghost use Rattle.utf16_program.specs.Checker.{IsPending, Takes, checker_ill_formed, checker_lines, checker_offset, checker_report};
 ghost use Rattle.utf16_program.specs.Checks.{ChecksBy, EndsBy, FailsBy};
+ghost use Rattle.utf16_program.specs.declared.outcome.Outcome.TheVariants.{Memory};
 
 use crate::checker::Checker;
 use crate::outcome::Outcome;
@@ -100,6 +101,8 @@ fn check_block<W: Write, A: Allocator>(
         (W.contents (watched_inner writer.new)) (checker_lines checker.old block.now)) }
     ensures fails { IfErr result (FailsBy (W.contents (watched_inner writer.old))
         (W.contents (watched_inner writer.new)) (checker_lines checker.old block.now)) }
+    ensures full { IfErr result (λ outcome. outcome ≡ Memory
+        → vec_capacity lines.old < length (checker_lines checker.old block.now)) }
     ensures succeeds { OnOk result (watched_faults writer.new ≡ watched_faults writer.old) }
     ensures writes { IfErr result (λ outcome.
         Counts writer.old writer.new (writes_failed outcome)) }
@@ -126,6 +129,8 @@ fn end<W: Write, A: Allocator>(
     ensures ends { EndsBy (W.contents (watched_inner writer.old))
         (W.contents (watched_inner writer.new)) (checker_report checker pending.now)
         (checker_ill_formed checker pending.now) result }
+    ensures full { result ≡ Memory
+        → vec_capacity lines < length (checker_report checker pending.now) }
     ensures writes { Counts writer.old writer.new (writes_failed result) }
 {
     let mut lines = lines;

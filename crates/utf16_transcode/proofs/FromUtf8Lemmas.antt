@@ -1,8 +1,9 @@
 -- From UTF-8 to UTF-16: texts one after another, characters, and the place of an error.
-use Rattle.std.proofs.Common.{◌≡◌, ℕ, ◌+◌, ◌-◌, ◌*◌, ◌<◌, ◌≤◌, Bool, true, List, [], ◌∷◌, ◌++◌, Option, drop_at, length, take, drop, encode_utf8_all, refl, sym, ap, ap₂, ◌∙◌, subst, arith, append-nil, append_assoc, length-append, length-drop, length-take, take_at, take-add, take-append-drop, slice_index}
+use Rattle.std.proofs.Common.{◌≡◌, ℕ, ◌+◌, ◌-◌, ◌*◌, ◌<◌, ◌≤◌, Bool, true, List, [], ◌∷◌, ◌++◌, Option, drop_at, length, take, drop, encode_utf8_all, refl, sym, ap, ap₂, ◌∙◌, subst, arith, append-nil, append_assoc, length-append, length-drop, length-take, length-take-le, ⊎_elim, take_at, take-add, take-append-drop, take-take, slice_index}
+use Rattle.std.proofs.lemmas.Bool.{cases_lt}
 use Rattle.std.proofs.lemmas.List.{take_more, take_rest}
 use Rattle.std.proofs.lemmas.List.Elements.{All-cons, All-head, All-nil}
-use Rattle.std.proofs.lemmas.Str.{IsCharBoundary-from_take, IsUtf8-append, IsUtf8-drop, IsUtf8-encode, IsUtf8-nil, chars-append, chars-nil, chars-encodes}
+use Rattle.std.proofs.lemmas.Str.{IsCharBoundary-from_take, IsUtf8-append, IsUtf8-drop, IsUtf8-encode, IsUtf8-nil, chars-append, chars-nil, chars-encodes, len_utf8_bounds, length-encode}
 use Rattle.std.specs.Char.{IsScalar, encode_utf8}
 use Rattle.std.specs.Str.{IsUtf8, IsValidUpTo, StartsWithNoChar, all_scalars, chars}
 use Rattle.utf16_units.specs.Encoding.{char_bytes, encode}
@@ -104,3 +105,55 @@ valid_more text valid n first second =
 -- what a writer of blocks wrote
 pub wrote_blocks : {big : Bool} {utf8 to : List ℕ} {n w : ℕ} → IsWritten big utf8 to n w → Writes (TranscodesToUtf16 big) utf8 to n w
 wrote_blocks wrote = record { within = wrote.within; fits = wrote.fits; gives = (wrote.well_formed, wrote.wrote) }
+
+-- the length of the first character of a text
+record FirstLen (bytes : List ℕ) : Type 0 where
+  n : ℕ
+  some : 0 < n
+  few : n ≤ 4
+  within : n ≤ length bytes
+  text : IsUtf8 (take n bytes)
+
+first_len : (bytes : List ℕ) → IsUtf8 bytes → 0 < length bytes → FirstLen bytes
+first_len bytes text some =
+    let begins = text_begins bytes text some in
+    let front = encode_utf8 begins.0 in
+    let bounds = len_utf8_bounds begins.0 in
+    let size = length-encode begins.0 in
+    record {
+      n = length front;
+      some = omega arith;
+      few = omega arith;
+      within = omega (arith, ap length begins.3, length-append front begins.1);
+      text = subst IsUtf8 (sym (ap (take (length front)) begins.3 ∙ take_at front begins.1 (length front) refl)) (IsUtf8-encode begins.0 begins.2);
+    }
+
+module _ (bytes : List ℕ) (len n : ℕ) (front : IsUtf8 (take len bytes)) (most : n ≤ length bytes) (text : IsUtf8 (take n bytes)) where
+  behind : len ≤ n → IsUtf8 (take (n - len) (drop len bytes))
+  behind past = text_behind bytes len n past (omega arith) front text
+
+  -- the longest valid prefix of a part that ends four bytes later at least is the longest of all bytes
+  pub longest_by_part : (part : ℕ) → ((m : ℕ) → m ≤ length (take part bytes) → IsUtf8 (take m (take part bytes)) → m ≤ len) → len + 4 ≤ part → part ≤ length bytes → n ≤ len
+  longest_by_part part longest near within = ⊎_elim
+      (λ (past : len < n).
+      let rest = take (n - len) (drop len bytes) in
+      let size : length rest ≡ n - len = length-take-le (n - len) (drop len bytes) (omega (arith, length-drop len bytes)) in
+      let first = first_len rest (behind (omega arith)) (omega arith) in
+      let few = first.few in
+      let some = first.some in
+      let inside = first.within in
+      let char = subst IsUtf8 (take-take first.n (n - len) (drop len bytes) (omega arith)) first.text in
+      let more = subst IsUtf8 (sym (take-add len first.n bytes)) (IsUtf8-append (take len bytes) (take first.n (drop len bytes)) front char) in
+      let same = take-take (len + first.n) part bytes (omega arith) in
+      absurd (omega (arith, longest (len + first.n) (omega (arith, length-take-le part bytes within)) (subst IsUtf8 (sym same) more))))
+      (λ (up : n ≤ len). up)
+      (cases_lt len n)
+
+  -- the longest valid prefix after a valid one
+  pub longest_more : (m : ℕ) → ((k : ℕ) → k ≤ length (rest_from bytes len) → IsUtf8 (take k (rest_from bytes len)) → k ≤ m) → n ≤ len + m
+  longest_more m longest = ⊎_elim
+      (λ (past : len < n).
+      let same = take_rest bytes len in
+      omega (arith, longest (n - len) (omega (arith, ap length same, length-drop len bytes)) (subst (λ r. IsUtf8 (take (n - len) r)) (sym same) (behind (omega arith)))))
+      (λ (up : n ≤ len). omega arith)
+      (cases_lt len n)

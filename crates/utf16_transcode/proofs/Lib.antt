@@ -11,8 +11,10 @@ pub mod MendLemmas
 pub mod CountLemmas
 pub mod CountUtf8Lemmas
 pub mod CountChunks
+pub mod MarkLemmas
 pub mod DecodePrefixLemmas
 pub mod StreamSteps
+pub mod FrontLemmas
 pub mod ToUtf8Lemmas
 pub mod AsciiLemmas
 pub mod LastLemmas

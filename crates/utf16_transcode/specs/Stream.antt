@@ -1,5 +1,5 @@
 -- A stream that comes in chunks: what is pending between them, and what a chunk adds.
-use Rattle.std.specs.Prelude.{◌≡◌, ℕ, ◌≤◌, ◌⊎◌, Bool, List, [], ◌++◌, length, take, drop}
+use Rattle.std.specs.Prelude.{◌≡◌, ℕ, ◌≤◌, ◌⊎◌, Bool, List, [], ◌∷◌, ◌++◌, length, take, drop}
 use Rattle.std.specs.Char.{encode_utf8}
 use Rattle.utf16_transcode.specs.Decodes.{DecodesAs, utf16_split}
 use Rattle.utf16_transcode.specs.StreamSplit.{StreamSplit, decided}
@@ -11,6 +11,10 @@ use Rattle.utf16_transcode.specs.declared.stream.Stream.{Stream}
 -- `stream.pending()`
 abbrev pub stream_pending : Stream → List ℕ
 stream_pending stream = take stream.len stream.bytes
+
+-- a stream at its beginning: all of its fields are zero
+abbrev pub IsNewStream : Stream → Type 0
+IsNewStream stream = (stream.bytes ≡ 0 ∷ 0 ∷ 0 ∷ []) × (stream.len ≡ 0)
 
 -- the first bytes of a chunk were taken: some of the pending bytes and the chunk are decoded, and
 -- what is shown for them is at the start of the buffer; the rest is the bytes that are pending

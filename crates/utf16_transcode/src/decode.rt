@@ -5,7 +5,7 @@
 //! texts, and those that may not fit, take the steps of long texts. `strategy.rt` of `utf16_units`
 //! says which texts are short.
 
-ghost use Rattle.std.specs.Prelude.{All, ◌≡◌, ◌≢◌, ◌+◌, ◌-◌, ◌*◌, ◌/◌, ◌<◌, ◌≤◌, ◌++◌, IfSome, None, length, slice_index, take};
+ghost use Rattle.std.specs.Prelude.{All, ◌≡◌, ◌≢◌, ◌+◌, ◌-◌, ◌*◌, ◌/◌, ◌<◌, ◌≤◌, ◌++◌, ℕ, IfSome, None, length, slice_index, take};
 ghost use Rattle.std.specs.Char.{encode_utf8, len_utf8};
 ghost use Rattle.utf16_units.specs.Encoding.{char_bytes, IsUtf16, units_of, utf8_of};
 ghost use Rattle.utf16_units.specs.IllFormed.{IsIllFormedAt};
@@ -136,7 +136,8 @@ fn write_ascii_start<E: Utf16Order>(raw: &[u8], to: &mut [u8]) -> Moved
 #[inline(always)]
 fn write_ascii_from<E: Utf16Order>(raw: &[u8], to: &mut [u8], from: Moved) -> Moved
     requires { Writes (TranscodesToUtf8 E.BIG) raw.now to.old from.read from.written }
-    ensures { Writes (TranscodesToUtf8 E.BIG) raw.now to.new result.read result.written }
+    ensures wrote { Writes (TranscodesToUtf8 E.BIG) raw.now to.new result.read result.written }
+    ensures more { from.read ≤ result.read }
 {
     // The code units that fit if they are ASCII.
     let units = ((raw.len() - from.read) / 2).min(to.len() - from.written);
@@ -167,7 +168,8 @@ fn write_last_ascii<E: Utf16Order>(raw: &[u8], to: &mut [u8], from: Moved, end: 
     requires within { end.read ≤ length raw.now }
     requires space { end.written ≤ length to.old }
     requires ascii { end.read + 2 * from.written ≡ from.read + 2 * end.written }
-    ensures { Writes (TranscodesToUtf8 E.BIG) raw.now to.new result.read result.written }
+    ensures wrote { Writes (TranscodesToUtf8 E.BIG) raw.now to.new result.read result.written }
+    ensures more { from.read ≤ result.read }
 {
     if end.read <= from.read || end.read < 16 {
         return from;
@@ -274,6 +276,8 @@ fn plain_first_char<E: Utf16Order>(rest: &[u8]) -> char
 pub(crate) fn valid_up_to<E: Utf16Order>(bytes: &[u8]) -> usize
     ensures within { result ≤ length bytes.now }
     ensures valid { IsUtf16 E.BIG (take result bytes.now) }
+    ensures longest { (n : ℕ) → n ≤ length bytes.now → IsUtf16 E.BIG (take n bytes.now)
+        → n ≤ result }
 {
     match validate_raw_utf16::<E>(bytes) {
         Ok(()) => bytes.len(),

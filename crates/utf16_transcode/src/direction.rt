@@ -42,11 +42,13 @@ pub trait Direction {
     // The number of bytes of space that `write` needs for this many bytes of input.
     ghost room_for: { ℕ → ℕ };
 
-    /// Returns the length in bytes of a valid prefix: the bytes before the first ill-formed
-    /// sequence.
+    /// Returns the length in bytes of the longest valid prefix: the bytes before the first
+    /// ill-formed sequence.
     fn valid_len(bytes: &[u8]) -> usize
         ensures within { result ≤ length bytes.now }
-        ensures valid { IsValid (take result bytes.now) };
+        ensures valid { IsValid (take result bytes.now) }
+        ensures longest { (n : ℕ) → n ≤ length bytes.now → IsValid (take n bytes.now)
+            → n ≤ result };
 
     /// Returns the first character and its length in bytes, or the `error_len` of the bytes if they
     /// do not begin with a character.
@@ -118,9 +120,13 @@ pub trait Direction {
         ensures len { result ≡ length (other text.now) };
 
     /// Writes a valid prefix, which may be empty, in the second encoding to the start of a buffer,
-    /// as far as it fits, and validates it at the same time.
+    /// as far as it fits, and validates it at the same time. If all of the bytes are valid and
+    /// surely fit, it leaves fewer than 66 of them.
     fn write_front(rest: &[u8], to: &mut [u8]) -> Moved
-        ensures { Writes (SameText IsValid other) rest.now to.new result.read result.written };
+        ensures wrote { Writes (SameText IsValid other) rest.now to.new result.read
+            result.written }
+        ensures most { IsValid rest.now → room_for (length rest.now) ≤ length to.old
+            → length rest.now < result.read + 66 };
 
     /// States what proofs need, and does nothing. Fewer bytes need no more space, and a block fits
     /// in the buffer on the stack. A character takes at most four bytes. Two texts together are a

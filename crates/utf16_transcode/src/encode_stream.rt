@@ -4,7 +4,7 @@ ghost use Rattle.std.specs.Prelude.{◌≡◌, ◌≢◌, ◌↔◌, ◌+◌, �
 ghost use Rattle.utf16_units.specs.Encoding.{encode, size, char_bytes};
 ghost use Rattle.utf8_bytes.specs.Split.{IsTail, decided_text, whole_lossy_chars};
 ghost use Rattle.utf16_transcode.specs.Utf8Stream.{FeedsUtf8, utf8_split};
-ghost use Rattle.utf16_transcode.specs.Stream.{stream_pending, StopsFeeding};
+ghost use Rattle.utf16_transcode.specs.Stream.{IsNewStream, StopsFeeding, stream_pending};
 ghost use Rattle.utf16_transcode.specs.declared.progress.Stop.TheVariants.{Done, NoSpace};
 
 use crate::encode::FromUtf8;
@@ -49,7 +49,7 @@ pub fn feed_utf8<E: Utf16Order>(stream: &mut Stream, piece: &[u8], to: &mut [u8]
 }
 
 /// Ends the stream: writes U+FFFD in UTF-16 to the start of a buffer if bytes are pending, and
-/// nothing if not. Afterwards no bytes are pending. With `NoSpace` the buffer has fewer than two
+/// nothing if not. Afterwards the stream is a new one. With `NoSpace` the buffer has fewer than two
 /// bytes, and nothing changed. `read` is 0. Bytes of the buffer after the written ones are
 /// unchanged.
 pub fn finish_utf8<E: Utf16Order>(stream: &mut Stream, to: &mut [u8]) -> Progress
@@ -62,6 +62,7 @@ pub fn finish_utf8<E: Utf16Order>(stream: &mut Stream, to: &mut [u8]) -> Progres
     ensures within { result.written ≤ length to.new }
     ensures rest { drop result.written to.new ≡ drop result.written to.old }
     ensures pending { result.stop ≡ Done → stream_pending stream.new ≡ [] }
+    ensures fresh { result.stop ≡ Done → IsNewStream stream.new }
     ensures no_space { result.stop ≢ Done → (result.stop ≡ NoSpace) × (result.written ≡ 0) }
     ensures unchanged { result.stop ≢ Done → (stream.new ≡ stream.old) × (to.new ≡ to.old) }
 {

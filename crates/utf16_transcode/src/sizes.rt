@@ -1,7 +1,7 @@
 //! The length of a text in the other encoding, in bytes.
 //!
-//! Valid parts are counted with SIMD, and each ill-formed sequence adds the length of U+FFFD. No
-//! character is decoded.
+//! Valid parts are counted with SIMD, and each ill-formed sequence adds the length of U+FFFD. Only
+//! parts of fewer than sixteen bytes are counted character by character.
 
 ghost use Rattle.std.specs.Prelude.{◌≡◌, IsTrue, encode_utf8_all, length, take};
 ghost use Rattle.std.specs.Str.{IsUtf8, chars};

@@ -1,10 +1,10 @@
 //! A stream that comes in chunks, cut anywhere. Its pending bytes are in a value that you own.
 
-ghost use Rattle.std.specs.Prelude.{◌≡◌, ◌≢◌, ◌↔◌, ◌+◌, ◌-◌, ◌<◌, ◌≤◌, [], ◌∷◌, ◌++◌, length, take, drop};
+ghost use Rattle.std.specs.Prelude.{◌≡◌, ◌≢◌, ◌↔◌, ◌+◌, ◌-◌, ◌<◌, ◌≤◌, [], ◌++◌, length, take, drop};
 ghost use Rattle.std.specs.List.{flat_map};
 ghost use Rattle.utf16_transcode.specs.StreamSplit.{decided};
 ghost use Rattle.utf16_transcode.specs.Stops.{StopsPartial};
-ghost use Rattle.utf16_transcode.specs.Stream.{FeedsAs, StopsFeeding, stream_pending};
+ghost use Rattle.utf16_transcode.specs.Stream.{FeedsAs, IsNewStream, StopsFeeding, stream_pending};
 ghost use Rattle.utf16_transcode.specs.Transcoded.{DecodesAsTo};
 ghost use Rattle.utf16_transcode.specs.declared.progress.Stop.TheVariants.{Done, NoSpace};
 
@@ -30,7 +30,9 @@ pub const SHORT_CHUNK: usize = 512;
 #[repr(C)]
 #[derive(Clone, Copy, Debug)]
 pub struct Stream {
+    /// The pending bytes, at the start.
     pub bytes: [u8; 3],
+    /// How many bytes are pending.
     pub len: u8,
 }
 
@@ -38,7 +40,7 @@ impl Stream {
     /// Returns a stream at its beginning. All of its fields are zero.
     pub fn new() -> Self
         ensures pending { stream_pending result ≡ [] }
-        ensures zero { (result.bytes ≡ 0 ∷ 0 ∷ 0 ∷ []) × (result.len ≡ 0) }
+        ensures zero { IsNewStream result }
     {
         Stream {
             bytes: [0; 3],
@@ -128,8 +130,9 @@ impl Stream {
     }
 
     /// Ends the stream: writes the replacement of the pending bytes, if there are any, to the start
-    /// of a buffer. No bytes are pending afterwards. With `NoSpace`, the replacement does not fit,
-    /// and nothing changed. `read` is 0. Bytes of the buffer after the written ones are unchanged.
+    /// of a buffer. Afterwards the stream is a new one. With `NoSpace`, the replacement does not
+    /// fit, and nothing changed. `read` is 0. Bytes of the buffer after the written ones are
+    /// unchanged.
     pub fn finish<D: LossyDirection>(&mut self, to: &mut [u8]) -> Progress
         ensures read { result.read ≡ 0 }
         ensures done { (result.stop ≡ Done)
@@ -141,6 +144,7 @@ impl Stream {
         ensures within { result.written ≤ length to.new }
         ensures rest { drop result.written to.new ≡ drop result.written to.old }
         ensures pending { result.stop ≡ Done → stream_pending self.new ≡ [] }
+        ensures fresh { result.stop ≡ Done → IsNewStream self.new }
         ensures no_space { result.stop ≢ Done → (result.stop ≡ NoSpace) × (result.written ≡ 0) }
         ensures unchanged { result.stop ≢ Done → (self.new ≡ self.old) × (to.new ≡ to.old) }
     {

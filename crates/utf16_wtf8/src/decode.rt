@@ -3,7 +3,7 @@
 ghost use Rattle.std.specs.Prelude.{◌≡◌, ◌≢◌, ◌↔◌, ◌-◌, ◌%◌, ◌<◌, ◌≤◌, [], drop, length, take};
 ghost use Rattle.std.specs.List.{flat_map};
 ghost use Rattle.utf16_transcode.specs.WholeText.{WritesWhole};
-ghost use Rattle.utf16_transcode.specs.Stream.{stream_pending};
+ghost use Rattle.utf16_transcode.specs.Stream.{IsNewStream, stream_pending};
 ghost use Rattle.utf16_transcode.specs.declared.progress.Stop.TheVariants.{Done, Incomplete, NoSpace};
 ghost use Rattle.utf16_transcode.specs.Stops.{StopsPartial};
 ghost use Rattle.utf16_wtf8.specs.ToWtf8.{DecodesToWtf8, StopsToWtf8, points_of, tail_points, wtf8_split};
@@ -70,7 +70,7 @@ pub fn to_wtf8<E: Utf16Order>(raw: &[u8], to: &mut [u8]) -> Progress
 }
 
 /// Ends a stream in the direction `ToWtf8`: writes a pending leading surrogate to the start of a
-/// buffer. No bytes are pending afterwards. `read` is 0. With `Incomplete`, an odd byte at the end
+/// buffer. Afterwards the stream is a new one. `read` is 0. With `Incomplete`, an odd byte at the end
 /// of the stream, which is not a code unit, was left out. With `NoSpace`, the surrogate does not
 /// fit, and nothing changed. Bytes of the buffer after the written ones are unchanged.
 pub fn finish_wtf8<E: Utf16Order>(stream: &mut Stream, to: &mut [u8]) -> Progress
@@ -86,6 +86,7 @@ pub fn finish_wtf8<E: Utf16Order>(stream: &mut Stream, to: &mut [u8]) -> Progres
     ensures within { result.written ≤ length to.new }
     ensures rest { drop result.written to.new ≡ drop result.written to.old }
     ensures pending { result.stop ≢ NoSpace → stream_pending stream.new ≡ [] }
+    ensures fresh { result.stop ≢ NoSpace → IsNewStream stream.new }
     ensures unchanged { result.stop ≡ NoSpace
         → (result.written ≡ 0) × (stream.new ≡ stream.old) × (to.new ≡ to.old) }
 {

@@ -11,6 +11,7 @@ loop-read-preserved g c =
     record {
       wrote = Writes-then (utf8_joins g.E.Utf16Order.BIG) _ _ _ _ _ _ _ before.wrote
           (WritesAt-put _ c.loop-read.to part (take 8 part) c.loop-read.written 16 8 before.wrote.fits (search rules) (search rules) (eight.well_formed refl, eight.utf8 refl) refl (search rules));
+      more = omega (arith, before.more);
       within = search rules;
       ascii = omega (arith, before.ascii);
     }

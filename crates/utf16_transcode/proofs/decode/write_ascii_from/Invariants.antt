@@ -6,6 +6,7 @@ use Rattle.utf16_transcode.proofs.decode.write_ascii_from.Given as goal
 abbrev pub invariant-loop-read : goal.invariant-loop-read
 invariant-loop-read g l = record {
   wrote : Writes (TranscodesToUtf8 g.E.Utf16Order.BIG) l.raw l.to l.read l.written;
+  more : l.initial.read ≤ l.read;
   within : l.read ≤ l.end.read;
   ascii : l.end.read + 2 * l.written ≡ l.read + 2 * l.end.written;
 }

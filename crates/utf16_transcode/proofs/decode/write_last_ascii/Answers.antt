@@ -20,8 +20,8 @@ write_eight_ascii-requires-clause-space g c =
     let half = written_half g.E.Utf16Order.BIG c.args.raw.now c.args.to.now c.args.from.read c.args.from.written c.requires.wrote in
     search (arith, half, c.if-end-lt16.false, c.requires.ascii, c.requires.space)
 
-pub returns : goal.returns
-returns g c =
+pub returns-clause-wrote : goal.returns-clause-wrote
+returns-clause-wrote g c =
     let big = g.E.Utf16Order.BIG in
     let raw = c.args.raw.now in
     let to = c.args.to.now in

@@ -10,7 +10,7 @@ front : (g : Over) (c : Joined-rest-FRONT_LEN g) → let now = c.if-rest-FRONT_L
     WritesAt (SameText g.D.Direction.IsValid g.D.Direction.other) c.args.rest.now c.args.to.now now.to c.args.at now.read now.end
 front g c = elim c.if-rest-FRONT_LEN.branch [
   | then-rest-FRONT_LEN w ↦
-      let wrote = w.write_front-front.ensures in
+      let wrote = w.write_front-front.ensures.wrote in
       rw (w.to-is, w.read-is, w.end-is) (WritesAt-put _ _ _ _ _ _ _ c.requires (search rules) wrote.within wrote.gives refl wrote.fits)
   | else-rest-FRONT_LEN w ↦ rw (w.to-is, w.read-is, w.end-is) (WritesAt-none c.laws.ensures.of_nothing _ _ _ _ c.requires refl)
 ]
