@@ -1,7 +1,9 @@
--- Views of substrings of a text lie in a window of its bytes.
-use Rattle.std.proofs.Common.{◌≡◌, ℕ, ◌+◌, ◌-◌, ◌^◌, ◌<◌, Bool, true, false, All, List, ◌++◌, length, drop, take, Option, None, Some, refl, sym, ap, ◌∙◌, subst, arith, append_assoc, option_map, slice_index_or, IfSome}
+-- Views of substrings of a text have the bytes at their offsets.
+use Rattle.std.proofs.Common.{◌≡◌, ℕ, ◌+◌, ◌-◌, ◌^◌, ◌<◌, Bool, false, true, All, List, [], ◌∷◌, ◌++◌, length, drop, reverse, take, Option, None, Some, refl, sym, ap, ◌∙◌, subst, arith, append_assoc, option_map, slice_index_or, IfSome}
 use Rattle.std.proofs.Math.Seq.{drop-append_seam, take-append_seam}
-use Rattle.std.specs.Iterator.{YieldsFirstBy, YieldsLastBy}
+use Rattle.std.proofs.iter.runs.Made.{took}
+use Rattle.std.proofs.lemmas.List.{reverse-append}
+use Rattle.std.specs.Iterator.{Yields, YieldsFirstBy, YieldsLastBy}
 use Rattle.std.specs.Iterator.Runs.{EachRunFrom}
 use Rattle.utf16_units.specs.declared.byte_order.Utf16Order.{Ghosts}
 use Rattle.utf16_units.specs.Boundary.{IsBoundary}
@@ -9,13 +11,13 @@ use Rattle.utf16_units.specs.Encoding.{encode, is_utf16, size, text_of}
 use Rattle.utf16_units.proofs.EncodingLemmas.{IsUtf16-from_is_utf16, encode-append, encode-text_of, length-encode, size-append}
 use Rattle.utf16_units.proofs.PartLemmas.{IsBoundary-seam}
 use Rattle.utf16_str.specs.Matches.{YieldsPartsAt}
-use Rattle.utf16_str.specs.Substrings.{LiesAt, LiesIn, YieldsPartsOf, YieldsPartsOfBack, parts_toward}
+use Rattle.utf16_str.specs.Substrings.{LieAt, LiesAt, LiesIn, YieldsPartsOf, YieldsPartsOfBack, parts_toward}
 use Rattle.utf16_str.specs.Window.{IsWindowOf, bytes_between}
 use Rattle.utf16_str.specs.WStr.{wstr_bytes, wstr_text}
 use Rattle.utf16_str.specs.declared.wstr.WStr.{WStr}
 use Rattle.utf16_str.proofs.CountLemmas.{count-toward}
-use Rattle.utf16_str.proofs.SplitLemmas.{few-parts, text_runs, text_runs_back}
-use Rattle.utf16_str.proofs.WithinLemmas.{Within, WithinAt, within-toward}
+use Rattle.utf16_str.proofs.SplitLemmas.{few-parts, text_runs}
+use Rattle.utf16_str.proofs.WithinLemmas.{Placed, Within, WithinAt, placed-reverse}
 
 -- the bytes between two others
 middle : (front part back : List ℕ) (i : ℕ) → i ≡ length front → bytes_between (front ++ (part ++ back)) i (i + length part) ≡ part
@@ -76,14 +78,6 @@ module _ {A B : Type 0} (v : A → B) (Q : B → Type 0) (P : A → Type 0) (eac
       let same = there (λ y. v y ≡ slice_index_or p.from k (v y)) (p.at k) x (p.reads k d (omega (arith, below, p.long))) (m.8 k) in
       from_model x k (omega (arith, below, p.long, m.0, ap length from)) (same ∙ ap (λ xs. slice_index_or xs k (v x)) from)
 
-  pub each_item_back : EachRunFrom (YieldsLastBy v (λ (rest : List B). rest)) left (λ p. All P p.items)
-  each_item_back p seen from k d below =
-      let m = text_runs_back v p seen in
-      let x = slice_index_or p.items k d in
-      let last = length p.from - 1 - k in
-      let same = there (λ y. v y ≡ slice_index_or p.from last (v y)) (p.at k) x (p.reads k d (omega (arith, below, p.long))) (m.8 k) in
-      from_model x last (omega (arith, below, p.long, m.0, ap length from)) (same ∙ ap (λ xs. slice_index_or xs last (v x)) from)
-
 module _ {E : Type 0} {order : Ghosts E} (whole : WStr E order) where
   lies_at : (at : ℕ) (part : WStr E order) → WithinAt (wstr_text whole) at (wstr_text part) → LiesAt whole at part
   lies_at at part w =
@@ -92,11 +86,27 @@ module _ {E : Type 0} {order : Ghosts E} (whole : WStr E order) where
   pub lies_in : (part : WStr E order) → Within (wstr_text whole) (wstr_text part) → LiesIn whole part
   lies_in part w = let found = lies_at (size w.0) part (w, refl) in ((size w.0, size w.0 + length (wstr_bytes part)), found.0, found.1)
 
-  pub yields_parts : (left : List (List ℕ)) → All (Within (wstr_text whole)) left → YieldsPartsOf whole left
-  yields_parts = each_item wstr_text (Within (wstr_text whole)) (LiesIn whole) lies_in
+  -- what is left shows the texts that come, the next one first
+  module _ (steps : List (List ℕ) → Option (WStr E order) → List (List ℕ) → Type 0) (shown : List (List ℕ) → List (List ℕ))
+      (next : (s t : List (List ℕ)) (x : WStr E order) → steps s (Some x) t → shown s ≡ wstr_text x ∷ shown t) where
+    lie_at : (offsets : List ℕ) (xs : List (WStr E order)) (s t : List (List ℕ)) → Yields steps s xs t → Placed (wstr_text whole) offsets (shown s) → LieAt whole offsets xs
+    lie_at offsets [] s t y p = tt
+    lie_at [] (x ∷ xs) s t y p = absurd (subst (Placed (wstr_text whole) []) (next s y.0 x y.1) p)
+    lie_at (at ∷ offsets) (x ∷ xs) s t y p =
+        let placed = subst (Placed (wstr_text whole) (at ∷ offsets)) (next s y.0 x y.1) p in
+        (lies_at at x placed.0, lie_at offsets xs y.0 t y.2 placed.1)
 
-  pub yields_parts_back : (left : List (List ℕ)) → All (Within (wstr_text whole)) left → YieldsPartsOfBack whole left
-  yields_parts_back = each_item_back wstr_text (Within (wstr_text whole)) (LiesIn whole) lies_in
+    run_lies : (offsets : List ℕ) (left : List (List ℕ)) → Placed (wstr_text whole) offsets (shown left) → EachRunFrom steps left (λ p. LieAt whole offsets p.items)
+    run_lies offsets left placed p seen from =
+        lie_at offsets p.items p.from (took p).0 (took p).1 (subst (λ s. Placed (wstr_text whole) offsets (shown s)) (sym from) placed)
+
+  pub yields_parts : (offsets : List ℕ) (left : List (List ℕ)) → Placed (wstr_text whole) offsets left → YieldsPartsOf whole offsets left
+  yields_parts = run_lies (YieldsFirstBy wstr_text (λ rest. rest)) (λ rest. rest) (λ s t x is. is)
+
+  pub yields_parts_back : (offsets : List ℕ) (left : List (List ℕ)) → Placed (wstr_text whole) offsets left → YieldsPartsOfBack whole offsets left
+  yields_parts_back offsets left placed =
+      run_lies (YieldsLastBy wstr_text (λ rest. rest)) reverse (λ s t x is. ap reverse is ∙ reverse-append t (wstr_text x ∷ [])) (reverse offsets) left
+      (placed-reverse (wstr_text whole) offsets left placed)
 
   pub yields_parts_at : (left : List (ℕ × List ℕ)) → All (λ at. WithinAt (wstr_text whole) at.0 at.1) left → YieldsPartsAt whole left
   yields_parts_at =
@@ -104,15 +114,6 @@ module _ {E : Type 0} {order : Ghosts E} (whole : WStr E order) where
 
   -- the substrings between occurrences of a part
   module _ (back : Bool) (part : List ℕ) (left : List (List ℕ)) (is : left ≡ parts_toward back part false (wstr_text whole)) where
-    within_between : All (Within (wstr_text whole)) left
-    within_between = subst (All (Within (wstr_text whole))) (sym is) (within-toward back part (wstr_text whole))
-
-    pub yields_between : YieldsPartsOf whole left
-    yields_between = yields_parts left within_between
-
-    pub yields_between_back : YieldsPartsOfBack whole left
-    yields_between_back = yields_parts_back left within_between
-
     pub few_between : length (wstr_bytes whole) + 2 < 2 ^ 64 → length left < 2 ^ 64
     few_between long =
         few-parts order.BIG (wstr_bytes whole) (length left) whole.well_formed long (omega (arith, ap length is, (count-toward back part false (wstr_text whole)).1))

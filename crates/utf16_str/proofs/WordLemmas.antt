@@ -10,10 +10,10 @@ use Rattle.utf16_str.specs.Predicates.{AnswersBy, IsCutWith, IsLastCutWith, IsTr
 use Rattle.utf16_str.specs.Substrings.{words_by}
 use Rattle.utf16_str.proofs.PredicateAround.{split-around}
 
-abbrev not_empty : List ℕ → Bool
+abbrev pub not_empty : List ℕ → Bool
 not_empty word = nat_lt 0 (length word)
 
-kept : (word : List ℕ) (parts : List (List ℕ)) → word ≢ [] → filter not_empty (word ∷ parts) ≡ word ∷ filter not_empty parts
+pub kept : (word : List ℕ) (parts : List (List ℕ)) → word ≢ [] → filter not_empty (word ∷ parts) ≡ word ∷ filter not_empty parts
 kept [] parts some = absurd (some refl)
 kept (c ∷ word) parts some =
     let filled : nat_lt 0 (length (c ∷ word)) ≡ true = grind arith in

@@ -3,9 +3,10 @@
 use Rattle.std.specs.Prelude.{◌==◌, ℕ, zero, suc, ◌+◌, ◌-◌, All, List, [], ◌∷◌, ◌++◌, Option, None, Some, length, if◌then◌else◌}
 use Rattle.std.specs.Iterator.{YieldsFirstBy}
 use Rattle.std.specs.Iterator.Runs.{EachRunFrom, EveryRun, ItemsMapTo}
+use Rattle.std.specs.List.{slice_split}
 use Rattle.utf16_units.specs.declared.byte_order.Utf16Order.{Ghosts}
 use Rattle.utf16_units.specs.Encoding.{size}
-use Rattle.utf16_str.specs.Substrings.{LiesAt}
+use Rattle.utf16_str.specs.Substrings.{LiesAt, offsets_from}
 use Rattle.utf16_str.specs.WStr.{wstr_text}
 use Rattle.utf16_str.specs.declared.wstr.WStr.{WStr}
 
@@ -22,7 +23,12 @@ without_empty_last [] = []
 without_empty_last (last ∷ []) = if length last == 0 then [] else last ∷ []
 without_empty_last (part ∷ next ∷ parts) = part ∷ without_empty_last (next ∷ parts)
 
--- the same, each with the terminator that follows it: all but the last have one
+-- the offsets of the lines: each is that of the substring between line feeds that it is made of
+abbrev pub line_offsets : List ℕ → List ℕ
+line_offsets text = offsets_from 2 0 (without_empty_last (slice_split (λ c. c == 10) text))
+
+-- the substrings without an empty last one, each with the terminator that follows it: all but the
+-- last have one
 abbrev pub with_terminators : List ℕ → List (List ℕ) → List (List ℕ)
 with_terminators terminator [] = []
 with_terminators terminator (last ∷ []) = if length last == 0 then [] else last ∷ []

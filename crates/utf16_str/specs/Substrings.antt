@@ -7,6 +7,7 @@ use Rattle.std.specs.List.{join_by, join_with_byte, onto_first, slice_split, sta
 use Rattle.std.specs.Str.Lines.{lines}
 use Rattle.utf16_units.specs.Delimited.{Lacks}
 use Rattle.utf16_units.specs.declared.byte_order.Utf16Order.{Ghosts}
+use Rattle.utf16_units.specs.Encoding.{char_size, size}
 use Rattle.utf16_str.specs.Window.{IsWindowOf, window_bytes}
 use Rattle.utf16_str.specs.WStr.{wstr_bytes, wstr_text}
 use Rattle.utf16_str.specs.declared.wstr.WStr.{WStr}
@@ -93,6 +94,16 @@ abbrev pub joined_toward : Bool → List ℕ → List (List ℕ) → List ℕ
 joined_toward false part parts = joined_with part parts
 joined_toward true part parts = rjoined_with part parts
 
+-- the offsets in bytes of substrings with `gap` bytes between each two, if the first one is at `at`
+abbrev pub offsets_from : ℕ → ℕ → List (List ℕ) → List ℕ
+offsets_from gap at [] = []
+offsets_from gap at (text ∷ texts) = at ∷ offsets_from gap (at + size text + gap) texts
+
+-- the same, if the substrings come from the end and the first one ends at `end`
+abbrev pub roffsets_from : ℕ → ℕ → List (List ℕ) → List ℕ
+roffsets_from gap end [] = []
+roffsets_from gap end (text ∷ texts) = (end - size text) ∷ roffsets_from gap (end - size text - gap) texts
+
 -- no substring has the part, unless it is empty
 abbrev pub EachLacks : List ℕ → List (List ℕ) → Type 0
 EachLacks [] parts = ⊤
@@ -106,6 +117,17 @@ lines_left (Some rest) = lines rest
 -- the substrings of a text split at each character that passes a test, without those that are empty
 abbrev pub words_by : (ℕ → Bool) → List ℕ → List (List ℕ)
 words_by p text = filter (λ word. nat_lt 0 (length word)) (slice_split p text)
+
+-- the offsets of their first characters, if the text is at `at`. `between` says whether the text
+-- does not go on with a substring that began before it
+abbrev pub words_at : (ℕ → Bool) → Bool → ℕ → List ℕ → List ℕ
+words_at p between at [] = []
+words_at p true at (c ∷ text) = if p c then words_at p true (at + char_size c) text else at ∷ words_at p false (at + char_size c) text
+words_at p false at (c ∷ text) = words_at p (p c) (at + char_size c) text
+
+-- the offsets of the substrings that `words_by` gives
+abbrev pub word_offsets : (ℕ → Bool) → List ℕ → List ℕ
+word_offsets p text = words_at p true 0 text
 
 -- the words of a text, as in the documentation of `str::split_whitespace`: white space is between
 -- them
@@ -127,23 +149,30 @@ abbrev pub YieldsTextsBack : {E : Type 0} {order : Ghosts E} → WStr E order �
 YieldsTextsBack {E = E} {order = order} like =
     EveryRun (YieldsLastBy (wstr_text {E = E} {order = order}) (λ (rest : List (List ℕ)). rest)) (λ p. ItemsMapToReversed p (wstr_text {E = E} {order = order}) p.from)
 
--- the bytes of a part are those in a window of a view
-abbrev pub LiesIn : {E : Type 0} {order : Ghosts E} → WStr E order → WStr E order → Type 0
-LiesIn whole part =
-    (window : ℕ × ℕ) × IsWindowOf (wstr_text whole) (Some window) × (wstr_bytes part ≡ window_bytes (wstr_bytes whole) (Some window))
-
 -- a part has the bytes of a view from an offset on, and both ends are boundaries
 abbrev pub LiesAt : {E : Type 0} {order : Ghosts E} → WStr E order → ℕ → WStr E order → Type 0
 LiesAt whole at part =
     IsWindowOf (wstr_text whole) (Some (at, at + length (wstr_bytes part)))
     × (wstr_bytes part ≡ window_bytes (wstr_bytes whole) (Some (at, at + length (wstr_bytes part))))
 
--- an iterator that has these texts left yields only views of a window of the given view
-abbrev pub YieldsPartsOf : {E : Type 0} {order : Ghosts E} → WStr E order → List (List ℕ) → Type 0
-YieldsPartsOf {E = E} {order = order} whole left =
-    EachRunFrom (YieldsFirstBy (wstr_text {E = E} {order = order}) (λ (rest : List (List ℕ)). rest)) left (λ p. All (LiesIn whole) p.items)
+-- the bytes of a part are those in a window of a view
+abbrev pub LiesIn : {E : Type 0} {order : Ghosts E} → WStr E order → WStr E order → Type 0
+LiesIn whole part =
+    (window : ℕ × ℕ) × IsWindowOf (wstr_text whole) (Some window) × (wstr_bytes part ≡ window_bytes (wstr_bytes whole) (Some window))
+
+-- the parts lie at these offsets, the first at the first
+abbrev pub LieAt : {E : Type 0} {order : Ghosts E} → WStr E order → List ℕ → List (WStr E order) → Type 0
+LieAt whole offsets [] = ⊤
+LieAt whole [] (part ∷ parts) = ⊥
+LieAt whole (at ∷ offsets) (part ∷ parts) = LiesAt whole at part × LieAt whole offsets parts
+
+-- an iterator that has these texts left yields views of the given view's bytes, each from its offset
+-- on
+abbrev pub YieldsPartsOf : {E : Type 0} {order : Ghosts E} → WStr E order → List ℕ → List (List ℕ) → Type 0
+YieldsPartsOf {E = E} {order = order} whole offsets left =
+    EachRunFrom (YieldsFirstBy (wstr_text {E = E} {order = order}) (λ (rest : List (List ℕ)). rest)) left (λ p. LieAt whole offsets p.items)
 
 -- the same from the back
-abbrev pub YieldsPartsOfBack : {E : Type 0} {order : Ghosts E} → WStr E order → List (List ℕ) → Type 0
-YieldsPartsOfBack {E = E} {order = order} whole left =
-    EachRunFrom (YieldsLastBy (wstr_text {E = E} {order = order}) (λ (rest : List (List ℕ)). rest)) left (λ p. All (LiesIn whole) p.items)
+abbrev pub YieldsPartsOfBack : {E : Type 0} {order : Ghosts E} → WStr E order → List ℕ → List (List ℕ) → Type 0
+YieldsPartsOfBack {E = E} {order = order} whole offsets left =
+    EachRunFrom (YieldsLastBy (wstr_text {E = E} {order = order}) (λ (rest : List (List ℕ)). rest)) left (λ p. LieAt whole (reverse offsets) p.items)

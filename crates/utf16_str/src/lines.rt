@@ -4,6 +4,7 @@ ghost use Rattle.std.specs.Prelude.{◌≡◌, ◌<◌, ◌^◌, ◌++◌, List,
 ghost use Rattle.utf16_units.specs.Delimited.{Lacks};
 ghost use Rattle.std.specs.Iterator.{YieldsFirstBy, YieldsLastBy, item_count};
 ghost use Rattle.std.specs.Str.Lines.{lines};
+ghost use Rattle.utf16_str.specs.Matches.{line_offsets};
 ghost use Rattle.utf16_str.specs.Substrings.{EndsWithAny, YieldsPartsOf, YieldsPartsOfBack, YieldsTexts, YieldsTextsBack, lines_left};
 ghost use Rattle.utf16_str.specs.WStr.{wstr_text};
 
@@ -76,8 +77,9 @@ impl<'a, E: Utf16Order> WStr<'a, E> {
         ensures bound { length result < 2 ^ 64 }
         ensures runs { YieldsTexts self.entry }
         ensures runs_back { YieldsTextsBack self.entry }
-        ensures within { YieldsPartsOf self.entry result }
-        ensures within_back { YieldsPartsOfBack self.entry result }
+        ensures within { YieldsPartsOf self.entry (line_offsets (wstr_text self.entry)) result }
+        ensures within_back { YieldsPartsOfBack self.entry (line_offsets (wstr_text self.entry))
+            result }
     {
         WStrLines { rest: Some(self) }
     }

@@ -2,7 +2,8 @@
 
 ghost use Rattle.std.specs.Prelude.{◌≡◌, ◌^◌, ◌<◌, ◌∷◌, [], ℕ, List, length, option_map};
 ghost use Rattle.std.specs.Iterator.{YieldsFirstBy, YieldsLastBy, item_count};
-ghost use Rattle.utf16_str.specs.Substrings.{EachLacks, YieldsPartsOf, YieldsPartsOfBack, YieldsTexts, YieldsTextsBack, joined_with, parts_left, rsplit_by, split_by};
+ghost use Rattle.utf16_units.specs.Encoding.{size};
+ghost use Rattle.utf16_str.specs.Substrings.{EachLacks, YieldsPartsOf, YieldsPartsOfBack, YieldsTexts, YieldsTextsBack, joined_with, offsets_from, parts_left, roffsets_from, rsplit_by, split_by};
 ghost use Rattle.utf16_str.specs.WStr.{wstr_text};
 
 use crate::WStr;
@@ -80,8 +81,10 @@ impl<'a, E: Utf16Order> WStr<'a, E> {
         ensures bound { length result < 2 ^ 64 }
         ensures runs { YieldsTexts self.entry }
         ensures runs_back { YieldsTextsBack self.entry }
-        ensures within { YieldsPartsOf self.entry result }
-        ensures within_back { YieldsPartsOfBack self.entry result }
+        ensures within { YieldsPartsOf self.entry
+            (offsets_from (size (P.part delimiter)) 0 result) result }
+        ensures within_back { YieldsPartsOfBack self.entry
+            (offsets_from (size (P.part delimiter)) 0 result) result }
     {
         WStrParts {
             left: Remaining::new(self, delimiter),
@@ -103,7 +106,8 @@ impl<'a, E: Utf16Order> WStr<'a, E> {
         ensures parts { result ≡ rsplit_by (P.part delimiter) (wstr_text self.entry) }
         ensures bound { length result < 2 ^ 64 }
         ensures runs { YieldsTexts self.entry }
-        ensures within { YieldsPartsOf self.entry result }
+        ensures within { YieldsPartsOf self.entry (roffsets_from (size (P.part delimiter))
+            (size (wstr_text self.entry)) result) result }
     {
         WStrParts {
             left: Remaining::new(self, delimiter),

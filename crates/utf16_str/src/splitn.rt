@@ -2,8 +2,9 @@
 
 ghost use Rattle.std.specs.Prelude.{◌≡◌, ◌≤◌, ℕ, List, length, option_map, reverse};
 ghost use Rattle.std.specs.Iterator.{YieldsFirstBy, item_count};
+ghost use Rattle.utf16_units.specs.Encoding.{size};
 ghost use Rattle.utf16_str.specs.Matches.{limited};
-ghost use Rattle.utf16_str.specs.Substrings.{YieldsPartsOf, YieldsTexts, joined_toward, joined_with, parts_left, rjoined_with, rsplit_by, split_by};
+ghost use Rattle.utf16_str.specs.Substrings.{YieldsPartsOf, YieldsTexts, joined_toward, joined_with, offsets_from, parts_left, rjoined_with, roffsets_from, rsplit_by, split_by};
 ghost use Rattle.utf16_str.specs.WStr.{wstr_text};
 
 use crate::WStr;
@@ -74,7 +75,8 @@ impl<'a, E: Utf16Order> WStr<'a, E> {
             (split_by (P.part delimiter) (wstr_text self.entry)) }
         ensures bound { length result ≤ n }
         ensures runs { YieldsTexts self.entry }
-        ensures within { YieldsPartsOf self.entry result }
+        ensures within { YieldsPartsOf self.entry
+            (offsets_from (size (P.part delimiter)) 0 result) result }
     {
         WStrPartsN {
             left: Remaining::new(self, delimiter),
@@ -98,7 +100,8 @@ impl<'a, E: Utf16Order> WStr<'a, E> {
             (rsplit_by (P.part delimiter) (wstr_text self.entry)) }
         ensures bound { length result ≤ n }
         ensures runs { YieldsTexts self.entry }
-        ensures within { YieldsPartsOf self.entry result }
+        ensures within { YieldsPartsOf self.entry (roffsets_from (size (P.part delimiter))
+            (size (wstr_text self.entry)) result) result }
     {
         WStrPartsN {
             left: Remaining::new(self, delimiter),

@@ -2,8 +2,9 @@
 
 ghost use Rattle.std.specs.Prelude.{◌≡◌, ◌^◌, ◌<◌, ℕ, List, false, length, option_map};
 ghost use Rattle.std.specs.Iterator.{YieldsFirstBy, item_count};
+ghost use Rattle.utf16_units.specs.Encoding.{size};
 ghost use Rattle.utf16_str.specs.Matches.{with_terminators, without_empty_last};
-ghost use Rattle.utf16_str.specs.Substrings.{YieldsPartsOf, YieldsTexts, parts_left, split_by};
+ghost use Rattle.utf16_str.specs.Substrings.{YieldsPartsOf, YieldsTexts, offsets_from, parts_left, split_by};
 ghost use Rattle.utf16_str.specs.WStr.{wstr_text};
 
 use crate::WStr;
@@ -91,7 +92,8 @@ impl<'a, E: Utf16Order> WStr<'a, E> {
             ≡ without_empty_last (split_by (P.part terminator) (wstr_text self.entry)) }
         ensures bound { length result < 2 ^ 64 }
         ensures runs { YieldsTexts self.entry }
-        ensures within { YieldsPartsOf self.entry result }
+        ensures within { YieldsPartsOf self.entry
+            (offsets_from (size (P.part terminator)) 0 result) result }
     {
         WStrSplitTerminator {
             left: Remaining::new(self, terminator),
@@ -113,7 +115,7 @@ impl<'a, E: Utf16Order> WStr<'a, E> {
             (split_by (P.part terminator) (wstr_text self.entry)) }
         ensures bound { length result < 2 ^ 64 }
         ensures runs { YieldsTexts self.entry }
-        ensures within { YieldsPartsOf self.entry result }
+        ensures within { YieldsPartsOf self.entry (offsets_from 0 0 result) result }
     {
         WStrSplitInclusive {
             left: Remaining::new(self, terminator),

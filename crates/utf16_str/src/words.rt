@@ -4,7 +4,7 @@ ghost use Rattle.std.specs.Prelude.{◌≡◌, ◌≢◌, ◌++◌, ◌∷◌, �
 ghost use Rattle.std.specs.Char.{is_ascii_whitespace, is_whitespace};
 ghost use Rattle.std.specs.Iterator.{YieldsFirstBy, YieldsLastBy, item_count};
 ghost use Rattle.utf16_str.specs.AsciiWords.{ascii_words};
-ghost use Rattle.utf16_str.specs.Substrings.{YieldsPartsOf, YieldsPartsOfBack, YieldsTexts, YieldsTextsBack, words, words_by};
+ghost use Rattle.utf16_str.specs.Substrings.{YieldsPartsOf, YieldsPartsOfBack, YieldsTexts, YieldsTextsBack, word_offsets, words, words_by};
 ghost use Rattle.utf16_str.specs.WStr.{wstr_text};
 
 use crate::WStr;
@@ -112,8 +112,10 @@ impl<'a, E: Utf16Order> WStr<'a, E> {
         ensures bound { length result < 2 ^ 64 }
         ensures runs { YieldsTexts self.entry }
         ensures runs_back { YieldsTextsBack self.entry }
-        ensures within { YieldsPartsOf self.entry result }
-        ensures within_back { YieldsPartsOfBack self.entry result }
+        ensures within { YieldsPartsOf self.entry
+            (word_offsets is_whitespace (wstr_text self.entry)) result }
+        ensures within_back { YieldsPartsOfBack self.entry
+            (word_offsets is_whitespace (wstr_text self.entry)) result }
     {
         self.words()
     }
@@ -134,8 +136,10 @@ impl<'a, E: Utf16Order> WStr<'a, E> {
         ensures bound { length result < 2 ^ 64 }
         ensures runs { YieldsTexts self.entry }
         ensures runs_back { YieldsTextsBack self.entry }
-        ensures within { YieldsPartsOf self.entry result }
-        ensures within_back { YieldsPartsOfBack self.entry result }
+        ensures within { YieldsPartsOf self.entry
+            (word_offsets is_ascii_whitespace (wstr_text self.entry)) result }
+        ensures within_back { YieldsPartsOfBack self.entry
+            (word_offsets is_ascii_whitespace (wstr_text self.entry)) result }
     {
         self.words()
     }
@@ -146,8 +150,10 @@ impl<'a, E: Utf16Order> WStr<'a, E> {
         ensures bound { length result < 2 ^ 64 }
         ensures runs { YieldsTexts self.entry }
         ensures runs_back { YieldsTextsBack self.entry }
-        ensures within { YieldsPartsOf self.entry result }
-        ensures within_back { YieldsPartsOfBack self.entry result }
+        ensures within { YieldsPartsOf self.entry
+            (word_offsets S.is_space (wstr_text self.entry)) result }
+        ensures within_back { YieldsPartsOfBack self.entry
+            (word_offsets S.is_space (wstr_text self.entry)) result }
     {
         WStrWords {
             rest: self,

@@ -1,12 +1,12 @@
-use Rattle.std.proofs.Common.{arith, false, sym}
+use Rattle.std.proofs.Common.{arith, false, map, ℕ, List, subst, sym}
 use Rattle.std.proofs.lemmas.List.{length-map}
-use Rattle.std.proofs.lemmas.List.Elements.{All-map, All-same, All-weaker}
 use Rattle.utf16_str.specs.Substrings.{split_by}
+use Rattle.utf16_str.specs.Matches.{match_offsets}
 use Rattle.utf16_str.specs.WStr.{wstr_text}
 use Rattle.utf16_str.proofs.JoinLemmas.{join-parts}
 use Rattle.utf16_str.proofs.PartWindows.{yields_parts}
 use Rattle.utf16_str.proofs.SplitLemmas.{text_runs}
-use Rattle.utf16_str.proofs.WithinLemmas.{Within, WithinAt, within-at}
+use Rattle.utf16_str.proofs.WithinLemmas.{Placed, placed-pairs, within-at}
 use Rattle.utf16_str.proofs.wstr.WStr.matches.Goals as goal
 
 pub returns-clause-bound : goal.returns-clause-bound
@@ -20,5 +20,6 @@ returns-clause-within g c =
     let part = g.P.Pattern.part c.args.pattern in
     let text = wstr_text c.args.self in
     let found = within-at part text (split_by part text) (sym (join-parts part false text)) in
-    yields_parts c.args.self _ (All-map (Within text) (λ at. at.1) _
-    (All-same (λ at. Within text at.1) _ _ c.match_indices.ensures.parts (All-weaker (λ at. WithinAt text at.0 at.1) (λ at. Within text at.1) (λ at w. w.0) _ found)))
+    yields_parts c.args.self _ _
+    (subst (λ (left : List (ℕ × List ℕ)). Placed text (map (λ at. at.0) (match_offsets part 0 (split_by part text))) (map (λ at. at.1) left))
+    (sym c.match_indices.ensures.parts) (placed-pairs text _ found))

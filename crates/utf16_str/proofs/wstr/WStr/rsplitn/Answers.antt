@@ -1,11 +1,13 @@
-use Rattle.std.proofs.Common.{true, option_map, ◌≡◌, sym, false, rules, ◌∙◌, ap}
-use Rattle.utf16_str.specs.Substrings.{rjoined_with, parts_left, rsplit_by}
+use Rattle.std.proofs.Common.{subst, true, option_map, ◌≡◌, sym, false, rules, ◌∙◌, ap}
+use Rattle.utf16_units.specs.Encoding.{size}
+use Rattle.utf16_str.specs.Matches.{limited}
+use Rattle.utf16_str.specs.Substrings.{YieldsPartsOf, roffsets_from, rjoined_with, parts_left, rsplit_by}
 use Rattle.utf16_str.specs.WStr.{wstr_text}
 use Rattle.utf16_str.proofs.MatchLemmas.{length-limited}
 use Rattle.utf16_str.proofs.SplitLemmas.{text_runs}
 use Rattle.utf16_str.proofs.PartWindows.{yields_parts}
 use Rattle.utf16_str.proofs.JoinLemmas.{join-rparts}
-use Rattle.utf16_str.proofs.WithinLemmas.{within-first}
+use Rattle.utf16_str.proofs.WithinLemmas.{placed-rfirst}
 use Rattle.utf16_str.proofs.wstr.WStr.rsplitn.Goals as goal
 
 pub returns-clause-bound : goal.returns-clause-bound
@@ -20,5 +22,9 @@ pub returns-clause-within : goal.returns-clause-within
 returns-clause-within g c =
     let text = wstr_text c.args.self in
     let part = g.P.Pattern.part c.new.result.pattern in
-    let made : parts_left true part c.new.result.begun (option_map wstr_text c.new.result.rest) ≡ rsplit_by part text = search rules in
-    yields_parts c.args.self _ (within-first true part text _ (sym (join-rparts part false text) ∙ ap (rjoined_with part) (sym made)) c.args.n)
+    let parts = parts_left true part c.new.result.begun (option_map wstr_text c.new.result.rest) in
+    let left = limited (rjoined_with part) c.args.n parts in
+    let made : parts ≡ rsplit_by part text = search rules in
+    let same : part ≡ g.P.Pattern.part c.args.delimiter = search rules in
+    subst (λ p. YieldsPartsOf c.args.self (roffsets_from (size p) (size text) left) left) same
+    (yields_parts c.args.self _ left (placed-rfirst part text parts (sym (ap (rjoined_with part) made ∙ join-rparts part false text)) c.args.n))

@@ -4,7 +4,8 @@ use Rattle.utf16_str.specs.WStr.{wstr_text}
 use Rattle.utf16_str.proofs.CountLemmas.{each_lacks}
 use Rattle.utf16_str.proofs.JoinLemmas.{join-parts}
 use Rattle.utf16_str.proofs.SplitLemmas.{text_runs, text_runs_back}
-use Rattle.utf16_str.proofs.PartWindows.{few_between, yields_between, yields_between_back}
+use Rattle.utf16_str.proofs.PartWindows.{few_between, yields_parts, yields_parts_back}
+use Rattle.utf16_str.proofs.WithinLemmas.{placed-parts}
 use Rattle.utf16_str.proofs.wstr.WStr.split.Goals as goal
 
 pub returns-clause-joined : goal.returns-clause-joined
@@ -29,7 +30,8 @@ pub returns-clause-runs_back : goal.returns-clause-runs_back
 returns-clause-runs_back g c = text_runs_back wstr_text
 
 pub returns-clause-within : goal.returns-clause-within
-returns-clause-within g c = yields_between c.args.self false (g.P.Pattern.part c.args.delimiter) _ (search rules)
+returns-clause-within g c = yields_parts c.args.self _ _ (placed-parts (g.P.Pattern.part c.args.delimiter) (wstr_text c.args.self) _ (sym (returns-clause-joined g c)))
 
 pub returns-clause-within_back : goal.returns-clause-within_back
-returns-clause-within_back g c = yields_between_back c.args.self false (g.P.Pattern.part c.args.delimiter) _ (search rules)
+returns-clause-within_back g c =
+    yields_parts_back c.args.self _ _ (placed-parts (g.P.Pattern.part c.args.delimiter) (wstr_text c.args.self) _ (sym (returns-clause-joined g c)))

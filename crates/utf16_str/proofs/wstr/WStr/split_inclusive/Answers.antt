@@ -5,7 +5,7 @@ use Rattle.utf16_str.proofs.MatchLemmas.{length-with}
 use Rattle.utf16_str.proofs.SplitLemmas.{text_runs}
 use Rattle.utf16_str.proofs.PartWindows.{few_between, yields_parts}
 use Rattle.utf16_str.proofs.JoinLemmas.{join-parts}
-use Rattle.utf16_str.proofs.WithinLemmas.{within-ended}
+use Rattle.utf16_str.proofs.WithinLemmas.{placed-ended}
 use Rattle.utf16_str.proofs.wstr.WStr.split_inclusive.Goals as goal
 
 pub returns-clause-bound : goal.returns-clause-bound
@@ -21,4 +21,4 @@ returns-clause-within g c =
     let text = wstr_text c.args.self in
     let part = g.P.Pattern.part c.new.result.pattern in
     let made : parts_left false part c.new.result.begun (option_map wstr_text c.new.result.rest) ≡ split_by part text = search rules in
-    yields_parts c.args.self _ (within-ended part text _ (sym (join-parts part false text) ∙ ap (joined_with part) (sym made)))
+    yields_parts c.args.self _ _ (placed-ended part text _ (sym (join-parts part false text) ∙ ap (joined_with part) (sym made)))

@@ -1,11 +1,11 @@
-use Rattle.std.proofs.Common.{◌≡◌, arith, false, option_map, rules, All, subst, sym}
-use Rattle.utf16_str.specs.Matches.{without_empty_last}
-use Rattle.utf16_str.specs.Substrings.{parts_left, split_by}
+use Rattle.std.proofs.Common.{◌≡◌, ◌∙◌, ap, arith, false, option_map, rules, sym}
+use Rattle.utf16_str.specs.Substrings.{joined_with, parts_left, split_by}
 use Rattle.utf16_str.specs.WStr.{wstr_text}
 use Rattle.utf16_str.proofs.MatchLemmas.{length-without}
 use Rattle.utf16_str.proofs.SplitLemmas.{text_runs}
+use Rattle.utf16_str.proofs.JoinLemmas.{join-parts}
 use Rattle.utf16_str.proofs.PartWindows.{few_between, yields_parts}
-use Rattle.utf16_str.proofs.WithinLemmas.{Within, all-without, within-toward}
+use Rattle.utf16_str.proofs.WithinLemmas.{placed-parts, placed-without}
 use Rattle.utf16_str.proofs.wstr.WStr.split_terminator.Goals as goal
 
 pub returns-clause-bound : goal.returns-clause-bound
@@ -21,4 +21,4 @@ returns-clause-within g c =
     let made : parts_left false (g.P.Pattern.part c.new.result.pattern) c.new.result.begun (option_map wstr_text c.new.result.rest) ≡ split_by (g.P.Pattern.part c.args.terminator) (wstr_text c.args.self) = search rules in
     let text = wstr_text c.args.self in
     let part = g.P.Pattern.part c.args.terminator in
-    yields_parts c.args.self _ (subst (λ parts. All (Within text) (without_empty_last parts)) (sym made) (all-without (Within text) (split_by part text) (within-toward false part text)))
+    yields_parts c.args.self _ _ (placed-without text _ 0 _ (placed-parts part text _ (sym (ap (joined_with part) made ∙ join-parts part false text))))

@@ -1,11 +1,13 @@
-use Rattle.std.proofs.Common.{option_map, ◌≡◌, sym, false, rules, ◌∙◌, ap}
-use Rattle.utf16_str.specs.Substrings.{joined_with, parts_left, split_by}
+use Rattle.std.proofs.Common.{subst, option_map, ◌≡◌, sym, false, rules, ◌∙◌, ap}
+use Rattle.utf16_units.specs.Encoding.{size}
+use Rattle.utf16_str.specs.Matches.{limited}
+use Rattle.utf16_str.specs.Substrings.{YieldsPartsOf, offsets_from, joined_with, parts_left, split_by}
 use Rattle.utf16_str.specs.WStr.{wstr_text}
 use Rattle.utf16_str.proofs.MatchLemmas.{length-limited}
 use Rattle.utf16_str.proofs.SplitLemmas.{text_runs}
 use Rattle.utf16_str.proofs.PartWindows.{yields_parts}
 use Rattle.utf16_str.proofs.JoinLemmas.{join-parts}
-use Rattle.utf16_str.proofs.WithinLemmas.{within-first}
+use Rattle.utf16_str.proofs.WithinLemmas.{placed-first}
 use Rattle.utf16_str.proofs.wstr.WStr.splitn.Goals as goal
 
 pub returns-clause-bound : goal.returns-clause-bound
@@ -20,5 +22,9 @@ pub returns-clause-within : goal.returns-clause-within
 returns-clause-within g c =
     let text = wstr_text c.args.self in
     let part = g.P.Pattern.part c.new.result.pattern in
-    let made : parts_left false part c.new.result.begun (option_map wstr_text c.new.result.rest) ≡ split_by part text = search rules in
-    yields_parts c.args.self _ (within-first false part text _ (sym (join-parts part false text) ∙ ap (joined_with part) (sym made)) c.args.n)
+    let parts = parts_left false part c.new.result.begun (option_map wstr_text c.new.result.rest) in
+    let left = limited (joined_with part) c.args.n parts in
+    let made : parts ≡ split_by part text = search rules in
+    let same : part ≡ g.P.Pattern.part c.args.delimiter = search rules in
+    subst (λ p. YieldsPartsOf c.args.self (offsets_from (size p) 0 left) left) same
+    (yields_parts c.args.self _ left (placed-first part text parts (sym (ap (joined_with part) made ∙ join-parts part false text)) c.args.n))
