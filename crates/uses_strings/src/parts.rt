@@ -6,7 +6,7 @@ ghost use Rattle.utf16_units.specs.Boundary.{IsBoundary, text_between, text_from
 ghost use Rattle.utf16_units.specs.Delimited.{Lacks};
 ghost use Rattle.utf16_units.specs.Encoding.{Encodes, size};
 ghost use Rattle.utf16string.specs.Offsets.{char_offsets};
-ghost use Rattle.utf16string.specs.Substrings.{LiesIn};
+ghost use Rattle.utf16string.specs.Substrings.{LieAt, offsets_from};
 ghost use Rattle.utf16string.specs.WStr.{wstr_bytes, wstr_text};
 ghost use Rattle.utf16string.specs.WString.{wstring_text};
 
@@ -160,7 +160,8 @@ pub fn fields<'a, E: Utf16Order, A: Allocator>(
 ) -> Result<Vec<WStr<'a, E>, A>, AllocError>
     ensures texts { IfOk result (λ fields.
         map wstr_text fields.items ≡ slice_split (λ c. c == 44) (wstr_text line.entry)) }
-    ensures within { IfOk result (λ fields. All (LiesIn line.entry) fields.items) }
+    ensures within { IfOk result (λ fields. LieAt line.entry (offsets_from 2 0
+        (slice_split (λ c. c == 44) (wstr_text line.entry))) fields.items) }
 {
     line.split(',').collect(alloc)
 }

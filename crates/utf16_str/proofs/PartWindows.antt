@@ -1,8 +1,9 @@
 -- Views of substrings of a text have the bytes at their offsets.
-use Rattle.std.proofs.Common.{◌≡◌, ℕ, ◌+◌, ◌-◌, ◌^◌, ◌<◌, Bool, false, true, All, List, [], ◌∷◌, ◌++◌, length, drop, reverse, take, Option, None, Some, refl, sym, ap, ◌∙◌, subst, arith, append_assoc, option_map, slice_index_or, IfSome}
+use Rattle.std.proofs.Common.{◌≡◌, ℕ, ◌+◌, ◌-◌, ◌^◌, ◌<◌, Bool, false, true, All, List, [], ◌∷◌, ◌++◌, length, drop, reverse, take, Option, Some, sym, ap, ◌∙◌, subst, arith, append_assoc}
 use Rattle.std.proofs.Math.Seq.{drop-append_seam, take-append_seam}
 use Rattle.std.proofs.iter.runs.Made.{took}
 use Rattle.std.proofs.lemmas.List.{reverse-append}
+use Rattle.std.proofs.lemmas.List.Elements.{All-cons, All-head, All-nil, All-tail}
 use Rattle.std.specs.Iterator.{Yields, YieldsFirstBy, YieldsLastBy}
 use Rattle.std.specs.Iterator.Runs.{EachRunFrom}
 use Rattle.utf16_units.specs.declared.byte_order.Utf16Order.{Ghosts}
@@ -11,12 +12,12 @@ use Rattle.utf16_units.specs.Encoding.{encode, is_utf16, size, text_of}
 use Rattle.utf16_units.proofs.EncodingLemmas.{IsUtf16-from_is_utf16, encode-append, encode-text_of, length-encode, size-append}
 use Rattle.utf16_units.proofs.PartLemmas.{IsBoundary-seam}
 use Rattle.utf16_str.specs.Matches.{YieldsPartsAt}
-use Rattle.utf16_str.specs.Substrings.{LieAt, LiesAt, LiesIn, YieldsPartsOf, YieldsPartsOfBack, parts_toward}
+use Rattle.utf16_str.specs.Substrings.{LieAt, LiesAt, YieldsPartsOf, YieldsPartsOfBack, parts_toward}
 use Rattle.utf16_str.specs.Window.{IsWindowOf, bytes_between}
 use Rattle.utf16_str.specs.WStr.{wstr_bytes, wstr_text}
 use Rattle.utf16_str.specs.declared.wstr.WStr.{WStr}
 use Rattle.utf16_str.proofs.CountLemmas.{count-toward}
-use Rattle.utf16_str.proofs.SplitLemmas.{few-parts, text_runs}
+use Rattle.utf16_str.proofs.SplitLemmas.{few-parts}
 use Rattle.utf16_str.proofs.WithinLemmas.{Placed, Within, WithinAt, placed-reverse}
 
 -- the bytes between two others
@@ -59,32 +60,21 @@ module _ (big : Bool) (bytes part : List ℕ) (t : is_utf16 big bytes ≡ true) 
     sym (ap (λ b. bytes_between b start end) whole ∙ middle (encode big w.0) part (encode big w.1) start (sym (length-encode big w.0))),
   )
 
--- what holds of an item that is there
-there : {A : Type 0} (Q : A → Type 0) (o : Option A) (x : A) → option_map (λ y. y) o ≡ Some x → IfSome o Q → Q x
-there Q None x is holds = absurd cc
-there Q (Some y) x is holds =
-    let same : y ≡ x = cc is in
-    subst Q same holds
-
 -- what follows for each item of a run from what holds of its model
-module _ {A B : Type 0} (v : A → B) (Q : B → Type 0) (P : A → Type 0) (each : (x : A) → Q (v x) → P x) (left : List B) (all : All Q left) where
-  from_model : (x : A) (k : ℕ) → k < length left → v x ≡ slice_index_or left k (v x) → P x
-  from_model x k below is = each x (subst Q (sym is) (all k (v x) below))
+module _ {A B : Type 0} (v : A → B) (Q : B → Type 0) (P : A → Type 0) (each : (x : A) → Q (v x) → P x) where
+  each_of : (xs : List A) (s t : List B) → Yields (YieldsFirstBy v (λ (rest : List B). rest)) s xs t → All Q s → All P xs
+  each_of [] s t y all = All-nil P
+  each_of (x ∷ xs) s t y all =
+      let here = subst (All Q) y.1 all in
+      All-cons P x xs (each x (All-head Q (v x) y.0 here)) (each_of xs y.0 t y.2 (All-tail Q (v x) y.0 here))
 
-  pub each_item : EachRunFrom (YieldsFirstBy v (λ (rest : List B). rest)) left (λ p. All P p.items)
-  each_item p seen from k d below =
-      let m = text_runs v p seen in
-      let x = slice_index_or p.items k d in
-      let same = there (λ y. v y ≡ slice_index_or p.from k (v y)) (p.at k) x (p.reads k d (omega (arith, below, p.long))) (m.8 k) in
-      from_model x k (omega (arith, below, p.long, m.0, ap length from)) (same ∙ ap (λ xs. slice_index_or xs k (v x)) from)
+  pub each_item : (left : List B) → All Q left → EachRunFrom (YieldsFirstBy v (λ (rest : List B). rest)) left (λ p. All P p.items)
+  each_item left all p seen from = each_of p.items p.from (took p).0 (took p).1 (subst (All Q) (sym from) all)
 
 module _ {E : Type 0} {order : Ghosts E} (whole : WStr E order) where
-  lies_at : (at : ℕ) (part : WStr E order) → WithinAt (wstr_text whole) at (wstr_text part) → LiesAt whole at part
+  pub lies_at : (at : ℕ) (part : WStr E order) → WithinAt (wstr_text whole) at (wstr_text part) → LiesAt whole at part
   lies_at at part w =
       subst (λ i. LiesAt whole i part) (sym w.1) (window_of order.BIG (wstr_bytes whole) (wstr_bytes part) whole.well_formed part.well_formed w.0)
-
-  pub lies_in : (part : WStr E order) → Within (wstr_text whole) (wstr_text part) → LiesIn whole part
-  lies_in part w = let found = lies_at (size w.0) part (w, refl) in ((size w.0, size w.0 + length (wstr_bytes part)), found.0, found.1)
 
   -- what is left shows the texts that come, the next one first
   module _ (steps : List (List ℕ) → Option (WStr E order) → List (List ℕ) → Type 0) (shown : List (List ℕ) → List (List ℕ))

@@ -1,71 +1,102 @@
--- The parts that a `WStrSplitWith` gives are in the text.
-use Rattle.std.proofs.Common.{◌≡◌, ◌∙◌, ℕ, All, Bool, List, [], ◌∷◌, ◌++◌, Option, None, Some, ap, append-nil, append_assoc, option_map, subst, sym}
+-- The parts that a `WStrSplitWith` gives are in the text, each at its offset.
+use Rattle.std.proofs.Common.{◌≡◌, ◌∙◌, ℕ, ◌+◌, ◌-◌, Bool, List, [], ◌∷◌, ◌++◌, Option, None, Some, ap, append-nil, append_assoc, arith, map, option_map, refl, reverse, subst, sym, take}
 use Rattle.std.proofs.iter.runs.Made.{took}
-use Rattle.std.proofs.lemmas.List.Elements.{All-cons, All-nil}
+use Rattle.std.proofs.lemmas.List.{reverse-append}
 use Rattle.std.specs.Iterator.{Yields}
 use Rattle.std.specs.Iterator.Runs.{EachRunFrom}
+use Rattle.utf16_units.specs.Boundary.{text_from, text_to}
+use Rattle.utf16_units.specs.Encoding.{size}
 use Rattle.utf16_units.specs.declared.byte_order.Utf16Order.{Ghosts}
+use Rattle.utf16_units.proofs.BoundaryLemmas.{text_from-at, text_to-at}
+use Rattle.utf16_units.proofs.EncodingLemmas.{size-append, size-nil}
 use Rattle.utf16_str.specs.Predicates.{GivesLastPart, GivesPart}
-use Rattle.utf16_str.specs.Substrings.{LiesIn}
-use Rattle.utf16_str.specs.SplitWith.{split_predicate, split_rest, split_steps, split_steps_back}
+use Rattle.utf16_str.specs.Substrings.{LieAt}
+use Rattle.utf16_str.specs.SplitWith.{rspaced_offsets, spaced_offsets, split_predicate, split_rest, split_steps, split_steps_back}
 use Rattle.utf16_str.specs.WStr.{wstr_text}
 use Rattle.utf16_str.specs.declared.split_with.WStrSplitWith.{WStrSplitWith}
 use Rattle.utf16_str.specs.declared.wstr.WStr.{WStr}
-use Rattle.utf16_str.proofs.PartWindows.{lies_in}
-use Rattle.utf16_str.proofs.WithinLemmas.{Within}
+use Rattle.utf16_str.proofs.PartWindows.{lies_at}
+use Rattle.utf16_str.proofs.WithinLemmas.{WithinAt}
 
--- what is left of a text is in it
-abbrev Left : List ℕ → Option (List ℕ) → Type 0
-Left text None = Unit {0}
-Left text (Some rest) = Within text rest
+module _ (text : List ℕ) where
+  -- what is left of a text is its end, from an offset on, or its start, up to an offset
+  abbrev LeftFrom : ℕ → Option (List ℕ) → Type 0
+  LeftFrom at None = Unit {0}
+  LeftFrom at (Some rest) = (front : List ℕ) × (text ≡ front ++ rest) × (at ≡ size front)
 
--- the text before a character and the text after it
-module _ (text rest front back : List ℕ) (c : ℕ) (w : Within text rest) (is : rest ≡ front ++ c ∷ back) where
-  within-front : Within text front
-  within-front = (w.0, (c ∷ back) ++ w.1, w.2 ∙ ap (λ t. w.0 ++ (t ++ w.1)) is ∙ ap (λ t. w.0 ++ t) (append_assoc front (c ∷ back) w.1))
+  abbrev LeftTo : ℕ → Option (List ℕ) → Type 0
+  LeftTo end None = Unit {0}
+  LeftTo end (Some rest) = (back : List ℕ) × (text ≡ rest ++ back) × (end ≡ size rest)
 
-  within-back : Within text back
-  within-back =
-      let past : front ++ c ∷ back ≡ (front ++ c ∷ []) ++ back = sym (append_assoc front (c ∷ []) back) in (
-        w.0 ++ (front ++ c ∷ []),
-        w.1,
-        w.2 ∙ ap (λ t. w.0 ++ (t ++ w.1)) (is ∙ past) ∙ ap (λ t. w.0 ++ t) (append_assoc (front ++ c ∷ []) back w.1) ∙ sym (append_assoc w.0 (front ++ c ∷ []) (back ++ w.1)),
-      )
+  -- the offset of the next part
+  abbrev next : ℕ → List ℕ → ℕ
+  next at part = at + size part + size (take 1 (text_from text (at + size part)))
 
-module _ (says : ℕ → Bool → Type 0) (text : List ℕ) where
-  next-within : (before : Option (List ℕ)) (part : List ℕ) (after : Option (List ℕ)) → GivesPart says before (Some part) after → Left text before → Within text part × Left text after
-  next-within None part after gives w = absurd (cc gives.0)
-  next-within (Some rest) part None gives w = (subst (Within text) (sym gives.0) w, tt)
-  next-within (Some rest) part (Some after) gives w =
-      (within-front text rest part after gives.delimiter w gives.split, within-back text rest part after gives.delimiter w gives.split)
+  -- the offset where the part before ends
+  abbrev previous : ℕ → List ℕ → ℕ
+  previous end part = end - size part - size (take 1 (reverse (text_to text (end - size part))))
 
-  last-within : (before : Option (List ℕ)) (part : List ℕ) (after : Option (List ℕ)) → GivesLastPart says before (Some part) after → Left text before → Within text part × Left text after
-  last-within None part after gives w = absurd (cc gives.0)
-  last-within (Some rest) part None gives w = (subst (Within text) (sym gives.0) w, tt)
-  last-within (Some rest) part (Some before) gives w =
-      (within-back text rest before part gives.delimiter w gives.split, within-front text rest before part gives.delimiter w gives.split)
+  module _ (says : ℕ → Bool → Type 0) where
+    step : (at : ℕ) (before : Option (List ℕ)) (part : List ℕ) (after : Option (List ℕ)) → GivesPart says before (Some part) after → LeftFrom at before
+        → WithinAt text at part × LeftFrom (next at part) after
+    step at None part after gives left = absurd (cc gives.0)
+    step at (Some rest) part None gives left =
+        (((left.0, [], left.1 ∙ ap (λ t. left.0 ++ t) (sym gives.0 ∙ sym (append-nil part))), left.2), tt)
+    step at (Some rest) part (Some after) gives left =
+        let c = gives.delimiter in
+        let front = left.0 ++ part in
+        let whole : text ≡ left.0 ++ (part ++ c ∷ after) = left.1 ∙ ap (λ t. left.0 ++ t) gives.split in
+        let seam : text ≡ front ++ c ∷ after = whole ∙ sym (append_assoc left.0 part (c ∷ after)) in
+        let here : at + size part ≡ size front = omega (arith, left.2, size-append left.0 part) in
+        let from : text_from text (at + size part) ≡ c ∷ after = ap (λ t. text_from t (at + size part)) seam ∙ text_from-at front (c ∷ after) (at + size part) (sym here) in
+        let past : next at part ≡ size (front ++ c ∷ []) = omega (arith, here, ap (λ t. size (take 1 t)) from, size-append front (c ∷ [])) in
+        (((left.0, c ∷ after, whole), left.2), (front ++ c ∷ [], seam ∙ sym (append_assoc front (c ∷ []) after), past))
 
-module _ {E F : Type 0} {order : Ghosts E} (whole : WStr E order) where
-  abbrev LeftOf : WStrSplitWith E F order → Type 0
-  LeftOf it = Left (wstr_text whole) (option_map wstr_text (split_rest it))
+    step_back : (end : ℕ) (before : Option (List ℕ)) (part : List ℕ) (after : Option (List ℕ)) → GivesLastPart says before (Some part) after → LeftTo end before
+        → WithinAt text (end - size part) part × LeftTo (previous end part) after
+    step_back end None part after gives left = absurd (cc gives.0)
+    step_back end (Some rest) part None gives left =
+        let start : end - size part ≡ size [] = omega (arith, left.2, ap size gives.0, size-nil) in
+        ((([], left.0, left.1 ∙ ap (λ t. t ++ left.0) (sym gives.0)), start), tt)
+    step_back end (Some rest) part (Some before) gives left =
+        let c = gives.delimiter in
+        let front = before ++ c ∷ [] in
+        let split : rest ≡ front ++ part = gives.split ∙ sym (append_assoc before (c ∷ []) part) in
+        let whole : text ≡ front ++ (part ++ left.0) = left.1 ∙ ap (λ t. t ++ left.0) split ∙ append_assoc front part left.0 in
+        let start : end - size part ≡ size front = omega (arith, left.2, ap size split, size-append front part) in
+        let to : text_to text (end - size part) ≡ front = ap (λ t. text_to t (end - size part)) whole ∙ text_to-at front (part ++ left.0) (end - size part) (sym start) in
+        let one : take 1 (reverse (text_to text (end - size part))) ≡ c ∷ [] = ap (λ t. take 1 (reverse t)) to ∙ ap (take 1) (reverse-append before (c ∷ [])) in
+        let past : previous end part ≡ size before = omega (arith, start, ap size one, size-append before (c ∷ [])) in
+        (((front, left.0, whole), start), (c ∷ (part ++ left.0), whole ∙ append_assoc before (c ∷ []) (part ++ left.0), past))
 
-  -- the same for either end, if each call gives a part of what was left
-  module _ (steps : WStrSplitWith E F order → Option (WStr E order) → WStrSplitWith E F order → Type 0)
-      (each : (s t : WStrSplitWith E F order) (x : WStr E order) → steps s (Some x) t → LeftOf s → Within (wstr_text whole) (wstr_text x) × LeftOf t) where
-    all_within : (xs : List (WStr E order)) (s t : WStrSplitWith E F order) → Yields steps s xs t → LeftOf s → All (LiesIn whole) xs
-    all_within [] s t y w = All-nil (LiesIn whole)
-    all_within (x ∷ xs) s t y w =
-        let one = each s y.0 x y.1 w in
-        All-cons (LiesIn whole) x xs (lies_in whole x one.0) (all_within xs y.0 t y.2 one.1)
+module _ {E F : Type 0} {order : Ghosts E} (whole : WStr E order) (post : F → ℕ → Bool → Type 0) where
+  abbrev text : List ℕ
+  text = wstr_text whole
 
-    run_within : (s : WStrSplitWith E F order) → split_rest s ≡ Some whole → EachRunFrom steps s (λ p. All (LiesIn whole) p.items)
-    run_within s is p seen from =
-        let start : split_rest p.from ≡ Some whole = ap split_rest from ∙ is in
-        all_within p.items p.from (took p).0 (took p).1 (subst (λ o. Left (wstr_text whole) (option_map wstr_text o)) (sym start) ([], [], sym (append-nil (wstr_text whole))))
+  abbrev left : WStrSplitWith E F order → Option (List ℕ)
+  left it = option_map wstr_text (split_rest it)
 
-  module _ (post : F → ℕ → Bool → Type 0) (s : WStrSplitWith E F order) (is : split_rest s ≡ Some whole) where
-    pub gives_within : EachRunFrom (split_steps post) s (λ p. All (LiesIn whole) p.items)
-    gives_within = run_within (split_steps post) (λ s t x gives w. next-within (post (split_predicate s)) (wstr_text whole) _ _ _ gives.0 w) s is
+  lie : (at : ℕ) (xs : List (WStr E order)) (s t : WStrSplitWith E F order) → Yields (split_steps post) s xs t → LeftFrom text at (left s)
+      → LieAt whole (spaced_offsets text at (map wstr_text xs)) xs
+  lie at [] s t y from = tt
+  lie at (x ∷ xs) s t y from =
+      let one = step text (post (split_predicate s)) at (left s) (wstr_text x) (left y.0) y.1.0 from in
+      (lies_at whole at x one.0, lie (next text at (wstr_text x)) xs y.0 t y.2 one.1)
 
-    pub gives_within_back : EachRunFrom (split_steps_back post) s (λ p. All (LiesIn whole) p.items)
-    gives_within_back = run_within (split_steps_back post) (λ s t x gives w. last-within (post (split_predicate s)) (wstr_text whole) _ _ _ gives.0 w) s is
+  lie_back : (end : ℕ) (xs : List (WStr E order)) (s t : WStrSplitWith E F order) → Yields (split_steps_back post) s xs t → LeftTo text end (left s)
+      → LieAt whole (rspaced_offsets text end (map wstr_text xs)) xs
+  lie_back end [] s t y to = tt
+  lie_back end (x ∷ xs) s t y to =
+      let one = step_back text (post (split_predicate s)) end (left s) (wstr_text x) (left y.0) y.1.0 to in
+      (lies_at whole (end - size (wstr_text x)) x one.0, lie_back (previous text end (wstr_text x)) xs y.0 t y.2 one.1)
+
+  module _ (s : WStrSplitWith E F order) (is : split_rest s ≡ Some whole) where
+    pub gives_within : EachRunFrom (split_steps post) s (λ p. LieAt whole (spaced_offsets text 0 (map wstr_text p.items)) p.items)
+    gives_within p seen from =
+        let start = ap left from ∙ ap (option_map wstr_text) is in
+        lie 0 p.items p.from (took p).0 (took p).1 (subst (LeftFrom text 0) (sym start) ([], refl, sym size-nil))
+
+    pub gives_within_back : EachRunFrom (split_steps_back post) s (λ p. LieAt whole (rspaced_offsets text (size text) (map wstr_text p.items)) p.items)
+    gives_within_back p seen from =
+        let start = ap left from ∙ ap (option_map wstr_text) is in
+        lie_back (size text) p.items p.from (took p).0 (took p).1 (subst (LeftTo text (size text)) (sym start) ([], sym (append-nil text), refl))

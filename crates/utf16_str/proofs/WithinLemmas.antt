@@ -119,9 +119,9 @@ words-in p whole done (c ∷ text) at is here =
     let rest = words-in p whole (done ++ c ∷ []) text (at + char_size c) (is ∙ sym (append_assoc done (c ∷ []) text)) next in
     subst (λ inside. Words whole (c ∷ text) inside (words_at p true at (c ∷ text)) (slice_split p (c ∷ text))) (inside-step (p c))
     (words-step whole done c text (words_at p false (at + char_size c) text) (words_at p true (at + char_size c) text) (slice_split p text) at (p c) is here rest) where
-  inside-step : (cut : Bool) → cond cut (words_at p true (at + char_size c) text) (words_at p false (at + char_size c) text) ≡ words_at p cut (at + char_size c) text
-  inside-step true = refl
-  inside-step false = refl
+      inside-step : (cut : Bool) → cond cut (words_at p true (at + char_size c) text) (words_at p false (at + char_size c) text) ≡ words_at p cut (at + char_size c) text
+      inside-step true = refl
+      inside-step false = refl
 
 pub placed-words : (p : ℕ → Bool) (text : List ℕ) → Placed text (word_offsets p text) (words_by p text)
 placed-words p text =

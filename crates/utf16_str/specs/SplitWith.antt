@@ -1,7 +1,9 @@
 -- The parts that a `WStrSplitWith` gives.
-use Rattle.std.specs.Prelude.{◌≡◌, ℕ, ◌+◌, Bool, true, List, Option, None, Some, length, map, option_map, reverse}
+use Rattle.std.specs.Prelude.{◌≡◌, ℕ, ◌+◌, ◌-◌, Bool, true, List, [], ◌∷◌, Option, None, Some, length, map, option_map, reverse, take}
 use Rattle.std.specs.Iterator.Runs.{ItemsMapTo, ItemsMapToReversed, Run}
 use Rattle.std.specs.List.{slice_split}
+use Rattle.utf16_units.specs.Boundary.{text_from, text_to}
+use Rattle.utf16_units.specs.Encoding.{size}
 use Rattle.utf16_units.specs.declared.byte_order.Utf16Order.{Ghosts}
 use Rattle.utf16_str.specs.Predicates.{AnswersBy, GivesLastPart, GivesPart}
 use Rattle.utf16_str.specs.WStr.{wstr_text}
@@ -12,6 +14,17 @@ use Rattle.utf16_str.specs.declared.wstr.WStr.{WStr}
 abbrev pub most_parts : Option (List ℕ) → ℕ
 most_parts None = 0
 most_parts (Some text) = length text + 1
+
+-- the offsets in bytes of substrings of a text with one of its characters between each two, if the
+-- first one is at `at`
+abbrev pub spaced_offsets : List ℕ → ℕ → List (List ℕ) → List ℕ
+spaced_offsets text at [] = []
+spaced_offsets text at (part ∷ parts) = at ∷ spaced_offsets text (at + size part + size (take 1 (text_from text (at + size part)))) parts
+
+-- the same, if the substrings come from the end and the first one ends at `end`
+abbrev pub rspaced_offsets : List ℕ → ℕ → List (List ℕ) → List ℕ
+rspaced_offsets text end [] = []
+rspaced_offsets text end (part ∷ parts) = (end - size part) ∷ rspaced_offsets text (end - size part - size (take 1 (reverse (text_to text (end - size part))))) parts
 
 module _ {E F : Type 0} {order : Ghosts E} where
   -- the view that is left, or `None` after the last part

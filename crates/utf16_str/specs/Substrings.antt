@@ -155,11 +155,6 @@ LiesAt whole at part =
     IsWindowOf (wstr_text whole) (Some (at, at + length (wstr_bytes part)))
     × (wstr_bytes part ≡ window_bytes (wstr_bytes whole) (Some (at, at + length (wstr_bytes part))))
 
--- the bytes of a part are those in a window of a view
-abbrev pub LiesIn : {E : Type 0} {order : Ghosts E} → WStr E order → WStr E order → Type 0
-LiesIn whole part =
-    (window : ℕ × ℕ) × IsWindowOf (wstr_text whole) (Some window) × (wstr_bytes part ≡ window_bytes (wstr_bytes whole) (Some window))
-
 -- the parts lie at these offsets, the first at the first
 abbrev pub LieAt : {E : Type 0} {order : Ghosts E} → WStr E order → List ℕ → List (WStr E order) → Type 0
 LieAt whole offsets [] = ⊤

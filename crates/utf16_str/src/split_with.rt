@@ -1,14 +1,14 @@
 //! The substrings of a text between the characters for which a predicate is true.
 
-ghost use Rattle.std.specs.Prelude.{◌≡◌, ◌++◌, ◌∷◌, ◌<◌, ◌^◌, All, List, MatchOption, Some, false, option_map, ℕ};
+ghost use Rattle.std.specs.Prelude.{◌≡◌, ◌++◌, ◌∷◌, ◌<◌, ◌^◌, List, MatchOption, Some, false, map, option_map, ℕ};
 ghost use Rattle.std.specs.Iterator.{at_most};
 ghost use Rattle.std.specs.Iterator.Runs.{EachRunFrom};
 ghost use Rattle.utf16_units.specs.Boundary.{IsBoundary};
 ghost use Rattle.utf16_units.specs.Encoding.{size};
 ghost use Rattle.utf16_str.specs.WStr.{wstr_text};
 ghost use Rattle.utf16_str.specs.Predicates.{IsCutWith, IsLastCutWith, SaysOfEach};
-ghost use Rattle.utf16_str.specs.Substrings.{LiesIn};
-ghost use Rattle.utf16_str.specs.SplitWith.{SplitsText, SplitsTextBack, most_parts, split_predicate, split_rest, split_steps, split_steps_back};
+ghost use Rattle.utf16_str.specs.Substrings.{LieAt};
+ghost use Rattle.utf16_str.specs.SplitWith.{SplitsText, SplitsTextBack, most_parts, rspaced_offsets, spaced_offsets, split_predicate, split_rest, split_steps, split_steps_back};
 
 use crate::WStr;
 use utf16_units::Utf16Order;
@@ -89,9 +89,11 @@ impl<'a, E: Utf16Order> WStr<'a, E> {
         ensures runs_back { EachRunFrom (split_steps_back F.post) result
             (λ p. SplitsTextBack p wstr_text (F.post predicate) (wstr_text self.entry)) }
         ensures within { EachRunFrom (split_steps F.post) result
-            (λ p. All (LiesIn self.entry) p.items) }
+            (λ p. LieAt self.entry (spaced_offsets (wstr_text self.entry) 0
+            (map wstr_text p.items)) p.items) }
         ensures within_back { EachRunFrom (split_steps_back F.post) result
-            (λ p. All (LiesIn self.entry) p.items) }
+            (λ p. LieAt self.entry (rspaced_offsets (wstr_text self.entry)
+            (size (wstr_text self.entry)) (map wstr_text p.items)) p.items) }
     {
         WStrSplitWith {
             rest: Some(self),

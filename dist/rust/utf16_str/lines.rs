@@ -60,8 +60,9 @@ impl<'a, E: Utf16Order> WStr<'a, E> {
     /// - ensures bound: `length result < 2 ^ 64`
     /// - ensures runs: `YieldsTexts self.entry`
     /// - ensures runs_back: `YieldsTextsBack self.entry`
-    /// - ensures within: `YieldsPartsOf self.entry result`
-    /// - ensures within_back: `YieldsPartsOfBack self.entry result`
+    /// - ensures within: `YieldsPartsOf self.entry (line_offsets (wstr_text self.entry)) result`
+    /// - ensures within_back: `YieldsPartsOfBack self.entry (line_offsets (wstr_text self.entry))
+    ///   result`
     pub fn lines(self) -> WStrLines<'a, E> {
         WStrLines { rest: Some(self) }
     }

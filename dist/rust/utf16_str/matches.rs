@@ -113,7 +113,8 @@ impl<'a, E: Utf16Order> WStr<'a, E> {
     ///   (P.part pattern) (wstr_text self.entry)))`
     /// - ensures bound: `length result < 2 ^ 64`
     /// - ensures runs: `YieldsTexts self.entry`
-    /// - ensures within: `YieldsPartsOf self.entry result`
+    /// - ensures within: `YieldsPartsOf self.entry (map (λ at. at.0) (match_offsets (P.part
+    ///   pattern) 0 (split_by (P.part pattern) (wstr_text self.entry)))) result`
     pub fn matches<P: Pattern<E>>(self, pattern: P) -> WStrMatches<'a, E, P> {
         WStrMatches {
             indices: self.match_indices(pattern),

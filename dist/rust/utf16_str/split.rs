@@ -66,8 +66,10 @@ impl<'a, E: Utf16Order> WStr<'a, E> {
     /// - ensures bound: `length result < 2 ^ 64`
     /// - ensures runs: `YieldsTexts self.entry`
     /// - ensures runs_back: `YieldsTextsBack self.entry`
-    /// - ensures within: `YieldsPartsOf self.entry result`
-    /// - ensures within_back: `YieldsPartsOfBack self.entry result`
+    /// - ensures within: `YieldsPartsOf self.entry (offsets_from (size (P.part delimiter)) 0
+    ///   result) result`
+    /// - ensures within_back: `YieldsPartsOfBack self.entry (offsets_from (size (P.part delimiter))
+    ///   0 result) result`
     pub fn split<P: Pattern<E>>(self, delimiter: P) -> WStrSplit<'a, E, P> {
         WStrParts {
             left: Remaining::new(self, delimiter),
@@ -91,7 +93,8 @@ impl<'a, E: Utf16Order> WStr<'a, E> {
     /// - ensures parts: `result ≡ rsplit_by (P.part delimiter) (wstr_text self.entry)`
     /// - ensures bound: `length result < 2 ^ 64`
     /// - ensures runs: `YieldsTexts self.entry`
-    /// - ensures within: `YieldsPartsOf self.entry result`
+    /// - ensures within: `YieldsPartsOf self.entry (roffsets_from (size (P.part delimiter)) (size
+    ///   (wstr_text self.entry)) result) result`
     pub fn rsplit<P: Pattern<E>>(self, delimiter: P) -> WStrRSplit<'a, E, P> {
         WStrParts {
             left: Remaining::new(self, delimiter),

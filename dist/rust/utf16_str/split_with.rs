@@ -71,10 +71,11 @@ impl<'a, E: Utf16Order> WStr<'a, E> {
     ///   (F.post predicate) (wstr_text self.entry))`
     /// - ensures runs_back: `EachRunFrom (split_steps_back F.post) result (λ p. SplitsTextBack p
     ///   wstr_text (F.post predicate) (wstr_text self.entry))`
-    /// - ensures within: `EachRunFrom (split_steps F.post) result (λ p. All (LiesIn self.entry)
-    ///   p.items)`
-    /// - ensures within_back: `EachRunFrom (split_steps_back F.post) result (λ p. All (LiesIn
-    ///   self.entry) p.items)`
+    /// - ensures within: `EachRunFrom (split_steps F.post) result (λ p. LieAt self.entry
+    ///   (spaced_offsets (wstr_text self.entry) 0 (map wstr_text p.items)) p.items)`
+    /// - ensures within_back: `EachRunFrom (split_steps_back F.post) result (λ p. LieAt self.entry
+    ///   (rspaced_offsets (wstr_text self.entry) (size (wstr_text self.entry)) (map wstr_text
+    ///   p.items)) p.items)`
     #[inline]
     pub fn split_with<F: Fn(char) -> bool>(self, predicate: F) -> WStrSplitWith<'a, E, F> {
         WStrSplitWith {

@@ -60,7 +60,8 @@ impl<'a, E: Utf16Order> WStr<'a, E> {
     ///   delimiter) (wstr_text self.entry))`
     /// - ensures bound: `length result ≤ n`
     /// - ensures runs: `YieldsTexts self.entry`
-    /// - ensures within: `YieldsPartsOf self.entry result`
+    /// - ensures within: `YieldsPartsOf self.entry (offsets_from (size (P.part delimiter)) 0
+    ///   result) result`
     pub fn splitn<P: Pattern<E>>(self, n: usize, delimiter: P) -> WStrSplitN<'a, E, P> {
         WStrPartsN {
             left: Remaining::new(self, delimiter),
@@ -86,7 +87,8 @@ impl<'a, E: Utf16Order> WStr<'a, E> {
     ///   delimiter) (wstr_text self.entry))`
     /// - ensures bound: `length result ≤ n`
     /// - ensures runs: `YieldsTexts self.entry`
-    /// - ensures within: `YieldsPartsOf self.entry result`
+    /// - ensures within: `YieldsPartsOf self.entry (roffsets_from (size (P.part delimiter)) (size
+    ///   (wstr_text self.entry)) result) result`
     pub fn rsplitn<P: Pattern<E>>(self, n: usize, delimiter: P) -> WStrRSplitN<'a, E, P> {
         WStrPartsN {
             left: Remaining::new(self, delimiter),

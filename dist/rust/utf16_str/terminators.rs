@@ -66,7 +66,8 @@ impl<'a, E: Utf16Order> WStr<'a, E> {
     ///   self.entry))`
     /// - ensures bound: `length result < 2 ^ 64`
     /// - ensures runs: `YieldsTexts self.entry`
-    /// - ensures within: `YieldsPartsOf self.entry result`
+    /// - ensures within: `YieldsPartsOf self.entry (offsets_from (size (P.part terminator)) 0
+    ///   result) result`
     pub fn split_terminator<P: Pattern<E>>(self, terminator: P) -> WStrSplitTerminator<'a, E, P> {
         WStrSplitTerminator {
             left: Remaining::new(self, terminator),
@@ -90,7 +91,7 @@ impl<'a, E: Utf16Order> WStr<'a, E> {
     ///   terminator) (wstr_text self.entry))`
     /// - ensures bound: `length result < 2 ^ 64`
     /// - ensures runs: `YieldsTexts self.entry`
-    /// - ensures within: `YieldsPartsOf self.entry result`
+    /// - ensures within: `YieldsPartsOf self.entry (offsets_from 0 0 result) result`
     pub fn split_inclusive<P: Pattern<E>>(self, terminator: P) -> WStrSplitInclusive<'a, E, P> {
         WStrSplitInclusive {
             left: Remaining::new(self, terminator),

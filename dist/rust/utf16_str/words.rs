@@ -96,8 +96,10 @@ impl<'a, E: Utf16Order> WStr<'a, E> {
     /// - ensures bound: `length result < 2 ^ 64`
     /// - ensures runs: `YieldsTexts self.entry`
     /// - ensures runs_back: `YieldsTextsBack self.entry`
-    /// - ensures within: `YieldsPartsOf self.entry result`
-    /// - ensures within_back: `YieldsPartsOfBack self.entry result`
+    /// - ensures within: `YieldsPartsOf self.entry (word_offsets is_whitespace (wstr_text
+    ///   self.entry)) result`
+    /// - ensures within_back: `YieldsPartsOfBack self.entry (word_offsets is_whitespace (wstr_text
+    ///   self.entry)) result`
     pub fn split_whitespace(self) -> WStrSplitWhitespace<'a, E> {
         self.words()
     }
@@ -119,8 +121,10 @@ impl<'a, E: Utf16Order> WStr<'a, E> {
     /// - ensures bound: `length result < 2 ^ 64`
     /// - ensures runs: `YieldsTexts self.entry`
     /// - ensures runs_back: `YieldsTextsBack self.entry`
-    /// - ensures within: `YieldsPartsOf self.entry result`
-    /// - ensures within_back: `YieldsPartsOfBack self.entry result`
+    /// - ensures within: `YieldsPartsOf self.entry (word_offsets is_ascii_whitespace (wstr_text
+    ///   self.entry)) result`
+    /// - ensures within_back: `YieldsPartsOfBack self.entry (word_offsets is_ascii_whitespace
+    ///   (wstr_text self.entry)) result`
     #[inline]
     pub fn split_ascii_whitespace(self) -> WStrSplitAsciiWhitespace<'a, E> {
         self.words()
@@ -132,8 +136,10 @@ impl<'a, E: Utf16Order> WStr<'a, E> {
     // - ensures bound: `length result < 2 ^ 64`
     // - ensures runs: `YieldsTexts self.entry`
     // - ensures runs_back: `YieldsTextsBack self.entry`
-    // - ensures within: `YieldsPartsOf self.entry result`
-    // - ensures within_back: `YieldsPartsOfBack self.entry result`
+    // - ensures within: `YieldsPartsOf self.entry (word_offsets S.is_space (wstr_text self.entry))
+    //   result`
+    // - ensures within_back: `YieldsPartsOfBack self.entry (word_offsets S.is_space (wstr_text
+    //   self.entry)) result`
     #[inline]
     fn words<S: Space>(self) -> WStrWords<'a, E, S> {
         WStrWords {
