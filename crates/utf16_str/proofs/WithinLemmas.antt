@@ -117,11 +117,7 @@ words-in p whole done [] at is here = record { first = []; rest = []; back = [];
 words-in p whole done (c ∷ text) at is here =
     let next : at + char_size c ≡ size (done ++ c ∷ []) = omega (arith, here, size-append done (c ∷ []), size-cons c [], size-nil) in
     let rest = words-in p whole (done ++ c ∷ []) text (at + char_size c) (is ∙ sym (append_assoc done (c ∷ []) text)) next in
-    subst (λ inside. Words whole (c ∷ text) inside (words_at p true at (c ∷ text)) (slice_split p (c ∷ text))) (inside-step (p c))
-    (words-step whole done c text (words_at p false (at + char_size c) text) (words_at p true (at + char_size c) text) (slice_split p text) at (p c) is here rest) where
-      inside-step : (cut : Bool) → cond cut (words_at p true (at + char_size c) text) (words_at p false (at + char_size c) text) ≡ words_at p cut (at + char_size c) text
-      inside-step true = refl
-      inside-step false = refl
+    words-step whole done c text (words_at p false (at + char_size c) text) (words_at p true (at + char_size c) text) (slice_split p text) at (p c) is here rest
 
 pub placed-words : (p : ℕ → Bool) (text : List ℕ) → Placed text (word_offsets p text) (words_by p text)
 placed-words p text =
@@ -159,7 +155,7 @@ module _ {back : Bool} {part : List ℕ} {join : List (List ℕ) → List ℕ} (
   join-limited (suc (suc n)) (p ∷ q ∷ parts) =
       j.more p q (limited join (suc n) parts) ∙ ap (λ t. in_order back p (in_order back part t)) (join-limited (suc n) (q ∷ parts)) ∙ sym (j.more p q parts)
 
--- ---- those with the part, and where the part is
+-- ---- where they are, where those with the part are, and where the part is
 module _ (part text : List ℕ) where
   past : (at : ℕ) (done p : List ℕ) → at ≡ size done → at + size p + size part ≡ size ((done ++ p) ++ part)
   past at done p here = omega (arith, here, size-append (done ++ p) part, size-append done p)

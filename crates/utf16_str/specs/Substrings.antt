@@ -118,12 +118,12 @@ lines_left (Some rest) = lines rest
 abbrev pub words_by : (ℕ → Bool) → List ℕ → List (List ℕ)
 words_by p text = filter (λ word. nat_lt 0 (length word)) (slice_split p text)
 
--- the offsets of their first characters, if the text is at `at`. `between` says whether the text
--- does not go on with a substring that began before it
+-- their offsets in bytes, if the text is at `at`. Each begins at a character that fails the test and
+-- is the first or follows one that passes it: `between` is false inside a substring
 abbrev pub words_at : (ℕ → Bool) → Bool → ℕ → List ℕ → List ℕ
 words_at p between at [] = []
 words_at p true at (c ∷ text) = if p c then words_at p true (at + char_size c) text else at ∷ words_at p false (at + char_size c) text
-words_at p false at (c ∷ text) = words_at p (p c) (at + char_size c) text
+words_at p false at (c ∷ text) = if p c then words_at p true (at + char_size c) text else words_at p false (at + char_size c) text
 
 -- the offsets of the substrings that `words_by` gives
 abbrev pub word_offsets : (ℕ → Bool) → List ℕ → List ℕ
