@@ -1,13 +1,10 @@
-//! How much memory `feed` requests, for chunks of 0 to 64 code units and for one of 100,000, and
-//! what `Debug` writes for the types of streams.
+//! How much memory `feed` requests, for chunks of 0 to 64 code units and for one of 100,000.
 
 use crate::checks::{equal, holds};
 use std::alloc::{AllocError, Global};
-use std::fmt::Debug;
 use std::process::Abort;
 use tests_support::refusing::Refusing;
-use utf16_tools::{AnyLossy, DeviceFault, FilterFault, Lossy};
-use utf16_transcode::{Progress, Stop, Stream};
+use utf16_tools::{AnyLossy, Lossy};
 use utf16string::{BE, LE, Utf16Order};
 
 type Heap<'a> = &'a Refusing<Global>;
@@ -100,38 +97,4 @@ fn of_each_length<E: Utf16Order>(rt: &(impl Abort + AllocGlobal)) {
 fn feed_requests_three_bytes_a_unit(rt: HostRuntime) {
     of_each_length::<LE>(&rt);
     of_each_length::<BE>(&rt);
-}
-
-fn shows<T: Debug>(rt: &(impl Abort + AllocGlobal), value: &T, wanted: &str) {
-    let text = format!(in rt.alloc(); "{value:?}").expect(rt, "memory");
-    equal(rt, text.as_str(), wanted);
-}
-
-// A bug that no clause excludes: `Debug` leaves out a field, or writes the name of another error.
-#[test]
-fn debug_shows_errors_and_progress(rt: HostRuntime) {
-    shows(&rt, &FilterFault::Read, "Read");
-    shows(&rt, &FilterFault::Write, "Write");
-    shows(&rt, &FilterFault::Memory, "Memory");
-    shows(&rt, &FilterFault::Long, "Long");
-    shows(&rt, &DeviceFault, "DeviceFault");
-    shows(&rt, &Stop::Done, "Done");
-    shows(&rt, &Stop::IllFormed(2), "IllFormed(2)");
-    shows(&rt, &Stop::Incomplete, "Incomplete");
-    let (read, written, stop) = (4, 3, Stop::NoSpace);
-    shows(
-        &rt,
-        &Progress {
-            read,
-            written,
-            stop,
-        },
-        "Progress { read: 4, written: 3, stop: NoSpace }",
-    );
-    let (bytes, len) = ([0x3D, 0xD8, 0], 2);
-    shows(
-        &rt,
-        &Stream { bytes, len },
-        "Stream { bytes: [61, 216, 0], len: 2 }",
-    );
 }
