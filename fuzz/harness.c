@@ -1,7 +1,5 @@
 /* Calls libdethrux on inputs and compares what it returns with a reference decoder.
  *
- *   harness                         reads one input on standard input
- *   harness FILE..                  reads each file as one input
  *   harness --hex DIGITS            reads one input from hexadecimal digits
  *   harness --random SEED SECONDS   makes inputs; the last line is 'N passed, M failed'
  *
@@ -30,16 +28,12 @@ static struct {
     sigjmp_buf after;
 } current;
 
-static void print_difference(const char *what) {
+_Noreturn void report_difference(const char *what) {
     fprintf(stderr, "%s: %s\n  reproduce: fuzz/%s --hex ", current.check, what, program);
     for (size_t i = 0; i < current.len; i++) {
         fprintf(stderr, "%02X", current.bytes[i]);
     }
     fputc('\n', stderr);
-}
-
-_Noreturn void report_difference(const char *what) {
-    print_difference(what);
     if (current.resumes) {
         siglongjmp(current.after, 1);
     }
@@ -76,9 +70,7 @@ static void run_checks(const uint8_t *bytes, size_t len, bool failed[]) {
         if (failed != NULL && failed[i]) {
             continue;
         }
-        if (failed == NULL) {
-            CHECKS[i].run();
-        } else if (sigsetjmp(current.after, 1) == 0) {
+        if (failed == NULL || sigsetjmp(current.after, 1) == 0) {
             CHECKS[i].run();
         } else {
             failed[i] = true;
@@ -106,25 +98,6 @@ static int run_random(uint64_t seed, time_t seconds) {
     return failures != 0;
 }
 
-static int run_file(FILE *file) {
-    static uint8_t bytes[INPUT_MAX];
-    run_checks(bytes, fread(bytes, 1, sizeof bytes, file), NULL);
-    return 0;
-}
-
-static int run_files(char **names) {
-    for (; *names != NULL; names++) {
-        FILE *file = fopen(*names, "rb");
-        if (file == NULL) {
-            perror(*names);
-            return 2;
-        }
-        run_file(file);
-        fclose(file);
-    }
-    return 0;
-}
-
 static int run_hex(const char *digits) {
     static uint8_t bytes[INPUT_MAX];
     size_t len = strlen(digits);
@@ -145,14 +118,12 @@ int main(int argc, char **argv) {
     program = argv[0];
     guarded_init();
     catch_faults();
-    if (argc == 1) {
-        return run_file(stdin);
-    }
     if (argc == 3 && strcmp(argv[1], "--hex") == 0) {
         return run_hex(argv[2]);
     }
     if (argc == 4 && strcmp(argv[1], "--random") == 0) {
         return run_random(strtoull(argv[2], NULL, 0), (time_t)strtoull(argv[3], NULL, 0));
     }
-    return run_files(argv + 1);
+    fprintf(stderr, "usage: %s --hex DIGITS | --random SEED SECONDS\n", program);
+    return 2;
 }

@@ -73,26 +73,9 @@ static const uint32_t LIMITS[] = {0x00,    0x7F,    0x80,    0xFF,    0x7FF,  0x
 /* Every kind of ill-formed UTF-8 (the Unicode Standard, 3.9, Table 3-7): bytes that begin no
  * character, forms that are too long, surrogates, values above 10FFFF, and truncated characters. */
 static const char *const ILL_FORMED_UTF8[] = {
-    "\x80",
-    "\xBF",
-    "\xC0\x80",
-    "\xC1\xBF",
-    "\xE0\x80\x80",
-    "\xE0\x9F\xBF",
-    "\xED\xA0\x80",
-    "\xED\xBF\xBF",
-    "\xF0\x80\x80\x80",
-    "\xF0\x8F\xBF\xBF",
-    "\xF4\x90\x80\x80",
-    "\xF5\x80\x80\x80",
-    "\xF8\x88\x80\x80\x80",
-    "\xFE",
-    "\xFF",
-    "\xC3",
-    "\xE2\x98",
-    "\xE2",
-    "\xF0\x9F\x98",
-    "\xF0\x9F",
+    "\x80", "\xBF", "\xC0\x80", "\xC1\xBF", "\xE0\x80\x80", "\xE0\x9F\xBF", "\xED\xA0\x80",
+    "\xED\xBF\xBF", "\xF0\x80\x80\x80", "\xF0\x8F\xBF\xBF", "\xF4\x90\x80\x80", "\xF5\x80\x80\x80",
+    "\xF8\x88\x80\x80\x80", "\xFE", "\xFF", "\xC3", "\xE2\x98", "\xE2", "\xF0\x9F\x98", "\xF0\x9F",
     "\xF0",
 };
 

@@ -15,8 +15,7 @@ compiler=gcc
 # What starts a program, and how many seconds suffice for the planted versions.
 start=()
 planting=10
-planted=(dethrux_from_utf8_len dethrux_from_utf8_lossy dethrux_to_utf8 dethrux_encoder_feed
-    dethrux_validate)
+mapfile -t planted < <(sed -n 's/^PLANTED(\(.*\));/dethrux_\1/p' planted.c)
 
 refuse() {
     echo "fuzz/run.sh: $1" >&2
