@@ -1,9 +1,11 @@
-//! The calls of `utf16_streams`, and the check of `utf16_program`, as cases name them.
+//! The calls of `utf16_streams`, and the check and the words of `utf16_program`, as cases name
+//! them.
 mod chunkings;
 mod devices;
 mod fed;
 mod filtered;
 mod sweeps;
+mod words;
 
 use crate::streams::filtered::FilterCall;
 use tests_support::Run;
@@ -29,6 +31,7 @@ pub fn call<E: Utf16Order>(run: &mut Run, name: &str) -> bool {
         "filter_each_read" => sweeps::each_call::<E>(run, FilterCall::Decode, true),
         "filter_each_write" => sweeps::each_call::<E>(run, FilterCall::Decode, false),
         "check_each_read" => sweeps::each_call::<E>(run, FilterCall::Check, true),
+        "Program::job" => words::job(run),
         "check_each_write" => sweeps::each_call::<E>(run, FilterCall::Check, false),
         _ => return false,
     }
