@@ -10,7 +10,7 @@ set -uo pipefail
 . "$(dirname "$0")/checks.sh"
 tools=(aarch64-linux-gnu-gcc:gcc-aarch64-linux-gnu cmake:cmake clang:clang)
 tools+=(x86_64-w64-mingw32-gcc:gcc-mingw-w64-x86-64 qemu-x86_64:qemu-user gdb:gdb)
-tools+=(llvm-objdump:llvm rustfmt:rustfmt)
+tools+=(llvm-objdump:llvm rustfmt:rustfmt valgrind:valgrind)
 
 # Builds and tests dist/ with make, without rt.
 with_make() {
@@ -119,6 +119,7 @@ count 'a program for x86-64-v3 below it' refuses 'this machine lacks a feature o
 write_kernel
 for level in v2 v3; do
     count "the library for only x86-64-$level" names_level $level
+    count "instructions for $level" "$top/cases/instructions.py" "$room/make-$level/libdethrux.a" $level
 done
 count 'CMake' with_cmake
 for target in i686-linux-gnu x86_64-linux-gnux32 riscv64-linux-gnu x86_64-unknown-freebsd; do

@@ -66,32 +66,23 @@ static void check_form(const char *name, form it, size_t len, bool holds) {
     check(shown, holds);
 }
 
-/* The library's call. This and the lengths below count bytes. */
+/* A call in its mode. The lengths of the library's own calls, and the ones below, count bytes. */
+#define CALL(it, name, end, ...) \
+    ((it).is_lossy ? dethrux_##name##_lossy##end(__VA_ARGS__) : dethrux_##name##end(__VA_ARGS__))
+
 static dethrux_progress plain(form it, const void *from, size_t len, void *to, size_t capacity) {
-    if (it.is_to_utf8) {
-        return it.is_lossy ? dethrux_to_utf8_lossy(it.order, from, len, to, capacity)
-                           : dethrux_to_utf8(it.order, from, len, to, capacity);
-    }
-    return it.is_lossy ? dethrux_from_utf8_lossy(it.order, from, len, to, capacity)
-                       : dethrux_from_utf8(it.order, from, len, to, capacity);
+    return it.is_to_utf8 ? CALL(it, to_utf8, , it.order, from, len, to, capacity)
+                         : CALL(it, from_utf8, , it.order, from, len, to, capacity);
 }
 
 static dethrux_progress fit(
     form it, const uint16_t *from, size_t len, uint16_t *to, size_t capacity) {
-    if (it.is_u16 && it.is_to_utf8) {
-        return it.is_lossy ? dethrux_u16_to_utf8_lossy_fit(from, len / 2, to, capacity)
-                           : dethrux_u16_to_utf8_fit(from, len / 2, to, capacity);
-    }
     if (it.is_u16) {
-        return it.is_lossy ? dethrux_u16_from_utf8_lossy_fit(from, len, to, capacity / 2)
-                           : dethrux_u16_from_utf8_fit(from, len, to, capacity / 2);
+        return it.is_to_utf8 ? CALL(it, u16_to_utf8, _fit, from, len / 2, to, capacity)
+                             : CALL(it, u16_from_utf8, _fit, from, len, to, capacity / 2);
     }
-    if (it.is_to_utf8) {
-        return it.is_lossy ? dethrux_to_utf8_lossy_fit(it.order, from, len, to, capacity)
-                           : dethrux_to_utf8_fit(it.order, from, len, to, capacity);
-    }
-    return it.is_lossy ? dethrux_from_utf8_lossy_fit(it.order, from, len, to, capacity)
-                       : dethrux_from_utf8_fit(it.order, from, len, to, capacity);
+    return it.is_to_utf8 ? CALL(it, to_utf8, _fit, it.order, from, len, to, capacity)
+                         : CALL(it, from_utf8, _fit, it.order, from, len, to, capacity);
 }
 
 static dethrux_utf16_text as_utf16(dethrux_utf8_text it) {
@@ -101,20 +92,12 @@ static dethrux_utf16_text as_utf16(dethrux_utf8_text it) {
 
 static dethrux_utf16_text alloc(form it, const uint16_t *from, size_t len) {
     calls = 0;
-    if (it.is_u16 && it.is_to_utf8) {
-        return as_utf16(it.is_lossy ? dethrux_u16_to_utf8_lossy_alloc(from, len / 2)
-                                    : dethrux_u16_to_utf8_alloc(from, len / 2));
-    }
     if (it.is_u16) {
-        return it.is_lossy ? dethrux_u16_from_utf8_lossy_alloc(from, len)
-                           : dethrux_u16_from_utf8_alloc(from, len);
+        return it.is_to_utf8 ? as_utf16(CALL(it, u16_to_utf8, _alloc, from, len / 2))
+                             : CALL(it, u16_from_utf8, _alloc, from, len);
     }
-    if (it.is_to_utf8) {
-        return as_utf16(it.is_lossy ? dethrux_to_utf8_lossy_alloc(it.order, from, len)
-                                    : dethrux_to_utf8_alloc(it.order, from, len));
-    }
-    return it.is_lossy ? dethrux_from_utf8_lossy_alloc(it.order, from, len)
-                       : dethrux_from_utf8_alloc(it.order, from, len);
+    return it.is_to_utf8 ? as_utf16(CALL(it, to_utf8, _alloc, it.order, from, len))
+                         : CALL(it, from_utf8, _alloc, it.order, from, len);
 }
 
 /* How far a call came, which counts code units in its UTF-16. */

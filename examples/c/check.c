@@ -155,10 +155,6 @@ typedef enum {
 } way;
 typedef enum { STRICT, LOSSY, PARTIAL } mode;
 
-static bool is_back(way by) {
-    return by % 2 == 1;
-}
-
 /* A case that is run: its call, its byte order, its first value as bytes, and all its values; and
  * what is answered. */
 typedef struct call call;
@@ -310,7 +306,7 @@ static dethrux_progress finish(decoder *by, uint8_t *to, size_t room) {
 }
 
 static size_t finish_max(const decoder *by) {
-    return is_back(by->way) ? DETHRUX_ENCODER_FINISH_MAX : DETHRUX_DECODER_FINISH_MAX;
+    return by->way % 2 == 1 ? DETHRUX_ENCODER_FINISH_MAX : DETHRUX_DECODER_FINISH_MAX;
 }
 
 static text pending_of(decoder *by) {
@@ -567,40 +563,8 @@ static void ask_from_utf16(const task *it) {
     add_validity(it->order, &it->raw, NULL, it->answer);
 }
 
-/* The text of a stream, which every chunking of it has. */
-static void add_decoded(dethrux_byte_order order, const uint8_t *raw, size_t len, text *answer) {
-    text from = {0}, utf8 = {0};
-    append(&from, raw, len);
-    if (!in_pieces(TO_UTF8, order, &from, len, len, 3 * len + 4, &utf8)) {
-        add_word(answer, "stream");
-    }
-    add_text(answer, utf8.bytes, utf8.len);
-    if (len <= SHORT && !is_cut_anywhere(TO_UTF8, order, &from, &utf8)) {
-        add_word(answer, "pieces");
-    }
-    free(from.bytes);
-    free(utf8.bytes);
-}
-
-static void ask_every_chunking(const task *it) {
-    add_decoded(it->order, it->raw.bytes, it->raw.len, it->answer);
-}
-
-static void ask_every_any_chunking(const task *it) {
-    dethrux_bom bom = dethrux_detect_bom(DETHRUX_BIG_ENDIAN, it->raw.bytes, it->raw.len);
-    if (bom.len > it->raw.len || (bom.status == DETHRUX_BOM_UNDECIDED) != (it->raw.len < 2)) {
-        add_word(it->answer, "BOM");
-        return;
-    }
-    const uint8_t *after = it->raw.len > 0 ? it->raw.bytes + bom.len : NULL;
-    add_decoded(bom.byte_order, after, it->raw.len - bom.len, it->answer);
-}
-
-/* Calls over chunks. */
-typedef bool over_pieces(decoder *by, const text *piece, size_t room, text *answer, text *all);
-
 /* After an ill-formed sequence the rest of the chunk is fed, to a new decoder. */
-static bool feed_to_buffer(decoder *by, const text *piece, size_t room, text *answer, text *all) {
+static bool feed_to_buffer(decoder *by, const text *piece, size_t room, text *answer) {
     text to = blank(room);
     dethrux_progress found = feed(by, piece->bytes, piece->len, to.bytes, room);
     add_progress(answer, found);
@@ -615,31 +579,16 @@ static bool feed_to_buffer(decoder *by, const text *piece, size_t room, text *an
     }
     text rest = {piece->bytes + behind, piece->len - behind, 0};
     *by = new_decoder(by->way, by->order);
-    return feed_to_buffer(by, &rest, room, answer, all) && is;
-}
-
-static bool feed_and_show(decoder *by, const text *piece, size_t room, text *answer, text *all) {
-    text utf8 = {0};
-    (void)all;
-    bool is = feed_all(by, piece->bytes, piece->len, room + 3 * piece->len + 4, &utf8);
-    add_text(answer, utf8.bytes, utf8.len);
-    add_bytes(answer, pending_of(by).bytes, pending_of(by).len);
-    free(utf8.bytes);
-    return is;
-}
-
-static bool feed_only(decoder *by, const text *piece, size_t room, text *answer, text *all) {
-    (void)answer;
-    return feed_all(by, piece->bytes, piece->len, room + 4, all);
+    return feed_to_buffer(by, &rest, room, answer) && is;
 }
 
 /* Feeds a decoder the chunks that a word spells. */
-static bool feed_pieces(const char *word, over_pieces *feed_one, decoder *by, size_t room, text *answer, text *all) {
+static bool feed_pieces(const char *word, decoder *by, size_t room, text *answer) {
     for (const char *end = word + strlen(word), *at = word; at <= end;) {
         const char *behind = at + strcspn(at, ",");
         text piece = {0};
         bool is = bytes_of(at, behind, &piece);
-        if (is && !feed_one(by, &piece, room, answer, all)) {
+        if (is && !feed_to_buffer(by, &piece, room, answer)) {
             add_word(answer, "stream");
         }
         free(piece.bytes);
@@ -655,8 +604,7 @@ static bool call_feed(const task *it) {
     const way way = it->by->way;
     decoder by = new_decoder(way, it->order);
     size_t room = it->count == 2 ? strtoul(it->values[1], NULL, 10) : 0;
-    if (it->count != 2
-        || !feed_pieces(it->values[0], feed_to_buffer, &by, room, it->answer, NULL)) {
+    if (it->count != 2 || !feed_pieces(it->values[0], &by, room, it->answer)) {
         return false;
     }
     text to = blank(room);
@@ -669,36 +617,6 @@ static bool call_feed(const task *it) {
     }
     free(to.bytes);
     return true;
-}
-
-static bool call_lossy_feed(const task *it) {
-    decoder by = new_decoder(TO_UTF8, it->order);
-    text end = {0};
-    if (it->count > 1) {
-        return false;
-    }
-    bool is = it->count == 0 || feed_pieces(it->values[0], feed_and_show, &by, 0, it->answer, NULL);
-    if (!finish_all(&by, &end)) {
-        add_word(it->answer, "finish");
-    }
-    add_word(it->answer, end.len > 0 ? "U+FFFD" : "none");
-    free(end.bytes);
-    return is;
-}
-
-static bool call_decode_pieces(const task *it) {
-    decoder by = new_decoder(TO_UTF8, it->order);
-    text all = {0};
-    if (it->count > 1) {
-        return false;
-    }
-    bool is = it->count == 0 || feed_pieces(it->values[0], feed_only, &by, 0, it->answer, &all);
-    if (!finish_all(&by, &all)) {
-        add_word(it->answer, "finish");
-    }
-    add_text(it->answer, all.bytes, all.len);
-    free(all.bytes);
-    return is;
 }
 
 static void ask_swap_byte_order(const task *it) {
@@ -861,14 +779,10 @@ static const call calls[] = {
 #include "../../dist/src/shapes.inc"
     {"validate_raw_utf16", .ask = ask_validate},
     {"WStr::from_utf16", .ask = ask_from_utf16},
-    {"every_chunking", .ask = ask_every_chunking},
-    {"AnyLossy::every_chunking", .ask = ask_every_any_chunking},
     {"Stream::feed", .make = call_feed, .way = TO_UTF8},
     {"feed_utf8", .make = call_feed, .way = FROM_UTF8},
     {"feed_wtf8", .make = call_feed, .way = TO_WTF8},
     {"Wtf8Stream::feed", .make = call_feed, .way = FROM_WTF8},
-    {"Lossy::feed", .make = call_lossy_feed},
-    {"decode_pieces", .make = call_decode_pieces},
 };
 
 enum { CALLS = sizeof calls / sizeof *calls };

@@ -428,7 +428,7 @@ test_alloc() {
     try 'ignored memory in C' warns "$ignored" cc -std=c99
     try 'ignored memory in C++' warns "$ignored" c++ -std=c++17 -x c++
     try 'all memory is ignored' calls_all dethrux_alloc "$ignored"
-    try 'all calls of memory are checked' calls_all dethrux_alloc "$here/alloc.c"
+    try 'all calls of memory are checked' calls_all dethrux_alloc <(expanded alloc)
     try 'memory in two files' in_two_files cc -std=c99 -include dethrux_alloc.h "$here/field.c" "$ignored"
 }
 
