@@ -54,8 +54,13 @@ compile() {
     "${CC:-cc}" -Wall -Wextra -Werror "$sources/user.c" "${words[@]}" "${@:2}" -o "$room/program"
 }
 
-# Tests that a program without a loader tests the processor by itself.
+# Tests that a program without a loader tests the processor by itself. In one that does not, a call
+# can end it.
 all_static() {
+    iconv -f UTF-8 -t UTF-16LE "$top/README.md" > "$room/utf16"
+    "$1" "-I$prefix/include" "$top/examples/c/decode.c" "$prefix/lib/libdethrux.a" -static \
+        -o "$room/unchecked" && on_processor Nehalem "$room/unchecked" le < "$room/utf16" &&
+        ! on_processor qemu64 "$room/unchecked" le < "$room/utf16" || return
     CC=$1 compile "$(config "$prefix" --static --cflags --libs)" -static && "$room/program" &&
         ! ldd "$room/program" && on_processor qemu64 "$room/program"
     [ $? = 4 ]

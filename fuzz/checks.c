@@ -724,7 +724,8 @@ static void check_floor_at(const uint8_t *utf16, size_t at) {
 
 CHECK(floor_char_boundary, for_offsets(check_floor_at))
 
-/* The bytes around an offset are in memory of their own, so that a read beyond them is found. */
+/* The bytes around an offset are in memory of their own, so that a read beyond them is found. Only
+ * they are read to tell whether it is a boundary. */
 static void check_floor_around_at(const uint8_t *utf16, size_t at) {
     (void)utf16;
     if (at > in.len) {
@@ -739,6 +740,8 @@ static void check_floor_around_at(const uint8_t *utf16, size_t at) {
         }
         expect("floor", dethrux_floor_char_boundary_around(in.order, around, len, at),
             floor_boundary(at));
+        expect("boundary", dethrux_is_char_boundary(in.order, around - start, in.len, at),
+            is_boundary(at));
     }
 }
 

@@ -12,8 +12,8 @@
  * Link with libdethrux.so (-ldethrux), or with just libdethrux.a. Both are for x86-64-v2 and above
  * (SSE4.2, POPCNT), and run faster code if the processor has AVX2 (dethrux_kernel). The loader
  * refuses to start them on an older processor. A program that is linked with -static is not
- * checked: an illegal instruction ends it. On Windows the shared library is dethrux.dll, and no
- * program is checked.
+ * checked: a call can end it by an illegal instruction. On Windows the shared library is
+ * dethrux.dll, and no program is checked.
  *
  * @par Proofs
  * Proved for all inputs of up to PTRDIFF_MAX bytes: each result is as described, and no call reads
