@@ -2,7 +2,8 @@
 # Compiles the C library or a program from the crates that rt ci has just proved:
 # .ci/compile.sh llvm|rattle CRATE FILE [WORD..]. FILE is the static library, or the program, whose
 # object file is FILE.o, or if FILE ends with .o only that. More words, such as --target and --cpu,
-# are for the compiler's check and build. TOOLCHAIN names a folder of tools instead of the kit's.
+# are for the compiler's check and build. TOOLCHAIN names a folder of tools instead of the kit's. It
+# builds nothing if FILE is newer than all sources, and fails if a source is newer than its library.
 #
 # rt ci checks a static library, but does not build it. In a clone in which it proved nothing again
 # it builds no program. It leaves the libraries below without the stamp by which rt lib and rt run
@@ -18,7 +19,16 @@ kit=$(dirname "$(dirname "$(readlink -f "$(command -v rt)")")")
 # The folder of what was checked, one for each target and processor.
 checked=$(printf '%s' out/checked "$@" | tr -c 'a-z0-9_/-' _)
 words=()
+# Prints a source of these crates that is newer than a file or a folder.
+newer() {
+    find "${@:2}" -path '*/out' -prune -o -type f -newer "$1" -print -quit
+}
+
+[ ! -e "$to" ] || [ -n "$(newer "$to" .. ../../crates.txt)" ] || exit 0
+rm -f "$to"
 for below in ../*/out/rlib; do
+    source=$(newer "$below" "${below%/out/rlib}")
+    [ -z "$source" ] || { echo "$source is newer than what rt ci left: run rt ci" >&2 && exit 1; }
     words+=(-L "dependency=$below")
 done
 for below in $(sed -nE "s/^$crate( staticlib)?: //p" ../../crates.txt); do

@@ -24,14 +24,9 @@ library() {
     cd "$top/crates/dethrux" && rt lib
 }
 
-# Builds the static library over what rt ci has just proved. If an earlier rt lib left stamps, rt ci
-# has put them back, and rt lib proves nothing again.
+# Builds the static library over what rt ci has just proved.
 library_over_ci() {
-    if compgen -G "$top/crates/*/out/rlib/stamp" > /dev/null; then
-        library
-    else
-        "$top/.ci/compile.sh" llvm dethrux "$archive"
-    fi
+    "$top/.ci/compile.sh" llvm dethrux "$archive"
 }
 
 # A program of this folder, in C99 or, with the types of <uchar.h>, C11.
