@@ -96,6 +96,9 @@ count 'packaging/calls' "$top/packaging/test/calls.py"
 count 'what packaging/calls writes' "$top/packaging/calls" --check
 count 'dist/rust is what packaging/erase writes' "$top/packaging/erase" --check
 count 'dist/ is what packaging/assembly writes' "$top/packaging/assembly" --check "$@"
+for file in "$top"/dist/src/linux-*.s "$top"/dist/src/programs/*/*.s; do
+    count "the stack of ${file#"$top/"}" "$top/.ci/stack" "$file"
+done
 clone="$room/a clone"
 make=(make -s -C "$clone/dist")
 user=("-I$clone/dist/include" "$top/packaging/test/user.c")
