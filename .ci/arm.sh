@@ -3,8 +3,7 @@
 # under qemu-aarch64: the tables of cases, the programs of the documents, big buffers, the fuzzing
 # harness with pages of 4 and of 64 KiB, the symbols, the marks of BTI and the Debian packages.
 # .ci/install.sh tests the release archive.
-# qemu emulates a Cortex-A53, which has no more than what each ARM64 processor has. If this runs as
-# root, apt-get installs missing tools; a tool that is still missing is a failure. Prints each check
+# qemu emulates a Cortex-A53, which has no more than what each ARM64 processor has. Prints each check
 # that fails; the last line is 'N passed, M failed'.
 set -uo pipefail
 . "$(dirname "$0")/checks.sh"
@@ -78,10 +77,6 @@ packed_programs_run() {
         [ "$(dpkg-deb -f "$room"/debs/dethrux-tools_*.deb Depends)" = 'libc6 (>= 2.34)' ] &&
         programs_run "$room/unpacked/usr/bin" qemu-aarch64
 }
-
-need "${for_arm64[@]}" $triplet-g++:g++-$triplet qemu-aarch64:qemu-user clang:clang gcc:gcc \
-    make:make pkg-config:pkg-config dpkg-buildpackage:dpkg-dev dh:debhelper lintian:lintian ||
-    finish
 
 count 'the tables with gcc' runs_tables "$top/dist" -s CC=$triplet-gcc || finish
 fuzz &

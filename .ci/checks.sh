@@ -1,6 +1,6 @@
-# Sourced by scripts that test something: how they count checks and install tools, and what a
-# library's symbols must be. It sets `top`, the folder of the tree, and `room`, a temporary folder,
-# which goes at the end.
+# Sourced by scripts that test something: how they count checks, and what a library's symbols must
+# be. It sets `top`, the folder of the tree, and `room`, a temporary folder, which goes at the end.
+# .ci/tools.sh installs what these scripts need.
 top=$(cd "$(dirname "${BASH_SOURCE[0]}")/.." && pwd)
 room=$(mktemp -d)
 trap 'rm -rf "$room"' EXIT
@@ -90,16 +90,6 @@ on_processor() {
     return $status
 }
 
-# Installs Debian packages.
-install_packages() {
-    apt-get -o DPkg::Lock::Timeout=600 install -y -q --no-install-recommends "$@"
-}
-
-# Tests that there is a tool or a file.
-is_there() {
-    command -v "$1" > /dev/null || [ -f "$1" ]
-}
-
 # Prints the first of these programs that is installed.
 first_of() {
     local name
@@ -107,48 +97,6 @@ first_of() {
         command -v "$name" && return
     done
 }
-
-# Takes pairs of a tool or a file and its Debian package. Puts those that are missing into `missing`
-# and their packages into `wanted`.
-look_for() {
-    local pair
-    missing=()
-    wanted=()
-    for pair in "$@"; do
-        is_there "${pair%:*}" && continue
-        missing+=("${pair%:*}")
-        [[ " ${wanted[*]} " == *" ${pair#*:} "* ]] || wanted+=("${pair#*:}")
-    done
-}
-
-# Installs the packages in `wanted`: all at once, or if that fails one by one.
-install_wanted() {
-    local package
-    install_packages "${wanted[@]}" && return
-    apt-get update -q && install_packages "${wanted[@]}" && return
-    for package in "${wanted[@]}"; do
-        install_packages "$package"
-    done
-}
-
-# Takes the same pairs, and installs the packages of what is missing if this runs as root. If
-# something is still missing, that is a failure, which names the packages.
-need() {
-    look_for "$@"
-    if [ ${#wanted[@]} != 0 ] && [ $EUID = 0 ]; then
-        echo "installing ${wanted[*]}"
-        install_wanted > "$room/said" 2>&1 < /dev/null
-        look_for "$@"
-    fi
-    [ ${#missing[@]} != 0 ] || return 0
-    failed=$((failed + 1))
-    echo "failed: there is no ${missing[*]}: apt-get install ${wanted[*]}"
-    return 1
-}
-
-# What a cross compiler for ARM64 needs, for `need`.
-for_arm64=(aarch64-linux-gnu-gcc:gcc-aarch64-linux-gnu)
-for_arm64+=(/usr/aarch64-linux-gnu/include/stdio.h:libc6-dev-arm64-cross)
 
 # Tests that the programs of a folder, which more words start, convert and check U+20AC and U+1F600.
 programs_run() {

@@ -126,7 +126,6 @@ try() {
     count "$@" || [ "$source" = "$dist/src/choose.S" ] || finish
 }
 
-need gcc:gcc make:make qemu-x86_64:qemu-user gdb:gdb || finish
 built=$(make -s -C "$dist" folder)
 "$top/cases/to_json.py" --tabs > "$room/cases"
 count 'the library with choose.S' build || finish

@@ -39,6 +39,7 @@ tools=(
     valgrind:valgrind git:git iconv:libc-bin cmp:diffutils setpriv:util-linux
 )
 
+# Tests that there is a tool, a file, a module or a package.
 is_there() {
     if [[ $1 == module=* ]]; then
         [ "$(ask_python "importlib.util.find_spec('${1#module=}') is not None")" = True ]
@@ -48,7 +49,40 @@ is_there() {
     fi
 }
 
-need "${tools[@]}"
+# Puts what is missing into `missing`, and its packages into `wanted`.
+look_for_tools() {
+    local pair
+    missing=()
+    wanted=()
+    for pair in "${tools[@]}"; do
+        is_there "${pair%:*}" && continue
+        missing+=("${pair%:*}")
+        [[ " ${wanted[*]} " == *" ${pair#*:} "* ]] || wanted+=("${pair#*:}")
+    done
+}
+
+# Installs packages.
+install_packages() {
+    apt-get -o DPkg::Lock::Timeout=600 install -y -q --no-install-recommends "$@"
+}
+
+# Installs the packages in `wanted`: all at once, or if that fails one by one.
+install_wanted() {
+    local package
+    install_packages "${wanted[@]}" && return
+    apt-get update -q && install_packages "${wanted[@]}" && return
+    for package in "${wanted[@]}"; do
+        install_packages "$package"
+    done
+}
+
+look_for_tools
+if [ ${#wanted[@]} != 0 ] && [ $EUID = 0 ]; then
+    echo "installing ${wanted[*]}"
+    install_wanted > "$room/said" 2>&1 < /dev/null
+    look_for_tools
+fi
+[ ${#missing[@]} = 0 ] || echo "failed: there is no ${missing[*]}: apt-get install ${wanted[*]}"
 passed=$((${#tools[@]} - ${#missing[@]}))
 failed=${#missing[@]}
 finish

@@ -3,8 +3,7 @@
 # everything under Wine: the tables of cases, the first programs, the check in C++, the programs of
 # examples/windows and the archive of packaging/release.sh. Tests what the libraries export and
 # call, what a call takes of the stack, and that it keeps the registers that a function must keep
-# there. Then clang compiles for MSVC. If this runs as root, apt-get installs missing tools; a tool
-# that is still missing is a failure. Only MSVC itself is left out, and a line says so. Prints each
+# there. Then clang compiles for MSVC. Only MSVC itself is left out, and a line says so. Prints each
 # check that fails; the last line is 'N passed, M failed'.
 set -uo pipefail
 . "$(dirname "$0")/checks.sh"
@@ -26,17 +25,6 @@ clean() {
     rm -rf "$room"
 }
 trap clean EXIT
-
-# == tools
-
-tools=($gcc:gcc-mingw-w64-x86-64 x86_64-w64-mingw32-g++:g++-mingw-w64-x86-64 clang:clang)
-tools+=(lld-link:lld make:make cmake:cmake pkg-config:pkg-config)
-tools+=(/usr/lib/wine/wine64:wine64)
-
-# Prints the path of the program that starts programs of Windows.
-wine_program() {
-    command -v wine || command -v wine64 || command -v /usr/lib/wine/wine64
-}
 
 # == compilers
 
@@ -409,8 +397,7 @@ runs_for_msvc() {
         run ./user.exe
 }
 
-need "${tools[@]}" || finish
-wine=$(wine_program)
+wine=$(first_of wine wine64 /usr/lib/wine/wine64)
 mingw=$(dirname "$($gcc -print-libgcc-file-name)")
 server=$(command -v wineserver || command -v /usr/lib/wine/wineserver)
 # It ends with this, and not before: a program cannot start while a server ends.

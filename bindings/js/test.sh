@@ -1,8 +1,7 @@
 #!/usr/bin/env bash
 # Packages the package, installs it in an empty folder without network, and there runs the first
 # program of docs/JS.md, the tests and the tables of cases in Node. Then it runs the tests and the
-# tables with the installed package in headless Chromium, and tests the page of site/ there. If this
-# runs as root, apt-get installs missing tools; a tool that is still missing is a failure. With
+# tables with the installed package in headless Chromium, and tests the page of site/ there. With
 # --node it leaves out what needs Chromium. NODE and CHROMIUM name other programs. The last line is
 # 'N passed, M failed'.
 set -uo pipefail
@@ -89,7 +88,6 @@ builds_page() {
 
 test_node() {
     node=${NODE:-node}
-    need "$node:nodejs" npm:npm tsc:node-typescript esbuild:esbuild python3:python3 || return
     check 'the package, twice' make_package || return
     check 'its installation' install_package || return
     counts 'the tests of the calls' unit_tests calls.test.mjs
@@ -107,7 +105,6 @@ test_chromium() {
     CHROMIUM=${CHROMIUM:-$(first_of chromium chromium-browser google-chrome || echo chromium)}
     export CHROMIUM
     check 'the page, twice' builds_page
-    need "$CHROMIUM:chromium" || return
     "$top/cases/to_json.py" > "$room/cases.json"
     counts 'the tests of the calls in Chromium' "${tests[@]}" calls.test.mjs
     counts 'the tests of streams in Chromium' "${tests[@]}" streams.test.mjs

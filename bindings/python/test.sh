@@ -2,9 +2,8 @@
 # Installs the package with pip in an empty virtual environment, without network and without rt.
 # There it runs the first program of docs/PYTHON.md, the unit tests, CPython's tests of UTF-16 with
 # these codecs, and the tables of cases. It installs the wheel that packaging/wheels.sh makes of the
-# source distribution, and calls it on processors of each level. mypy checks the types. If this runs
-# as root, apt-get installs missing tools; a tool that is still missing is a failure. The last line
-# is 'N passed, M failed'.
+# source distribution, and calls it on processors of each level. mypy checks the types. The last
+# line is 'N passed, M failed'.
 # PYTHON names another Python, which has its headers and setuptools; WHEELS names a folder with the
 # wheels of setuptools and of wheel for it, which Python 3.12 and later do not have. DETHRUX_CALLS
 # is how many calls may not take memory (200000).
@@ -14,15 +13,6 @@ top=$(cd "$here/../.." && pwd)
 export PYTHONDONTWRITEBYTECODE=1
 unset PYTHONPATH PYTHONHOME CC
 . "$top/.ci/checks.sh"
-
-# Whether the extension can be compiled for this Python.
-has_headers() {
-    local include
-    include=$("$python" -c 'import sysconfig; print(sysconfig.get_path("include"))')
-    [ -f "$include/Python.h" ] && return
-    echo "there is no $include/Python.h: apt-get install python3-dev"
-    return 1
-}
 
 make_environment() {
     "$python" -m venv "$room/venv"
@@ -121,8 +111,6 @@ test_wheels() {
 }
 
 python=${PYTHON:-python3}
-need "$python:python3" cc:gcc clang:clang mypy:mypy qemu-x86_64:qemu-user || finish
-check 'the headers of Python' has_headers || finish
 if [ -z "${WHEELS:-}" ]; then
     WHEELS=$room/build
     check 'what pip builds with' env PYTHON="$python" "$here/offline.sh" "$WHEELS" || finish

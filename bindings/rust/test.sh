@@ -4,10 +4,8 @@
 # library and what it refuses, the packages, vendored sources, documentation without the library,
 # the oldest Rust, formatting and lints. With --tests it skips the last two. The last line is
 # 'N passed, M failed'. The library is what dist/Makefile builds, or is in the folder that
-# DETHRUX_LIB_DIR names. It needs cargo, cc, make, pkg-config, python3, git, and the crates cc,
-# pkg-config, byteorder, memchr, serde and simdutf8 as Debian packages them. Only apt-get, which
-# downloads the oldest Rust, needs a network. What is missing is a failure, which names its Debian
-# package.
+# DETHRUX_LIB_DIR names. It needs crates as Debian packages them. Only apt-get, which downloads the
+# oldest Rust, needs a network.
 set -uo pipefail
 here=$(cd "$(dirname "$0")" && pwd)
 top=$(cd "$here/../.." && pwd)
@@ -16,7 +14,7 @@ room=$(mktemp -d)
 trap 'rm -rf "$room"' EXIT
 passed=0
 failed=0
-lints='cargo-fmt:rustfmt cargo-clippy:rust-clippy'
+lints=yes
 [ "${1:-}" != --tests ] || lints=''
 
 fail() {
@@ -433,18 +431,6 @@ test_targets() {
 }
 
 library=$(realpath -m "${DETHRUX_LIB_DIR:-$room/dist}")/libdethrux.a
-for pair in $lints cargo:cargo rustc:rustc cc:gcc ar:binutils make:make pkg-config:pkg-config \
-    cmp:diffutils python3:python3 git:git \
-    x86_64-linux-gnu-gcc:gcc aarch64-linux-gnu-gcc:gcc-aarch64-linux-gnu \
-    clang:clang llvm-objdump:llvm \
-    qemu-aarch64:qemu-user x86_64-w64-mingw32-gcc:gcc-mingw-w64-x86-64; do
-    command -v "${pair%:*}" > /dev/null ||
-        fail "there is no ${pair%:*}: apt-get install ${pair#*:}"
-done
-for crate in cc pkg-config byteorder memchr serde simdutf8; do
-    compgen -G "$registry/$crate-[0-9]*" > /dev/null ||
-        fail "there is no crate $crate: apt-get install librust-$crate-dev"
-done
 [ -n "${DETHRUX_LIB_DIR:-}" ] ||
     count 'the library' make -s -C "$top/dist" BUILD="$room/dist" "$room"/dist/libdethrux.{a,so}
 [ -f "$library" ] || fail "there is no $library"

@@ -1,12 +1,12 @@
 #!/usr/bin/env bash
 # Builds the library libdethrux.a and the examples in C and in C++, and runs them: the tables of
-# cases, the programs of docs/C.md and docs/CPP.md, and all in C under valgrind. A missing tool is a
-# failure. The last line is 'N passed, M failed'. With --over-ci the library is built over the
-# libraries that rt ci has just proved, and with --library FILE it is not built: FILE is tested, but
-# not the headers by each compiler, in each standard of C++ and with sanitizers.
-# With --headers c it is not built either, and only what tests the headers runs, up to the first
-# failure, or with --headers c++ what tests the one for C++, and with --headers alloc what tests
-# dethrux_alloc.h: examples/slips runs this for a wrong line in a header that no shorter test finds.
+# cases, the programs of docs/C.md and docs/CPP.md, and all in C under valgrind. With --over-ci the
+# library is built over the libraries that rt ci has just proved, and with --library FILE it is not
+# built: FILE is tested, but not the headers by each compiler, in each standard of C++ and with
+# sanitizers. With --headers c it is not built either, and only what tests the headers runs, up to
+# the first failure, or with --headers c++ what tests the one for C++, and with --headers alloc what
+# tests dethrux_alloc.h: examples/slips runs this for a wrong line in a header that no shorter test
+# finds. The last line is 'N passed, M failed'.
 set -uo pipefail
 here=$(cd "$(dirname "$0")" && pwd)
 . "$here/../../.ci/checks.sh"
@@ -437,7 +437,6 @@ test_cxx() {
         "$top/examples/cpp/first.cpp" "$room/cxx_calls/ignored.cpp"
     try 'calls that are refused in C++' refuses_in_cxx
     for compiler in "${compilers[@]}"; do
-        need "$compiler:${compiler/clang++/clang}" || continue
         for standard in "${standards[@]}"; do
             try "the check by $compiler in $standard" in_cxx "$compiler" "$standard" check &&
                 try "C++ by $compiler in $standard" "$room/cpp_check"
@@ -463,14 +462,13 @@ case "${1-}" in
     --headers) built=true headers=$2 level=-O0 compilers=(g++) standards=(c++2b) ;;
 esac
 ("$built") > "$room/said" 2>&1 || { tail -n 20 "$room/said"; echo "0 passed, 1 failed"; exit 1; }
-need cc:gcc c++:g++ || finish
 case $headers in
     '' | c) test_c; test_c_in_cxx; check_in_c ;;&
     '' | alloc) test_alloc ;;&
     '' | c | c++) test_cxx ;;
 esac
 if [ -z "$headers" ]; then
-    need valgrind:valgrind && memory_in_c && memory_in_cxx
+    memory_in_c && memory_in_cxx
     [ "${1-}" = --library ] || test_sanitizers
 fi
 finish
