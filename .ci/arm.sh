@@ -15,8 +15,6 @@ folder=$top/dist/out/$triplet
 export QEMU_CPU=cortex-a53 QEMU_LD_PREFIX=$system
 warnings=(-O2 -Wall -Wextra -Wpedantic -Werror)
 
-# == dist/
-
 # Tests that the shared library has its name, needs only libc, and only what glibc 2.17 has, the
 # first one for ARM64.
 needs_libc() {
@@ -25,8 +23,6 @@ needs_libc() {
     printf '%s\n' 'NEEDED libc.so.6' "SONAME libdethrux.so.${version%.*}" | diff - "$room/needed" &&
         [ "$($triplet-readelf -V "$1" | grep -o 'GLIBC_[0-9.]*' | sort -u)" = GLIBC_2.17 ]
 }
-
-# == programs
 
 # Compiles a program for ARM64 with this compiler and with either library, and runs it.
 runs() {
@@ -41,8 +37,6 @@ prints_page() {
     page_text "$1" > "$room/page" && "${@:2}" > "$room/found" && cmp "$room/page" "$room/found"
 }
 
-# == fuzzing
-
 # Runs the harness for ten seconds, and the planted versions, and then the harness with pages of
 # 64 KiB.
 fuzz() {
@@ -55,8 +49,6 @@ finds_nothing() {
     cat "$1"
     tail -n 1 "$1" | grep -qxE '[1-9][0-9]* passed, 0 failed'
 }
-
-# == packages
 
 # Compiles a program with pkg-config's words for the files of the packages, and runs it.
 runs_unpacked() {

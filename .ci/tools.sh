@@ -62,18 +62,14 @@ look_for_tools() {
 }
 
 # Installs packages.
-install_packages() {
+install() {
     apt-get -o DPkg::Lock::Timeout=600 install -y -q --no-install-recommends "$@"
 }
 
-# Installs the packages in `wanted`: all at once, or if that fails one by one.
+# Installs what is missing: all at once, or if that fails one by one.
 install_wanted() {
-    local package
-    install_packages "${wanted[@]}" && return
-    apt-get update -q && install_packages "${wanted[@]}" && return
-    for package in "${wanted[@]}"; do
-        install_packages "$package"
-    done
+    install "${wanted[@]}" || { apt-get update -q && install "${wanted[@]}"; } ||
+        for package in "${wanted[@]}"; do install "$package"; done
 }
 
 look_for_tools

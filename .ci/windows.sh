@@ -26,8 +26,6 @@ clean() {
 }
 trap clean EXIT
 
-# == compilers
-
 # Runs a compiler. Those of LLVM take the libraries and headers of MinGW's gcc.
 compiler() {
     local name=$1
@@ -57,8 +55,6 @@ compile() {
 run() {
     "$wine" "$@" < /dev/null
 }
-
-# == the library
 
 # Builds both libraries and the programs with a compiler, and runs the tables with each and the
 # check of code units.
@@ -128,8 +124,6 @@ has_header() {
         diff <(printf '%s\n' memcmp memcpy memmove memset) -
 }
 
-# == the calls
-
 # Writes the calls of the caller that watches registers, one for each function of the header, with
 # arguments by the types of its parameters.
 write_watched() {
@@ -190,8 +184,6 @@ passes_status() {
     [ $status = 3 ] && ! run "$room/program.exe" word
 }
 
-# == the programs
-
 # Tests that a program reads a pipe of Windows to its end, which unlike one of Linux is an error.
 reads_pipe() {
     echo '#include <stdio.h>
@@ -211,8 +203,6 @@ tells_memory() {
     printf 'h\0i\0' | "$wine" "$room/program.exe" le 2> "$room/line"
     [ $? = 1 ] && diff "$room/line" <(echo 'utf16_cat: out of memory')
 }
-
-# == the stack
 
 # Prints the most that a function of windows.c takes, with its return address.
 wrapper_takes() {
@@ -260,8 +250,6 @@ check_stack() {
         "$first	movq	-40(%rsp,%rbx), %rax"
 }
 
-# == examples/windows
-
 # Compiles a program of examples/windows, and compares what it prints.
 prints() {
     compile "$1" "$examples/windows/$2" && run "$room/program.exe" > "$room/found" &&
@@ -274,8 +262,6 @@ wide_c='all:\nall: 0047 0072 00FC 00DF 0065\nall: D83D DE00\na part: 0061\n'
 wide_c+='a part: 0061 0062 0063 0064 0065 0066\n'
 wide_cpp='0 code units, the same text again: 1\n8 code units, the same text again: 1\n'
 wide_cpp+='ill formed at byte 1\nnames that are kept: 11\n'
-
-# == installations
 
 # Words for CMake that compile for Windows with MinGW's gcc.
 for_windows=(-DCMAKE_SYSTEM_NAME=Windows -DCMAKE_SYSTEM_PROCESSOR=x86_64 "-DCMAKE_C_COMPILER=$gcc"
@@ -353,8 +339,6 @@ has_files() {
         lib/{cmake/dethrux/dethruxConfig{,Version}.cmake,dethrux.def,libdethrux.{a,dll.a}} \
         lib/pkgconfig/dethrux.pc | sort) -
 }
-
-# == clang in MSVC's mode
 
 # Compiles for MSVC. There are no headers of its C runtime here, so string.h is one that declares
 # what windows.c and the test need.
