@@ -1,12 +1,12 @@
 #!/usr/bin/env bash
-# Tests, in a made-up tree with a made-up kit, that no part of CI takes what is stale: .ci/compile.sh
-# and .ci/cases refuse it, and .ci/run sets aside what earlier runs left, and puts it back at its end.
-# The last line is 'N passed, M failed'.
+# Tests, in a made-up tree with a made-up kit, that no part of CI takes what is stale:
+# .ci/compile.sh and .ci/cases refuse it, and .ci/run sets aside what earlier runs left, and puts it
+# back at its end. The last line is 'N passed, M failed'.
 set -uo pipefail
 . "$(dirname "$0")/checks.sh"
 tree=$room/tree
 built=$tree/crates/tests_cases/out/tests_cases
-mkdir -p "$tree"/{.ci,cases} "$tree"/crates/{low,tests_cases}/src "$tree/crates/low/out/rlib" "$room/kit/bin"
+mkdir -p "$tree"/{.ci,cases,crates/{low/out/rlib,{low,tests_cases}/src}} "$room/kit/bin"
 cp "$top"/.ci/{run,compile.sh,cases,checks.sh} "$tree/.ci"
 printf 'low:\ntests_cases: low\n' > "$tree/crates.txt"
 touch -d '1 hour ago' "$tree"/{crates.txt,crates/low/src/lib.rt,crates/tests_cases/src/main.rt}
