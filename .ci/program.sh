@@ -1,12 +1,12 @@
 #!/usr/bin/env bash
 # Runs the programs over the cases of .ci/program.txt: what they write, their line on standard error
 # and their status. Without arguments it takes utf16_cat, utf16_enc and utf16_check in their crates,
-# as each of the two compilers builds them over the crates that rt ci proved. A program that is named
-# is run over the cases of utf16_enc or utf16_check if the name of its file begins so. RUN starts a
-# program of another machine, such as `wine`, and CC compiles for it: a line says how many cases need
-# more than that. SAYS and USAGE are the formats of what messages begin with, and of the usage, for a
-# program that also takes the name of a file; LEFT_OUT is a pattern of the cases that it does not
-# have. Prints each case that fails, and last a line 'N passed, M failed'.
+# as each of the two compilers builds them over the crates that rt ci proved. A program that is
+# named is run over the cases of utf16_enc or utf16_check if the name of its file begins so. RUN
+# starts a program of another machine, such as `wine`, and CC compiles for it: a line says how many
+# cases need more than that. SAYS and USAGE are the formats of what messages begin with, and of the
+# usage, for a program that also takes the name of a file; LEFT_OUT is a pattern of the cases that
+# it does not have. Prints each case that fails, and last a line 'N passed, M failed'.
 set -uo pipefail
 top=$(cd "$(dirname "$0")/.." && pwd)
 room=$(mktemp -d)
