@@ -14,6 +14,7 @@ mod from_utf8;
 mod in_place;
 mod inspect;
 mod latin1;
+#[path = "nul_.rs"]
 mod nul;
 mod order;
 mod results;

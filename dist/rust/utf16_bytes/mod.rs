@@ -12,6 +12,7 @@ pub mod cut_laws;
 mod file;
 mod first;
 mod forwards;
+#[path = "nul_.rs"]
 mod nul;
 mod order;
 mod pattern;

@@ -2,8 +2,8 @@
 //! The length of a text in UTF-16, computed from its UTF-8.
 //!
 //! Each byte that is not a continuation byte begins a character, and each byte from 0xF0 on adds a
-//! second unit. So a block takes two counts of bits, and no character is decoded. The last block
-//! overlaps bytes that were counted, whose bits are shifted out.
+//! second unit. So a block takes two counts of bits, and its characters are not decoded. The last
+//! block overlaps bytes that were counted, whose bits are shifted out.
 
 use crate::proved::simd::*;
 use crate::proved::utf16_units::Utf16CharExt;

@@ -8,4 +8,5 @@
 
 pub(crate) use ::{byteorder, memchr};
 
-include!(concat!(env!("OUT_DIR"), "/proved.rs"));
+include!(concat!(env!("DETHRUX_PROVED"), "/shared.rs"));
+include!(concat!(env!("DETHRUX_PROVED"), "/strings.rs"));
