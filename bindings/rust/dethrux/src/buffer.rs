@@ -39,13 +39,10 @@ impl<T: Element> Sealed<T> for [MaybeUninit<T>] {
     }
 }
 
-impl<T: Element, const N: usize> Sealed<T> for [T; N] {
-    fn raw(&mut self) -> (*mut T, usize) {
-        self[..].raw()
-    }
-}
-
-impl<T: Element, const N: usize> Sealed<T> for [MaybeUninit<T>; N] {
+impl<T: Element, E, const N: usize> Sealed<T> for [E; N]
+where
+    [E]: Sealed<T>,
+{
     fn raw(&mut self) -> (*mut T, usize) {
         self[..].raw()
     }

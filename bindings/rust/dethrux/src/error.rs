@@ -23,15 +23,21 @@ macro_rules! error {
                 $Error { valid_up_to, error_len }
             }
 
-            /// Returns the error of a conversion that had enough capacity, or `None` if it read all.
+            /// Returns the error that a status of the library is, or `None` for `DETHRUX_DONE`.
             #[allow(dead_code)]
-            pub(crate) fn after(progress: Progress) -> Option<Self> {
-                let error_len = match progress.status {
-                    Status::Done => return None,
-                    Status::IllFormed(len) => Some(len as u8),
-                    _ => None,
-                };
-                Some($Error::new(progress.read, error_len))
+            pub(crate) fn of(valid_up_to: usize, status: u32, error_len: u32) -> Option<Self> {
+                let error_len = (status == 1).then_some(error_len as u8);
+                (status != 0).then_some($Error { valid_up_to, error_len })
+            }
+
+            /// Returns the value, or the error of a conversion that had enough capacity.
+            #[allow(dead_code)]
+            pub(crate) fn after<T>(progress: Progress, value: T) -> Result<T, Self> {
+                match progress.status {
+                    Status::Done => Ok(value),
+                    Status::IllFormed(len) => Err($Error::new(progress.read, Some(len as u8))),
+                    _ => Err($Error::new(progress.read, None)),
+                }
             }
 
             /// Returns the length of the longest well-formed prefix,
@@ -109,12 +115,6 @@ error! {
         "incomplete utf-8 byte sequence from index {at}"
 }
 
-/// Returns the error that a status of the library is, or `None` for its `DETHRUX_DONE`.
-pub(crate) fn of_status(valid_up_to: usize, status: u32, error_len: u32) -> Option<Utf16Error> {
-    let error_len = (status == 1).then_some(error_len as u8);
-    (status != 0).then_some(Utf16Error::new(valid_up_to, error_len))
-}
-
 impl UnitsError {
     /// Returns an error about the bytes of code units.
     pub(crate) fn of_bytes(error: Utf16Error) -> Self {
@@ -127,7 +127,7 @@ impl UnitsError {
 pub fn validate(order: ByteOrder, utf16: &[u8]) -> Result<(), Utf16Error> {
     // SAFETY: the pointer and the length come from a slice.
     let found = unsafe { ffi::validate(order, utf16.as_ptr(), utf16.len()) };
-    of_status(found.valid_up_to, found.status, found.error_len).map_or(Ok(()), Err)
+    Utf16Error::of(found.valid_up_to, found.status, found.error_len).map_or(Ok(()), Err)
 }
 
 /// Tests that code units, in the byte order of the machine, are UTF-16: [`validate`], but the error
@@ -141,8 +141,5 @@ pub fn validate_units(units: &[u16]) -> Result<(), UnitsError> {
 pub fn validate_utf32(utf32: &[u32]) -> Result<(), Utf32Error> {
     // SAFETY: the pointer and the length come from a slice.
     let found = unsafe { ffi::validate_utf32(utf32.as_ptr(), utf32.len()) };
-    match found.status {
-        0 => Ok(()),
-        _ => Err(Utf32Error::new(found.valid_up_to, Some(1))),
-    }
+    Utf32Error::of(found.valid_up_to, found.status, found.error_len).map_or(Ok(()), Err)
 }

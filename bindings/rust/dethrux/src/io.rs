@@ -513,7 +513,7 @@ impl<W: Write, T: Transcoder> Write for Writer<W, T> {
             let from = if cut > 0 { &self.pending[..] } else { chunk };
             let (output, transcoder) = (&mut self.output, &mut self.transcoder);
             // SAFETY: the library initializes what it wrote.
-            let progress = unsafe { append(output, 0, |to| transcoder.feed(from, to)) };
+            let progress = unsafe { append::<_, u8>(output, 0, |to| transcoder.feed(from, to)) };
             self.pending.truncate(cut);
             let mut read = progress.read;
             self.position += read as u64;

@@ -1,5 +1,7 @@
-//! UTF-16 in either byte order, to and from UTF-8, UTF-32, Latin-1 and WTF-8, through the C library
-//! `libdethrux`, whose calls are proved correct for all inputs.
+#![cfg_attr(feature = "std", doc = include_str!("../README.md"))]
+//! # Examples
+//!
+//! Text and its UTF-16:
 //!
 #![cfg_attr(feature = "alloc", doc = "```")]
 #![cfg_attr(not(feature = "alloc"), doc = "```ignore")]
@@ -24,33 +26,6 @@
 //! assert_eq!((progress.read, &utf8[..progress.written]), (4, &b"hi"[..]));
 //! assert_eq!(find(LittleEndian, utf16, b"i\0"), Some(2));
 //! ```
-//!
-//! # Features
-//!
-//! - Without one, without an allocator: the calls that read or change a text in place, those
-//!   between your buffers, the streams, [`Utf16Chunks`] and [`display`].
-//! - `alloc`: [`decode`], [`encode`] and others that return a `String` or a `Vec`.
-//! - `std`, the default: [`io`], `OsString`, `Error` for the errors, and their conversions to
-//!   `std::io::Error`.
-//! - `pure`: compiles the proved source, translated to Rust, and no library is needed. On targets
-//!   without assembly this happens without the feature. It needs `alloc`, a `usize` of at least 32
-//!   bits and Rust 1.81.
-//! - `bundled`: compiles the library with the C compiler, even if one is installed.
-//! - `dynamic`: on Linux, links `libdethrux.so` instead of `libdethrux.a`, unless the feature
-//!   `bundled` compiles the library. On other systems the build refuses `dynamic`, unless `bundled`
-//!   is on.
-//!
-//! Lengths and offsets count bytes. In UTF-32, and in [`UnitsError`], they count code units. Only
-//! [`detect_bom`] and the readers of [`io`] that say so look for a byte order mark; to every other
-//! call it is the character U+FEFF.
-//!
-//! # Panics, allocation and threads
-//!
-//! No call panics for any input, with one exception: over the proved source and with a `usize` of
-//! 32 bits, for an input of more than 1 GiB. The library does not allocate. The calls under `alloc`
-//! allocate like `Vec`, once, for the longest result: without memory the allocator's handler runs,
-//! and a capacity above `isize::MAX` panics. The capacity of what they return is at most three
-//! times its length, or a few bytes. Any call may run in any thread at any time.
 
 #![no_std]
 #![forbid(unsafe_op_in_unsafe_fn)]
@@ -123,8 +98,3 @@ pub fn kernel() -> &'static str {
         core::str::from_utf8_unchecked(core::slice::from_raw_parts(name, len))
     }
 }
-
-/// The program of the README runs with the tests.
-#[cfg(all(doctest, feature = "std"))]
-#[doc = include_str!("../README.md")]
-struct Readme;

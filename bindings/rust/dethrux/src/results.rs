@@ -83,7 +83,7 @@ impl From<ffi::Inspection> for Inspection {
             valid_up_to: raw.valid_up_to,
             chars: raw.chars,
             repertoire: [Ascii, Latin1, Bmp, Unicode][raw.repertoire as usize],
-            error: crate::error::of_status(raw.valid_up_to, raw.status, raw.error_len),
+            error: Utf16Error::of(raw.valid_up_to, raw.status, raw.error_len),
         }
     }
 }

@@ -15,7 +15,8 @@ macro_rules! stream {
         fn max_len($len:ident) = $max_len:expr;
         $(#[$feed_doc:meta])*
         fn feed = ffi::$feed:ident;
-        fn end = ffi::$finish:ident;
+        $(#[$finish_doc:meta])*
+        $visibility:vis fn $finish:ident = ffi::$end:ident;
     ) => {
         $(#[$doc])*
         ///
@@ -73,11 +74,12 @@ macro_rules! stream {
                 unsafe { append(to, max_len, |spare| self.feed(chunk, spare)) }
             }
 
-            /// Ends the stream and begins another.
-            pub(crate) fn end<B: Buffer + ?Sized>(&mut self, to: &mut B) -> Progress {
+            $(#[$finish_doc])*
+            #[must_use]
+            $visibility fn $finish<B: Buffer + ?Sized>(&mut self, to: &mut B) -> Progress {
                 let (to, capacity) = to.raw();
                 // SAFETY: the pointer and the length come from a mutable slice.
-                unsafe { ffi::$finish(&mut self.state, self.order, to, capacity) }.into()
+                unsafe { ffi::$end(&mut self.state, self.order, to, capacity) }.into()
             }
         }
     };
@@ -89,7 +91,7 @@ stream! {
     pub struct Decoder([u8; 3]);
     fn max_len(len) = to_utf8_max_len(len.saturating_add(2));
     fn feed = ffi::decoder_feed;
-    fn end = ffi::decoder_finish;
+    pub(crate) fn end = ffi::decoder_finish;
 }
 
 impl Decoder {
@@ -124,7 +126,7 @@ stream! {
     pub struct Encoder([u8; 3]);
     fn max_len(len) = from_utf8_max_len(len.saturating_add(1));
     fn feed = ffi::encoder_feed;
-    fn end = ffi::encoder_finish;
+    pub(crate) fn end = ffi::encoder_finish;
 }
 
 impl Encoder {
@@ -147,7 +149,10 @@ stream! {
     pub struct Wtf8Decoder([u8; 3]);
     fn max_len(len) = crate::Decoder::max_len(len);
     fn feed = ffi::wtf8_decoder_feed;
-    fn end = ffi::wtf8_decoder_finish;
+    /// Ends the stream and begins another: writes the pending leading surrogate, of 3 bytes, if
+    /// there is one. [`Status::Incomplete`](crate::Status::Incomplete) is an odd byte at the end,
+    /// which is left out. With [`Status::NoSpace`](crate::Status::NoSpace) nothing changes.
+    pub fn finish = ffi::wtf8_decoder_finish;
 }
 
 impl Wtf8Decoder {
@@ -155,14 +160,6 @@ impl Wtf8Decoder {
     #[cfg(feature = "alloc")]
     pub fn decode(&mut self, chunk: &[u8], to: &mut Vec<u8>) {
         self.append(chunk, to);
-    }
-
-    /// Ends the stream and begins another: writes the pending leading surrogate, of 3 bytes, if
-    /// there is one. [`Status::Incomplete`](crate::Status::Incomplete) is an odd byte at the end,
-    /// which is left out. With [`Status::NoSpace`](crate::Status::NoSpace) nothing changes.
-    #[must_use]
-    pub fn finish<B: Buffer + ?Sized>(&mut self, to: &mut B) -> Progress {
-        self.end(to)
     }
 }
 
@@ -175,7 +172,11 @@ stream! {
     /// bytes begins with the pending bytes and continues after `read`. To resume after it, subtract
     /// [`discard`](Wtf8Encoder::discard) from its length, and skip that many bytes of the rest.
     fn feed = ffi::wtf8_encoder_feed;
-    fn end = ffi::wtf8_encoder_finish;
+    /// Ends the stream and begins another: writes the pending leading surrogate, of 2 bytes, if
+    /// there is one. [`Status::Incomplete`](crate::Status::Incomplete) is an incomplete character
+    /// or surrogate at the end, which is left out. With [`Status::NoSpace`](crate::Status::NoSpace)
+    /// the surrogate is still pending.
+    pub fn finish = ffi::wtf8_encoder_finish;
 }
 
 impl Wtf8Encoder {
@@ -192,14 +193,5 @@ impl Wtf8Encoder {
         let len = self.pending().len();
         self.state = ffi::State::START;
         len
-    }
-
-    /// Ends the stream and begins another: writes the pending leading surrogate, of 2 bytes, if
-    /// there is one. [`Status::Incomplete`](crate::Status::Incomplete) is an incomplete character
-    /// or surrogate at the end, which is left out. With [`Status::NoSpace`](crate::Status::NoSpace)
-    /// the surrogate is still pending.
-    #[must_use]
-    pub fn finish<B: Buffer + ?Sized>(&mut self, to: &mut B) -> Progress {
-        self.end(to)
     }
 }
