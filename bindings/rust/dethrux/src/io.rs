@@ -21,7 +21,7 @@
 //! An adapter allocates one buffer when it is made, and a reader another one when it is first used
 //! as a `BufRead` or for fewer than 4 bytes.
 
-use std::io::{BufRead, Error, ErrorKind, Read, Result, Write};
+use std::io::{copy, BufRead, Error, ErrorKind, Read, Result, Write};
 use std::mem;
 use std::ops::Range;
 use std::vec::Vec;
@@ -29,7 +29,7 @@ use std::vec::Vec;
 use crate::text::append;
 use crate::{detect_bom, from_utf8, to_utf8, Buffer, ByteOrder, Decoder, Encoder};
 use crate::{Progress, Status, Utf16Error, Utf8Error};
-use sealed::{IllFormed, Sealed};
+use sealed::Sealed;
 
 /// The size of the buffer of an adapter, unless it is chosen, and the least.
 const BUFFER_LEN: usize = 8192;
@@ -41,16 +41,13 @@ const LONGEST: usize = 4;
 mod sealed {
     use crate::{Buffer, Progress};
 
-    /// The offset in the stream and the length of an ill-formed sequence, and whether it is an
-    /// incomplete character at the end.
-    pub type IllFormed = (u64, usize, bool);
-
     pub trait Sealed {
         /// Converts the next chunk.
         fn feed<B: Buffer + ?Sized>(&mut self, chunk: &[u8], to: &mut B) -> Progress;
 
-        /// Writes what replaces an ill-formed sequence, or returns an error about it.
-        fn replace(&mut self, _: IllFormed, _: &mut [u8]) -> std::io::Result<usize> {
+        /// Writes what replaces an ill-formed sequence, or returns an error about it: its offset in
+        /// the stream, its length, and whether it is an incomplete character at the end.
+        fn replace(&mut self, _: (u64, usize, bool), _: &mut [u8]) -> std::io::Result<usize> {
             Ok(0)
         }
 
@@ -112,30 +109,24 @@ pub struct Checked<F> {
 pub type Strict = Checked<fn(u64, usize) -> bool>;
 
 impl<F: FnMut(u64, usize) -> bool> Checked<F> {
-    fn new(order: ByteOrder, is_encoder: bool, replaces: F) -> Self {
-        Checked {
-            order,
-            is_encoder,
-            replaces,
-        }
-    }
-
     /// Converts UTF-16 to UTF-8.
     #[must_use]
     pub fn decoder(order: ByteOrder, replaces: F) -> Self {
-        Checked::new(order, false, replaces)
+        Checked {
+            order,
+            is_encoder: false,
+            replaces,
+        }
     }
 
     /// Converts UTF-8 to UTF-16.
     #[must_use]
     pub fn encoder(order: ByteOrder, replaces: F) -> Self {
-        Checked::new(order, true, replaces)
-    }
-}
-
-impl Strict {
-    fn strict(order: ByteOrder, is_encoder: bool) -> Self {
-        Checked::new(order, is_encoder, |_, _| false)
+        Checked {
+            order,
+            is_encoder: true,
+            replaces,
+        }
     }
 }
 
@@ -149,7 +140,8 @@ impl<F: FnMut(u64, usize) -> bool> Sealed for Checked<F> {
         }
     }
 
-    fn replace(&mut self, (offset, len, is_end): IllFormed, mut to: &mut [u8]) -> Result<usize> {
+    fn replace(&mut self, ill_formed: (u64, usize, bool), mut to: &mut [u8]) -> Result<usize> {
+        let (offset, len, is_end) = ill_formed;
         let mark = "\u{FFFD}".as_bytes();
         let valid_up_to = usize::try_from(offset).unwrap_or(usize::MAX);
         let error_len = (!is_end).then_some(len as u8);
@@ -278,15 +270,8 @@ impl<R: Read, T: Transcoder> Reader<R, T> {
         default_order: ByteOrder,
         make: impl FnOnce(ByteOrder) -> T,
     ) -> Result<Self> {
-        let (mut first, mut end) = ([0; 2], 0);
-        while end < 2 {
-            match inner.read(&mut first[end..]) {
-                Ok(0) => break,
-                Ok(read) => end += read,
-                Err(error) if error.kind() == ErrorKind::Interrupted => {}
-                Err(error) => return Err(error),
-            }
-        }
+        let mut first = [0; 2];
+        let end = copy(&mut inner.by_ref().take(2), &mut &mut first[..])? as usize;
         let found = detect_bom(&first[..end], default_order);
         let (len, order) = found.map_or((0, default_order), |bom| (bom.len, bom.byte_order));
         let mut reader = Reader::new(inner, make(order));
@@ -333,8 +318,7 @@ impl<R: Read, T: Transcoder> Reader<R, T> {
     /// Writes what replaces the next bytes. If there is an error about them, they stay.
     fn replace(&mut self, len: usize, is_end: bool, to: &mut [u8]) -> Result<usize> {
         self.ill_formed = len;
-        let ill_formed = (self.position, len, is_end);
-        let written = self.transcoder.replace(ill_formed, to)?;
+        let written = self.transcoder.replace((self.position, len, is_end), to)?;
         self.skip_error();
         Ok(written)
     }
@@ -383,13 +367,13 @@ impl<R: Read> Reader<R, Strict> {
     /// Returns a reader of the text of UTF-16 that replaces nothing: see [`Strict`]. Before what is
     /// ill formed, each read returns an error, until [`skip_error`](Reader::skip_error).
     pub fn strict(inner: R, order: ByteOrder) -> Self {
-        Reader::new(inner, Strict::strict(order, false))
+        Reader::new(inner, Strict::decoder(order, |_, _| false))
     }
 
     /// Returns a reader like [`strict`](Reader::strict), in the byte order of the byte order mark:
     /// see [`by_bom`](Reader::by_bom), also for errors.
     pub fn strict_with_bom(inner: R, default_order: ByteOrder) -> Result<Self> {
-        Reader::by_bom(inner, default_order, |order| Strict::strict(order, false))
+        Reader::by_bom(inner, default_order, |it| Strict::decoder(it, |_, _| false))
     }
 }
 
@@ -416,7 +400,7 @@ impl<W: Write> Writer<W, Strict> {
     /// Returns a writer of UTF-8 as UTF-16 that replaces nothing: see [`Strict`]. It reads up to
     /// what is ill formed; then each call returns the error.
     pub fn strict(inner: W, order: ByteOrder) -> Self {
-        Writer::new(inner, Strict::strict(order, true))
+        Writer::new(inner, Strict::encoder(order, |_, _| false))
     }
 }
 
