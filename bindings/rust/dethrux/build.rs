@@ -28,10 +28,8 @@ const TARGETS: [(&str, &[&str]); 5] = [
 
 /// The options of gcc's assembler and of clang that move branches which cross or end a block of 32
 /// bytes. On processors from Skylake to Cascade Lake these slow their loops down.
-const PADDED: [&str; 2] = [
-    "-Wa,-mbranches-within-32B-boundaries",
-    "-mbranches-within-32B-boundaries",
-];
+const PADDED: [&str; 2] =
+    ["-Wa,-mbranches-within-32B-boundaries", "-mbranches-within-32B-boundaries"];
 
 fn main() {
     println!("cargo:rerun-if-changed=bindings/rust/dethrux/build.rs");
@@ -97,9 +95,7 @@ fn provide(dist: &Path) -> Result<(), String> {
     if dist.is_dir() && (is_bundled || kind == "static") {
         return compile(dist, &target);
     }
-    Err(format!(
-        "there is no {file}: install libdethrux, or set DETHRUX_LIB_DIR to its folder"
-    ))
+    Err(format!("there is no {file}: install libdethrux, or set DETHRUX_LIB_DIR to its folder"))
 }
 
 /// Tests whether a library has the major and the minor version of this crate.

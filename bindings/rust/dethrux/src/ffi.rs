@@ -38,10 +38,7 @@ pub(crate) struct State<const N: usize = 3> {
 }
 
 impl<const N: usize> State<N> {
-    pub(crate) const START: Self = State {
-        pending: [0; N],
-        pending_len: 0,
-    };
+    pub(crate) const START: Self = State { pending: [0; N], pending_len: 0 };
 
     pub(crate) fn pending(&self) -> &[u8] {
         &self.pending[..usize::from(self.pending_len).min(self.pending.len())]

@@ -112,21 +112,13 @@ impl<F: FnMut(u64, usize) -> bool> Checked<F> {
     /// Converts UTF-16 to UTF-8.
     #[must_use]
     pub fn decoder(order: ByteOrder, replaces: F) -> Self {
-        Checked {
-            order,
-            is_encoder: false,
-            replaces,
-        }
+        Checked { order, is_encoder: false, replaces }
     }
 
     /// Converts UTF-8 to UTF-16.
     #[must_use]
     pub fn encoder(order: ByteOrder, replaces: F) -> Self {
-        Checked {
-            order,
-            is_encoder: true,
-            replaces,
-        }
+        Checked { order, is_encoder: true, replaces }
     }
 }
 

@@ -76,11 +76,7 @@ pub use views::*;
 pub fn version() -> (u32, u32, u32) {
     // SAFETY: the call has no precondition.
     let version = unsafe { ffi::version() };
-    (
-        version / 1_000_000,
-        version / 1_000 % 1_000,
-        version % 1_000,
-    )
+    (version / 1_000_000, version / 1_000 % 1_000, version % 1_000)
 }
 
 /// Returns which code the library runs, for bug reports and benchmarks: `x86-64-v2` or `x86-64-v3`,

@@ -12,11 +12,8 @@ pub enum ByteOrder {
 
 impl ByteOrder {
     /// The byte order of a `u16` on this machine.
-    pub const NATIVE: ByteOrder = if cfg!(target_endian = "big") {
-        ByteOrder::BigEndian
-    } else {
-        ByteOrder::LittleEndian
-    };
+    pub const NATIVE: ByteOrder =
+        if cfg!(target_endian = "big") { ByteOrder::BigEndian } else { ByteOrder::LittleEndian };
 }
 
 /// The byte order of a stream, and the length of the byte order mark at its start.

@@ -41,11 +41,7 @@ impl From<ffi::Progress> for Progress {
             3 => Status::NoSpace,
             _ => Status::NotLatin1,
         };
-        Progress {
-            read: raw.read,
-            written: raw.written,
-            status,
-        }
+        Progress { read: raw.read, written: raw.written, status }
     }
 }
 

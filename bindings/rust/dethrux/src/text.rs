@@ -51,11 +51,7 @@ fn filled<F, E, T>(
 ) -> (Vec<T>, Progress) {
     let mut made = Vec::new();
     // SAFETY: the library initializes what it wrote.
-    let progress = unsafe {
-        append(&mut made, max_len(from.len()), |to| {
-            convert(order, from, to)
-        })
-    };
+    let progress = unsafe { append(&mut made, max_len(from.len()), |to| convert(order, from, to)) };
     let unused = made.capacity() - made.len();
     if unused > made.len().max(FEW) && made.capacity() < LARGE {
         made.shrink_to_fit();
@@ -170,13 +166,7 @@ pub fn encode_from_wtf8(order: ByteOrder, wtf8: &[u8]) -> Result<Vec<u8>, Wtf8Er
 /// Returns code units, in the byte order of the machine, in WTF-8.
 #[must_use]
 pub fn units_to_wtf8(units: &[u16]) -> Vec<u8> {
-    filled(
-        to_wtf8,
-        to_wtf8_max_len,
-        ByteOrder::NATIVE,
-        units_as_bytes(units),
-    )
-    .0
+    filled(to_wtf8, to_wtf8_max_len, ByteOrder::NATIVE, units_as_bytes(units)).0
 }
 
 /// Returns WTF-8 in code units, or an error if the bytes are not WTF-8.

@@ -70,10 +70,7 @@ fn a_reader_goes_on_after_errors_and_replaces_what_is_ill_formed_wherever_it_is_
         let wanted = (decoded.as_bytes().to_vec(), errors(utf16));
         assert_eq!(read_all(reader, buffer_len), wanted);
         let reader = Reader::new(Steps::slow(utf8, len), Encoder::new(BigEndian));
-        assert_eq!(
-            read_all(reader, buffer_len),
-            (encoded.clone(), errors(utf8))
-        );
+        assert_eq!(read_all(reader, buffer_len), (encoded.clone(), errors(utf8)));
     }
 }
 
@@ -123,20 +120,13 @@ impl Scripted {
     fn new(results: impl IntoIterator<Item = Result<usize>>) -> Self {
         let mut results: Vec<_> = results.into_iter().collect();
         results.reverse();
-        Scripted {
-            results,
-            ..Scripted::default()
-        }
+        Scripted { results, ..Scripted::default() }
     }
 }
 
 impl Write for Scripted {
     fn write(&mut self, bytes: &[u8]) -> Result<usize> {
-        let len = self
-            .results
-            .pop()
-            .unwrap_or(Ok(bytes.len()))?
-            .min(bytes.len());
+        let len = self.results.pop().unwrap_or(Ok(bytes.len()))?.min(bytes.len());
         self.bytes.extend(&bytes[..len]);
         Ok(len)
     }
@@ -178,25 +168,17 @@ fn a_writer_returns_an_error_at_the_next_call() {
 
 #[test]
 fn a_writer_ends_once_whatever_fails() {
-    for (results, flushes) in [
-        (vec![Err(fault("at the end"))], vec![]),
-        (vec![], vec![Err(fault("at the end"))]),
-    ] {
-        let device = Scripted {
-            results,
-            flushes,
-            bytes: Vec::new(),
-        };
+    for (results, flushes) in
+        [(vec![Err(fault("at the end"))], vec![]), (vec![], vec![Err(fault("at the end"))])]
+    {
+        let device = Scripted { results, flushes, bytes: Vec::new() };
         let mut writer = Writer::new(device, Encoder::new(BigEndian));
         assert_eq!(writer.write(b"\xE2\x98").unwrap(), 2);
         assert!(writer.get_ref().bytes.is_empty());
         assert_eq!(writer.finish().unwrap_err().to_string(), "at the end");
         let error = writer.write(b"a").unwrap_err();
         let wanted = "the writer is finished: make another for the next stream";
-        assert_eq!(
-            (error.kind(), &*error.to_string()),
-            (ErrorKind::Other, wanted)
-        );
+        assert_eq!((error.kind(), &*error.to_string()), (ErrorKind::Other, wanted));
         writer.finish().unwrap();
         writer.finish().unwrap();
         writer.flush().unwrap();
@@ -211,10 +193,7 @@ fn a_reader_returns_the_errors_of_the_inner_one() {
         let mut reader = Reader::new(steps, Decoder::new(LittleEndian));
         let mut buffer = vec![0xAA; len];
         let error = reader.read(&mut buffer).unwrap_err();
-        assert_eq!(
-            (error.kind(), &*error.to_string()),
-            (ErrorKind::PermissionDenied, "1")
-        );
+        assert_eq!((error.kind(), &*error.to_string()), (ErrorKind::PermissionDenied, "1"));
         assert_eq!(reader.read(&mut buffer).unwrap(), 1);
         assert_eq!(buffer[0], b'a');
         assert_eq!(reader.read(&mut buffer).unwrap_err().to_string(), "3");
@@ -226,15 +205,7 @@ fn a_reader_returns_the_errors_of_the_inner_one() {
 
 #[test]
 fn a_mark_is_looked_for_in_two_bytes() {
-    for stream in [
-        &b""[..],
-        b"a",
-        b"\xFF",
-        b"a\0",
-        b"\xFF\xFE",
-        b"\xFE\xFF\0a",
-        b"a\0b\0c\0",
-    ] {
+    for stream in [&b""[..], b"a", b"\xFF", b"a\0", b"\xFF\xFE", b"\xFE\xFF\0a", b"a\0b\0c\0"] {
         for order in [LittleEndian, BigEndian] {
             let reader = Reader::with_bom(stream, order).unwrap();
             assert_eq!(*reader.get_ref(), &stream[stream.len().min(2)..]);
@@ -296,15 +267,8 @@ fn strict_adapters_stop_in_a_long_stream() {
         let mut writer = Writer::strict(Vec::new(), order);
         let utf8 = [text().as_bytes(), b"\xE2\x98a"].concat();
         let error = writer.write_all(&utf8).unwrap_err();
-        let error = *error
-            .get_ref()
-            .unwrap()
-            .downcast_ref::<Utf8Error>()
-            .unwrap();
-        assert_eq!(
-            (error.valid_up_to(), error.error_len()),
-            (text().len(), Some(2))
-        );
+        let error = *error.get_ref().unwrap().downcast_ref::<Utf8Error>().unwrap();
+        assert_eq!((error.valid_up_to(), error.error_len()), (text().len(), Some(2)));
         assert!(writer.into_inner() == utf16[..len]);
     }
     let error = Reader::strict_with_bom(Steps::new([Err(fault("at once"))]), LittleEndian);
@@ -318,10 +282,7 @@ fn a_strict_reader_takes_what_comes_after_an_end() {
     let error = reader.read_to_string(&mut text).unwrap_err();
     assert_eq!(fields(&error), (2, None));
     reader.read_to_string(&mut text).unwrap();
-    assert_eq!(
-        (&text[..], reader.skip_error(), reader.position()),
-        ("hi", 0, 4)
-    );
+    assert_eq!((&text[..], reader.skip_error(), reader.position()), ("hi", 0, 4));
 }
 
 #[test]
@@ -344,9 +305,7 @@ fn std_reads_on_after_an_interruption() {
         Steps::new(bytes.flat_map(|byte| [interrupted(), byte, interrupted()]))
     };
     let mut found = String::new();
-    Reader::strict(steps(), LittleEndian)
-        .read_to_string(&mut found)
-        .unwrap();
+    Reader::strict(steps(), LittleEndian).read_to_string(&mut found).unwrap();
     assert_eq!(found, "h\u{1F600}\ni");
     let wanted = ["h\u{1F600}", "i"];
     let lines = Reader::strict(steps(), LittleEndian).lines();
@@ -361,20 +320,12 @@ fn lines_may_be_cut_anywhere_and_end_with_an_error() {
     for (order, len) in [(LittleEndian, 1), (BigEndian, 3), (LittleEndian, 100_000)] {
         let utf16 = encode(order, &text);
         let reader = || Reader::new(Steps::new(utf16.chunks(len).map(Ok)), Decoder::new(order));
-        assert!(reader()
-            .lines()
-            .map(Result::unwrap)
-            .eq(text.lines().map(String::from)));
+        assert!(reader().lines().map(Result::unwrap).eq(text.lines().map(String::from)));
         let mut back = Vec::new();
         let read = Reader::new(text.as_bytes(), Encoder::new(order)).read_until(0xD8, &mut back);
         assert!(utf16.starts_with(&back) && read.unwrap() > 0 && back.ends_with(b"\xD8"));
     }
-    let steps = vec![
-        Ok(&b"\0h\0\n\0i"[..]),
-        Err(fault("2")),
-        Ok(b"\0\n\0j\xDC"),
-        Ok(b"\0"),
-    ];
+    let steps = vec![Ok(&b"\0h\0\n\0i"[..]), Err(fault("2")), Ok(b"\0\n\0j\xDC"), Ok(b"\0")];
     let mut lines = Reader::strict(Steps::new(steps), BigEndian).lines();
     assert_eq!(lines.next().unwrap().unwrap(), "h");
     assert_eq!(lines.next().unwrap().unwrap_err().to_string(), "2");

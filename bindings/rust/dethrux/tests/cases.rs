@@ -225,20 +225,14 @@ fn converted<F: Unit, T: Unit>(
 ) -> Converted {
     let (from, mut to) = (F::units(raw), vec![T::UNTOUCHED; room + 4]);
     let progress = convert(order, &from, &mut to[..room]);
-    assert!(
-        to[room..] == [T::UNTOUCHED; 4],
-        "it writes after its buffer"
-    );
+    assert!(to[room..] == [T::UNTOUCHED; 4], "it writes after its buffer");
     to.truncate(progress.written);
 
     let mut any = Vec::with_capacity(room);
     let found = convert_to_any(order, &from, &mut any.spare_capacity_mut()[..room]);
     // SAFETY: the call initialized this many units.
     unsafe { any.set_len(found.written) };
-    assert!(
-        (found, &any) == (progress, &to),
-        "memory that is not initialized"
-    );
+    assert!((found, &any) == (progress, &to), "memory that is not initialized");
     (progress, T::raw(&to))
 }
 
@@ -559,10 +553,7 @@ fn resumed(order: ByteOrder, utf16: &[u8]) -> Raw {
             }
             assert!(buffer.len() < 4 || reader.skip_error() == 0);
         }
-        assert_eq!(
-            (reader.position(), reader.skip_error()),
-            (utf16.len() as u64, 0)
-        );
+        assert_eq!((reader.position(), reader.skip_error()), (utf16.len() as u64, 0));
         text
     };
     let text = resumed(0);
@@ -598,18 +589,12 @@ fn reported<T: Transcoder>(
         };
         let mut reader = Reader::new(raw[..at].chain(&raw[at..]), start());
         reader.read_to_end(&mut output).unwrap();
-        assert_eq!(
-            (found.take(), reader.position()),
-            (wanted.clone(), raw.len() as u64)
-        );
+        assert_eq!((found.take(), reader.position()), (wanted.clone(), raw.len() as u64));
         let mut writer = Writer::with_capacity(at % 20, Vec::new(), start());
         writer.write_all(&raw[..at]).unwrap();
         writer.write_all(&raw[at..]).unwrap();
         writer.finish().unwrap();
-        assert_eq!(
-            (found.take(), writer.into_inner()),
-            (wanted.clone(), output.clone())
-        );
+        assert_eq!((found.take(), writer.into_inner()), (wanted.clone(), output.clone()));
         output
     };
     let output = reported(0);
@@ -645,8 +630,7 @@ fn written_strictly<T: Transcoder>(raw: &[u8], start: impl Fn() -> T) -> Whole {
 /// What a writer writes of chunks.
 fn written(raw: &[u8], transcoder: impl Transcoder) -> Raw {
     let mut writer = Writer::new(Vec::new(), transcoder);
-    raw.chunks(3)
-        .for_each(|chunk| writer.write_all(chunk).unwrap());
+    raw.chunks(3).for_each(|chunk| writer.write_all(chunk).unwrap());
     writer.finish().unwrap();
     writer.into_inner()
 }
@@ -819,10 +803,7 @@ fn every_room(name: &str, order: ByteOrder, raw: &[u8]) -> String {
 
 /// The text of a stream, which is the same however it is cut.
 fn every_chunking(order: ByteOrder, utf16: &[u8]) -> String {
-    let (call, size) = (
-        Conversion::of("to_utf8_lossy"),
-        to_utf8_lossy_len(order, utf16),
-    );
+    let (call, size) = (Conversion::of("to_utf8_lossy"), to_utf8_lossy_len(order, utf16));
     text(&call.unwrap().tested(order, utf16, size).1)
 }
 
@@ -860,11 +841,7 @@ fn inspected(order: ByteOrder, utf16: &[u8]) -> String {
 fn validity(order: ByteOrder, utf16: &[u8], none: &str) -> String {
     let error = validate(order, utf16).err();
     error.map_or(none.to_string(), |error| {
-        format!(
-            "error {} {}",
-            error.valid_up_to(),
-            or_none(error.error_len())
-        )
+        format!("error {} {}", error.valid_up_to(), or_none(error.error_len()))
     })
 }
 

@@ -29,20 +29,12 @@ fn a_byte_order_has_the_size_of_the_enum_in_c() {
 fn fill_arrays<const N: usize>(expected: &[u8]) {
     let utf16 = b"\0a\xD8\x3D\xDE\0\x4E\0";
     let mut array = [0; N];
-    assert_eq!(
-        to_utf8(BigEndian, utf16, &mut array).written,
-        expected.len()
-    );
+    assert_eq!(to_utf8(BigEndian, utf16, &mut array).written, expected.len());
     assert!(array.starts_with(expected));
     let mut array = [MaybeUninit::uninit(); N];
-    assert_eq!(
-        to_utf8(BigEndian, utf16, &mut array).written,
-        expected.len()
-    );
+    assert_eq!(to_utf8(BigEndian, utf16, &mut array).written, expected.len());
     let found = array[..expected.len()].iter();
-    assert!(found
-        .map(|byte| unsafe { byte.assume_init() })
-        .eq(expected.iter().copied()));
+    assert!(found.map(|byte| unsafe { byte.assume_init() }).eq(expected.iter().copied()));
 }
 
 #[test]
@@ -147,10 +139,7 @@ fn a_copy_of_a_stream_of_wtf8_continues_independently() {
     assert_eq!(decoder.feed(b"\xD8\x3D", &mut to).written, 0);
     let mut copy = decoder.clone();
     assert_eq!(copy.feed(b"\xDE\0", &mut to).written, 4);
-    assert_eq!(
-        (copy.pending(), decoder.pending()),
-        (&b""[..], &b"\xD8\x3D"[..])
-    );
+    assert_eq!((copy.pending(), decoder.pending()), (&b""[..], &b"\xD8\x3D"[..]));
     assert_eq!(copy.finish(&mut to).written, 0);
     assert_eq!(decoder.finish(&mut to).written, 3);
 }
@@ -176,10 +165,7 @@ fn some_chunk_of_wtf8_needs_the_capacity_of_a_feed() {
     assert_eq!([0, 1, 2, 3].map(Wtf8Decoder::max_len), [3, 6, 6, 9]);
     let (mut decoder, mut to) = (Wtf8Decoder::new(BigEndian), [0; 9]);
     assert_eq!(decoder.feed(b"\xD8\x3D\x26", &mut to).written, 0);
-    assert_eq!(
-        decoder.feed(b"\x05", &mut to).written,
-        Wtf8Decoder::max_len(1)
-    );
+    assert_eq!(decoder.feed(b"\x05", &mut to).written, Wtf8Decoder::max_len(1));
     // A pending surrogate and a letter have all the bytes that suffice, less the two of a pair.
     let mut encoder = Wtf8Encoder::new(BigEndian);
     assert_eq!(encoder.feed(b"\xED\xA0\xBD", &mut to).written, 0);
@@ -201,10 +187,8 @@ impl std::fmt::Write for Full {
 fn display_returns_an_error_and_ignores_width() {
     let utf16 = encode(BigEndian, &"a".repeat(600));
     for (space, is_enough) in [(0, false), (300, false), (599, false), (600, true)] {
-        let shown = std::fmt::write(
-            &mut Full(space),
-            format_args!("{}", display(BigEndian, &utf16)),
-        );
+        let shown =
+            std::fmt::write(&mut Full(space), format_args!("{}", display(BigEndian, &utf16)));
         assert_eq!(shown.is_ok(), is_enough);
     }
     let shown = format!("<{:*>9}>", display(LittleEndian, b"h\0i\0"));
@@ -228,10 +212,7 @@ fn units_are_bytes_in_the_byte_order_of_the_machine() {
 #[test]
 fn the_version_is_that_of_the_crate() {
     let (major, minor, patch) = version();
-    assert_eq!(
-        format!("{major}.{minor}.{patch}"),
-        env!("CARGO_PKG_VERSION")
-    );
+    assert_eq!(format!("{major}.{minor}.{patch}"), env!("CARGO_PKG_VERSION"));
 }
 
 #[test]

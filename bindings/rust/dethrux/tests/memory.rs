@@ -120,10 +120,7 @@ fn results_keep_little_memory_that_they_do_not_use() {
                 assert_eq!(counts.0, usize::from(len > 0));
                 assert!(capacity <= (3 * used).max(8));
                 let unused = capacity - used;
-                assert!(
-                    capacity >= 65536 || unused <= used.max(64),
-                    "{unused} of {capacity}"
-                );
+                assert!(capacity >= 65536 || unused <= used.max(64), "{unused} of {capacity}");
                 let is_small = 2 * used < 64;
                 assert!(counts.1 == 0 || !is_small && capacity < 65536);
             }
@@ -137,17 +134,11 @@ fn characters_take_as_much_memory_as_they_need() {
         let (utf16, len) = (encode(BigEndian, text), text.chars().count());
         let once = (usize::from(len > 0), 0);
         let wanted = (once, len, len);
-        assert_eq!(
-            measured!(decode_to_chars(BigEndian, &utf16).unwrap()),
-            wanted
-        );
+        assert_eq!(measured!(decode_to_chars(BigEndian, &utf16).unwrap()), wanted);
         assert_eq!(measured!(decode_to_chars_lossy(BigEndian, &utf16)), wanted);
     }
     let latin1 = [0xE9; 100];
-    assert_eq!(
-        measured!(encode_from_latin1(BigEndian, &latin1)),
-        ((1, 0), 200, 200)
-    );
+    assert_eq!(measured!(encode_from_latin1(BigEndian, &latin1)), ((1, 0), 200, 200));
 }
 
 #[test]

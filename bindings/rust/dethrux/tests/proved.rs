@@ -177,26 +177,16 @@ fn changes(random: &mut Random) {
     // SAFETY: the pointers and lengths are those of slices.
     let made = unsafe {
         let first = ffi::make_well_formed(order, c.as_mut_ptr(), c.len());
-        (
-            first,
-            pure::make_well_formed(order, rust.as_mut_ptr(), rust.len()),
-        )
+        (first, pure::make_well_formed(order, rust.as_mut_ptr(), rust.len()))
     };
-    assert_eq!(
-        (made.0, &c),
-        (made.1, &rust),
-        "make_well_formed: {utf16:X?}"
-    );
+    assert_eq!((made.0, &c), (made.1, &rust), "make_well_formed: {utf16:X?}");
     // SAFETY: the same.
     unsafe {
         ffi::swap_byte_order(c.as_mut_ptr(), c.len());
         pure::swap_byte_order(rust.as_mut_ptr(), rust.len());
     }
     assert_eq!(c, rust, "swap_byte_order: {utf16:X?}");
-    COMPARED.with(|it| {
-        it.borrow_mut()
-            .extend(["make_well_formed", "swap_byte_order"])
-    });
+    COMPARED.with(|it| it.borrow_mut().extend(["make_well_formed", "swap_byte_order"]));
 }
 
 /// The bytes of a stream's state.
@@ -214,10 +204,7 @@ macro_rules! stream {
             // SAFETY: any bytes are a state.
             unsafe {
                 for at in 0..std::mem::size_of_val(&c) {
-                    (&mut c as *mut State<_>)
-                        .cast::<u8>()
-                        .add(at)
-                        .write(random.next() as u8);
+                    (&mut c as *mut State<_>).cast::<u8>().add(at).write(random.next() as u8);
                 }
             }
             rust = c.clone();
@@ -239,11 +226,7 @@ macro_rules! stream {
             };
             let name = stringify!($feed);
             assert_eq!(first.numbers(), second.numbers(), "{name}: {input:X?}");
-            assert_eq!(
-                (bytes(&c), to.0),
-                (bytes(&rust), to.1),
-                "{name}: {input:X?}"
-            );
+            assert_eq!((bytes(&c), to.0), (bytes(&rust), to.1), "{name}: {input:X?}");
             at += first.read + usize::from(first.status == 1 && first.read < len);
         }
         let mut to = ([0xAA; 8], [0xAA; 8]);
@@ -255,22 +238,9 @@ macro_rules! stream {
                 pure::$finish(&mut rust, $order, to.1.as_mut_ptr(), room),
             )
         };
-        assert_eq!(
-            first.numbers(),
-            second.numbers(),
-            "{}: {input:X?}",
-            stringify!($finish)
-        );
-        assert_eq!(
-            (bytes(&c), to.0),
-            (bytes(&rust), to.1),
-            "{}",
-            stringify!($finish)
-        );
-        COMPARED.with(|it| {
-            it.borrow_mut()
-                .extend([stringify!($feed), stringify!($finish)])
-        });
+        assert_eq!(first.numbers(), second.numbers(), "{}: {input:X?}", stringify!($finish));
+        assert_eq!((bytes(&c), to.0), (bytes(&rust), to.1), "{}", stringify!($finish));
+        COMPARED.with(|it| it.borrow_mut().extend([stringify!($feed), stringify!($finish)]));
     }};
 }
 
@@ -278,13 +248,7 @@ fn streams(random: &mut Random) {
     let order = random.order();
     let utf16 = random.utf16(order);
     stream!(random, &utf16, order, decoder_feed, decoder_finish);
-    stream!(
-        random,
-        &utf16,
-        order,
-        wtf8_decoder_feed,
-        wtf8_decoder_finish
-    );
+    stream!(random, &utf16, order, wtf8_decoder_feed, wtf8_decoder_finish);
     let utf8 = random.utf8();
     stream!(random, &utf8, order, encoder_feed, encoder_finish);
     stream!(random, &utf8, order, wtf8_encoder_feed, wtf8_encoder_finish);
@@ -303,9 +267,7 @@ fn converted(convert: Convert, order: ByteOrder, from: &[u8]) -> (Vec<u8>, pure:
 
 /// The bytes of a text as std has its code units.
 fn encoded(order: ByteOrder, text: &str) -> Vec<u8> {
-    text.encode_utf16()
-        .flat_map(|unit| random::bytes_of(order, unit))
-        .collect()
+    text.encode_utf16().flat_map(|unit| random::bytes_of(order, unit)).collect()
 }
 
 #[test]
@@ -316,11 +278,7 @@ fn a_text_comes_back_and_the_orders_differ_by_swapped_bytes() {
         let text = random.text();
         for order in [LittleEndian, BigEndian] {
             let (utf16, progress) = converted(dethrux_from_utf8, order, text.as_bytes());
-            assert_eq!(
-                (progress.read, progress.status),
-                (text.len(), 0),
-                "{text:?}"
-            );
+            assert_eq!((progress.read, progress.status), (text.len(), 0), "{text:?}");
             assert_eq!(utf16, encoded(order, &text));
             let (utf8, progress) = converted(dethrux_to_utf8, order, &utf16);
             assert_eq!((progress.status, utf8), (0, text.clone().into_bytes()));
@@ -339,10 +297,7 @@ fn resuming_gives_the_text_of_std() {
     for _ in 0..ROUNDS {
         let order = random.order();
         let units = random.units();
-        let utf16: Vec<u8> = units
-            .iter()
-            .flat_map(|&it| random::bytes_of(order, it))
-            .collect();
+        let utf16: Vec<u8> = units.iter().flat_map(|&it| random::bytes_of(order, it)).collect();
         let decoded = char::decode_utf16(units.iter().copied());
         let wanted: String = decoded.map(|it| it.unwrap_or('\u{FFFD}')).collect();
         let (mut text, mut at) = (Vec::new(), 0);
@@ -358,11 +313,7 @@ fn resuming_gives_the_text_of_std() {
             }
         }
         assert_eq!(text, wanted.as_bytes(), "{units:X?}");
-        assert_eq!(
-            converted(dethrux_to_utf8_lossy, order, &utf16).0,
-            text,
-            "{units:X?}"
-        );
+        assert_eq!(converted(dethrux_to_utf8_lossy, order, &utf16).0, text, "{units:X?}");
     }
 }
 
@@ -387,13 +338,7 @@ fn edits<E: proved::utf16_units::Utf16Order>(order: ByteOrder) {
             0 => (string.push(c).unwrap(), text.push(c)).0,
             1 => (string.push_str(&new).unwrap(), text.push_str(&new)).0,
             2 => (string.insert(start, c).unwrap(), text.insert(cuts[0], c)).0,
-            3 => {
-                (
-                    string.insert_str(end, &new).unwrap(),
-                    text.insert_str(cuts[1], &new),
-                )
-                    .0
-            }
+            3 => (string.insert_str(end, &new).unwrap(), text.insert_str(cuts[1], &new)).0,
             4 => assert_eq!(string.pop(), text.pop()),
             5 if cuts[0] < text.len() => assert_eq!(string.remove(start), text.remove(cuts[0])),
             6 => (string.truncate(end), text.truncate(cuts[1])).0,

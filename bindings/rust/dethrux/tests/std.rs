@@ -6,31 +6,19 @@ use dethrux::*;
 #[test]
 fn errors_are_shown_as_std_shows_them() {
     let error = validate(LittleEndian, b"h\0i\0\0\xDC").unwrap_err();
-    assert_eq!(
-        error.to_string(),
-        "invalid utf-16 sequence of 2 bytes from index 4"
-    );
+    assert_eq!(error.to_string(), "invalid utf-16 sequence of 2 bytes from index 4");
     let error = validate(LittleEndian, b"h\0\0").unwrap_err();
-    assert_eq!(
-        error.to_string(),
-        "incomplete utf-16 byte sequence from index 2"
-    );
+    assert_eq!(error.to_string(), "incomplete utf-16 byte sequence from index 2");
     let error: Box<dyn std::error::Error + Send + Sync> = Box::new(error);
     assert!(error.is::<Utf16Error>());
     let error = validate_units(&[0x68, 0x69, 0xDC00]).unwrap_err();
     assert_eq!(error.to_string(), "unpaired surrogate at code unit 2");
     let error = validate_units(&[0x68, 0xD800]).unwrap_err();
-    assert_eq!(
-        error.to_string(),
-        "incomplete surrogate pair from code unit 1"
-    );
+    assert_eq!(error.to_string(), "incomplete surrogate pair from code unit 1");
     let error = validate_utf32(&[0x68, 0xD800]).unwrap_err();
     assert_eq!(error.to_string(), "invalid utf-32 code unit at index 1");
     for (wtf8, message) in [
-        (
-            &b"a\xED\xA0b"[..],
-            "invalid wtf-8 sequence of 2 bytes from index 1",
-        ),
+        (&b"a\xED\xA0b"[..], "invalid wtf-8 sequence of 2 bytes from index 1"),
         (b"ab\xED\xA0", "incomplete wtf-8 byte sequence from index 2"),
     ] {
         assert_eq!(units_from_wtf8(wtf8).unwrap_err().to_string(), message);

@@ -47,9 +47,7 @@ pub trait SliceIndex<T: ?Sized>: Sealed<T> {
 /// Returns the bytes of a range in a string, in bounds or not, or panics if its end is no `usize`.
 #[inline]
 fn window<E: ByteOrder>(range: impl utf16_str::SliceIndex<E>, text: &WStr<E>) -> Range<usize> {
-    let (start, end) = range
-        .window(text.len())
-        .unwrap_or_else(|| panic!("index overflow"));
+    let (start, end) = range.window(text.len()).unwrap_or_else(|| panic!("index overflow"));
     start..end
 }
 

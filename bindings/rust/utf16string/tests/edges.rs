@@ -33,8 +33,7 @@ fn utf16<E: ByteOrder>(text: &str) -> Vec<u8> {
 /// The offsets of the characters in UTF-8 and in UTF-16, and the two lengths.
 fn boundaries(text: &str) -> Vec<(usize, usize)> {
     let ends = (0..=text.len()).filter(|at| text.is_char_boundary(*at));
-    ends.map(|at| (at, 2 * text[..at].encode_utf16().count()))
-        .collect()
+    ends.map(|at| (at, 2 * text[..at].encode_utf16().count())).collect()
 }
 
 fn is_boundary(text: &str, at: usize) -> bool {
@@ -154,10 +153,7 @@ fn read<E: 'static + ByteOrder>(text: &str) {
     let view = string.as_wstr();
     assert_eq!([string.len(), view.len()], [copy.len(); 2]);
     assert_eq!([string.is_empty(), view.is_empty()], [text.is_empty(); 2]);
-    assert_eq!(
-        (view.as_bytes(), string.clone().into_bytes()),
-        (&*copy, copy.clone())
-    );
+    assert_eq!((view.as_bytes(), string.clone().into_bytes()), (&*copy, copy.clone()));
     // SAFETY: the bytes are well formed, and stay so.
     unsafe {
         assert_eq!(WString::<E>::from_utf16_unchecked(copy.clone()), string);
@@ -274,11 +270,7 @@ fn ill_formed_bytes_are_refused_by_each_constructor() {
         (b"\0a\xD8\x3D", Some((2, None)), "a\u{FFFD}"),
         (b"\0a\xD8\x3D\xDE", Some((2, None)), "a\u{FFFD}"),
         (b"\xDE\0\xD8\x3D", Some((0, Some(2))), "\u{FFFD}\u{FFFD}"),
-        (
-            b"\xD8\x3D\xDE\0\xD8\x3D\xD8\x3D",
-            Some((4, Some(2))),
-            "\u{1F600}\u{FFFD}\u{FFFD}",
-        ),
+        (b"\xD8\x3D\xDE\0\xD8\x3D\xD8\x3D", Some((4, Some(2))), "\u{1F600}\u{FFFD}\u{FFFD}"),
         (b"\xD8\x3D\xDE\0\0", Some((4, None)), "\u{1F600}\u{FFFD}"),
     ];
     for (front, (big, error, lossy)) in [0, 500].iter().flat_map(|n| cases.map(|it| (*n, it))) {
@@ -399,35 +391,15 @@ fn wrong_edits<E: 'static + ByteOrder>(text: &str, at: usize) {
         false => "slice index out of bounds",
     };
     let edits: [(bool, &str, Edit<E>); 8] = [
-        (is_boundary, "insert not on char boundary", |text, at| {
-            text.insert(at, 'x')
+        (is_boundary, "insert not on char boundary", |text, at| text.insert(at, 'x')),
+        (is_boundary, "insert not on char boundary", |text, at| text.insert_str(at, "x")),
+        (is_boundary, "assertion failed: self.is_char_boundary(idx)", |text, at| {
+            text.insert_wstr(at, &WString::from("x"));
         }),
-        (is_boundary, "insert not on char boundary", |text, at| {
-            text.insert_str(at, "x")
-        }),
-        (
-            is_boundary,
-            "assertion failed: self.is_char_boundary(idx)",
-            |text, at| {
-                text.insert_wstr(at, &WString::from("x"));
-            },
-        ),
-        (
-            is_boundary,
-            "split_off not on a char boundary",
-            |text, at| drop(text.split_off(at)),
-        ),
-        (
-            is_boundary || at >= len,
-            "new WString length not on char boundary",
-            WString::truncate,
-        ),
-        (is_boundary && at < len, remove, |text, at| {
-            assert_ne!(text.remove(at), '\0')
-        }),
-        (is_boundary, "slice index out of bounds", |text, at| {
-            drop(text.drain(..at))
-        }),
+        (is_boundary, "split_off not on a char boundary", |text, at| drop(text.split_off(at))),
+        (is_boundary || at >= len, "new WString length not on char boundary", WString::truncate),
+        (is_boundary && at < len, remove, |text, at| assert_ne!(text.remove(at), '\0')),
+        (is_boundary, "slice index out of bounds", |text, at| drop(text.drain(..at))),
         (is_boundary, "slice index out of bounds", |text, at| {
             text.replace_range(at.., &WString::from("x"));
         }),
@@ -435,11 +407,7 @@ fn wrong_edits<E: 'static + ByteOrder>(text: &str, at: usize) {
     for (is_allowed, message, edit) in edits {
         let mut string = WString::<E>::from(text);
         let panic = panic_of(|| edit(&mut string, at));
-        assert_eq!(
-            panic.as_deref(),
-            (!is_allowed).then_some(message),
-            "{text:?} at {at}"
-        );
+        assert_eq!(panic.as_deref(), (!is_allowed).then_some(message), "{text:?} at {at}");
         assert!(is_allowed || string == text);
     }
 }
@@ -474,11 +442,7 @@ fn a_predicate_that_panics_leaves_a_string() {
             })
         });
         assert_eq!(panic, Some(format!("stop at {last}")));
-        assert_eq!(
-            number,
-            last + 1,
-            "the predicate is not called after its panic"
-        );
+        assert_eq!(number, last + 1, "the predicate is not called after its panic");
         let kept = characters[..last].iter().skip(2).step_by(3);
         assert_eq!(text, kept.chain(&characters[last..]).collect::<String>());
     }
@@ -507,10 +471,7 @@ fn compared<E: 'static + ByteOrder>(first: &str, second: &str) -> Ordering {
 
 #[test]
 fn any_two_strings_are_compared_as_str() {
-    for (first, second) in TEXTS
-        .iter()
-        .flat_map(|it| TEXTS.map(|second| (*it, second)))
-    {
+    for (first, second) in TEXTS.iter().flat_map(|it| TEXTS.map(|second| (*it, second))) {
         assert_eq!(compared::<LE>(first, second), first.cmp(second));
         assert_eq!(compared::<BE>(first, second), first.cmp(second));
     }
@@ -585,19 +546,10 @@ fn values_are_shown_with_their_fields() {
             format!("{indices:?}"),
             format!("CharIndices {{ chars: {}, index: 2 }}", chars("[0, 98]")),
         ),
-        (
-            format!("{:?}", &*text),
-            format!(" {{ _endian: {endian}, raw: [0, 97, 0, 98] }}"),
-        ),
-        (
-            format!("{text:?}"),
-            format!("ing {{ buf: [0, 97, 0, 98], _endian: {endian} }}"),
-        ),
+        (format!("{:?}", &*text), format!(" {{ _endian: {endian}, raw: [0, 97, 0, 98] }}")),
+        (format!("{text:?}"), format!("ing {{ buf: [0, 97, 0, 98], _endian: {endian} }}")),
     ] {
         assert_eq!(shown, format!("WStr{expected}"));
     }
-    assert_eq!(
-        format!("{error:?}"),
-        "Utf16Error { valid_up_to: 2, error_len: Some(2) }"
-    );
+    assert_eq!(format!("{error:?}"), "Utf16Error { valid_up_to: 2, error_len: Some(2) }");
 }

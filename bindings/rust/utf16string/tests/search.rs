@@ -88,10 +88,7 @@ macro_rules! called {
 macro_rules! by_pattern {
     ($text:ident, $pattern:expr) => {{
         let is_there = [$text.contains($pattern), $text.starts_with($pattern)];
-        let parts = [
-            $text.trim_start_matches($pattern),
-            $text.trim_end_matches($pattern),
-        ];
+        let parts = [$text.trim_start_matches($pattern), $text.trim_end_matches($pattern)];
         let found = called! { $text;
             find($pattern) rfind($pattern) strip_prefix($pattern) strip_suffix($pattern)
             split_once($pattern) rsplit_once($pattern) split($pattern)
@@ -136,11 +133,7 @@ fn compare<E: 'static + ByteOrder>(
 }
 
 fn compare_test<E: 'static + ByteOrder>(text: &str, string: &WStr<E>, test: fn(char) -> bool) {
-    assert_eq!(
-        by_pattern!(string, test),
-        by_pattern!(text, test),
-        "{text:?}"
-    );
+    assert_eq!(by_pattern!(string, test), by_pattern!(text, test), "{text:?}");
     assert_eq!(string.trim_matches(test), text.trim_matches(test));
 }
 
@@ -189,10 +182,7 @@ fn read<E: 'static + ByteOrder>() {
     for (text, string) in TEXTS.map(|text| (text, WString::<E>::from(text))) {
         same(string.lines(), text.lines());
         same(string.split_whitespace(), text.split_whitespace());
-        same(
-            string.split_ascii_whitespace(),
-            text.split_ascii_whitespace(),
-        );
+        same(string.split_ascii_whitespace(), text.split_ascii_whitespace());
         assert_eq!(string.trim(), text.trim());
         assert_eq!(string.trim_start(), text.trim_start());
         assert_eq!(string.trim_end(), text.trim_end());
@@ -200,14 +190,8 @@ fn read<E: 'static + ByteOrder>() {
         assert_eq!(string.repeat(0), "");
         assert!(string.eq_ignore_ascii_case(&string.to_ascii_uppercase()));
         assert!(!string.eq_ignore_ascii_case(&(string.clone() + "b")));
-        assert_eq!(
-            string.to_byte_order::<LE>().as_bytes(),
-            WString::<LE>::from(text).as_bytes()
-        );
-        assert_eq!(
-            string.to_byte_order::<BE>().as_bytes(),
-            WString::<BE>::from(text).as_bytes()
-        );
+        assert_eq!(string.to_byte_order::<LE>().as_bytes(), WString::<LE>::from(text).as_bytes());
+        assert_eq!(string.to_byte_order::<BE>().as_bytes(), WString::<BE>::from(text).as_bytes());
     }
     assert_eq!(WString::<E>::from("-12").parse(), Ok(-12));
     assert!(WString::<E>::from("").parse::<u8>().is_err());

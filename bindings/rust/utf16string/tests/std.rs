@@ -70,19 +70,9 @@ fn conversions<E: 'static + ByteOrder>(utf8: &str) {
     let shared: [Rc<WStr<E>>; 2] = [view.into(), text.clone().into()];
     let atomic: [Arc<WStr<E>>; 2] = [view.into(), text.clone().into()];
     let cows: [Cow<WStr<E>>; 3] = [view.into(), (&text).into(), text.clone().into()];
-    assert!(matches!(
-        cows,
-        [Cow::Borrowed(_), Cow::Borrowed(_), Cow::Owned(_)]
-    ));
+    assert!(matches!(cows, [Cow::Borrowed(_), Cow::Borrowed(_), Cow::Owned(_)]));
     assert_eq!(Box::from(view), boxed);
-    for found in [
-        &*boxed,
-        &*shared[0],
-        &*shared[1],
-        &*atomic[0],
-        &*atomic[1],
-        text.as_ref(),
-    ] {
+    for found in [&*boxed, &*shared[0], &*shared[1], &*atomic[0], &*atomic[1], text.as_ref()] {
         assert_eq!(found, view);
     }
     for found in [

@@ -57,13 +57,7 @@ impl Random {
 
     /// Returns a character of one of the ranges that the code tells apart.
     fn char_of(&mut self, range: usize) -> char {
-        let ranges = [
-            (0, 0x80),
-            (0x80, 0x100),
-            (0x80, 0x800),
-            (0x800, 0xD800),
-            (0xE000, 0x10000),
-        ];
+        let ranges = [(0, 0x80), (0x80, 0x100), (0x80, 0x800), (0x800, 0xD800), (0xE000, 0x10000)];
         let (start, end) = *ranges.get(range).unwrap_or(&(0x10000, 0x11_0000));
         char::from_u32((start + self.below(end - start)) as u32).expect("a character")
     }
@@ -80,11 +74,7 @@ impl Random {
             let (range, most) = (self.below(6), [4, 20, 200][self.below(3)]);
             for _ in 0..self.below(most) {
                 let is_other = self.below(30) == 0;
-                text.push(if is_other {
-                    self.char()
-                } else {
-                    self.char_of(range)
-                });
+                text.push(if is_other { self.char() } else { self.char_of(range) });
             }
         }
         text
@@ -103,11 +93,7 @@ impl Random {
     /// Returns bytes that are nearly UTF-16.
     pub fn utf16(&mut self, order: ByteOrder) -> Vec<u8> {
         let is_text = self.below(2) == 0;
-        let units = if is_text {
-            self.text().encode_utf16().collect()
-        } else {
-            self.units()
-        };
+        let units = if is_text { self.text().encode_utf16().collect() } else { self.units() };
         let mut bytes = units.iter().flat_map(|&it| bytes_of(order, it)).collect();
         self.damage_some(&mut bytes);
         bytes
@@ -145,10 +131,7 @@ impl Random {
     /// Returns an offset between two characters.
     pub fn cut(&mut self, text: &str) -> usize {
         let at = self.below(text.len() + 1);
-        (0..=at)
-            .rev()
-            .find(|&at| text.is_char_boundary(at))
-            .unwrap_or(0)
+        (0..=at).rev().find(|&at| text.is_char_boundary(at)).unwrap_or(0)
     }
 
     /// Damages half of the texts.
