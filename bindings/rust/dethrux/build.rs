@@ -31,6 +31,14 @@ const TARGETS: [(&str, &[&str]); 5] = [
 const PADDED: [&str; 2] =
     ["-Wa,-mbranches-within-32B-boundaries", "-mbranches-within-32B-boundaries"];
 
+/// Ends the build with one line.
+macro_rules! fail {
+    ($($message:tt)*) => {{
+        eprintln!("error: {}", format_args!($($message)*));
+        exit(1)
+    }};
+}
+
 fn main() {
     println!("cargo:rerun-if-changed=bindings/rust/dethrux/build.rs");
     println!("cargo:rerun-if-env-changed=DOCS_RS");
@@ -42,9 +50,10 @@ fn main() {
     if is_set("DOCS_RS") || is_set("CARGO_CFG_DOCSRS") {
         return;
     }
-    if let Err(message) = provide(&dist) {
-        eprintln!("error: {message}");
-        exit(1);
+    if is_set("CARGO_FEATURE_PURE") {
+        println!("cargo:rustc-cfg=dethrux_pure");
+    } else {
+        provide(&dist, &env::var("TARGET").unwrap_or_default());
     }
 }
 
@@ -53,32 +62,23 @@ fn is_set(name: &str) -> bool {
 }
 
 /// Links a library, or compiles one.
-fn provide(dist: &Path) -> Result<(), String> {
-    if is_set("CARGO_FEATURE_PURE") {
-        println!("cargo:rustc-cfg=dethrux_pure");
-        return Ok(());
-    }
+fn provide(dist: &Path, target: &str) {
     let is_bundled = is_set("CARGO_FEATURE_BUNDLED");
-    let target = env::var("TARGET").unwrap_or_default();
-    let is_native = env::var("HOST").as_ref() == Ok(&target);
+    let is_native = env::var("HOST").as_deref() == Ok(target);
     let (kind, file) = match is_set("CARGO_FEATURE_DYNAMIC") {
         true if target.contains("-linux-") => ("dylib", "libdethrux.so"),
-        true if !is_bundled => {
-            return Err(format!(
-                "the feature `dynamic` is only for Linux: turn it off, or turn `bundled` on, to \
-                 link libdethrux.a for {target}"
-            ))
-        }
+        true if !is_bundled => fail!(
+            "the feature `dynamic` is only for Linux: turn it off, or turn `bundled` on, to \
+             link libdethrux.a for {target}"
+        ),
         _ => ("static", "libdethrux.a"),
     };
     let has_file = |folder: &PathBuf| folder.join(file).is_file();
     let found = match env::var_os("DETHRUX_LIB_DIR").map(PathBuf::from) {
-        Some(folder) if !has_file(&folder) => {
-            let folder = folder.display();
-            return Err(format!(
-                "DETHRUX_LIB_DIR is {folder}, which has no {file}: point it to one, or unset it"
-            ));
-        }
+        Some(folder) if !has_file(&folder) => fail!(
+            "DETHRUX_LIB_DIR is {}, which has no {file}: point it to one, or unset it",
+            folder.display()
+        ),
         None if is_native && !is_bundled => {
             let installed = pkg_config::get_variable("dethrux", "libdir").ok();
             installed.map(PathBuf::from).filter(has_file)
@@ -90,27 +90,29 @@ fn provide(dist: &Path) -> Result<(), String> {
         println!("cargo:rerun-if-changed={}", library.display());
         println!("cargo:rustc-link-search=native={}", folder.display());
         println!("cargo:rustc-link-lib={kind}=dethrux");
-        return if is_native { check(&library) } else { Ok(()) };
+        if is_native {
+            check(&library);
+        }
+    } else if dist.is_dir() && (is_bundled || kind == "static") {
+        compile(dist, target);
+    } else {
+        fail!("there is no {file}: install libdethrux, or set DETHRUX_LIB_DIR to its folder");
     }
-    if dist.is_dir() && (is_bundled || kind == "static") {
-        return compile(dist, &target);
-    }
-    Err(format!("there is no {file}: install libdethrux, or set DETHRUX_LIB_DIR to its folder"))
 }
 
 /// Tests whether a library has the major and the minor version of this crate.
-fn check(library: &Path) -> Result<(), String> {
+fn check(library: &Path) {
     let (path, wanted) = (library.display(), env!("CARGO_PKG_VERSION"));
     match version_of(library) {
-        Some(version) if version.rsplit('.').skip(1).eq(wanted.rsplit('.').skip(1)) => Ok(()),
-        Some(version) => Err(format!(
+        Some(version) if version.rsplit('.').skip(1).eq(wanted.rsplit('.').skip(1)) => {}
+        Some(version) => fail!(
             "{path} has version {version}, this crate {wanted}: install that, or set \
              DETHRUX_LIB_DIR to it"
-        )),
-        None => Err(format!(
+        ),
+        None => fail!(
             "{path} cannot be used, since no program with it runs: install it again, or set \
              DETHRUX_LIB_DIR"
-        )),
+        ),
     }
 }
 
@@ -130,26 +132,19 @@ fn version_of(library: &Path) -> Option<String> {
 
 /// Compiles the assembly for the target, and links it. If there is none, the crate compiles the
 /// proved source.
-fn compile(dist: &Path, target: &str) -> Result<(), String> {
+fn compile(dist: &Path, target: &str) {
     // The compiler for glibc serves for musl.
     let glibc = target.replace("-musl", "-gnu");
-    let sources = match TARGETS.into_iter().find(|(name, _)| *name == glibc) {
+    let sources = match TARGETS.iter().find(|it| it.0 == glibc) {
         Some((_, sources)) => sources,
-        None => {
-            println!("cargo:rustc-cfg=dethrux_pure");
-            return Ok(());
-        }
+        None => return println!("cargo:rustc-cfg=dethrux_pure"),
     };
     let folder = dist.join("src");
     // The whole folder, since choose.S and windows.c include calls.inc.
     println!("cargo:rerun-if-changed={}", folder.display());
     let mut build = cc::Build::new();
-    build
-        .opt_level(2)
-        .debug(false)
-        .include(dist.join("include"))
-        .file(folder.join("choose.S"))
-        .files(sources.iter().map(|name| folder.join(name)));
+    build.opt_level(2).debug(false).include(dist.join("include")).file(folder.join("choose.S"));
+    build.files(sources.iter().map(|name| folder.join(name)));
     for option in PADDED {
         build.flag_if_supported(option);
     }
@@ -157,11 +152,11 @@ fn compile(dist: &Path, target: &str) -> Result<(), String> {
     if result.is_err() && glibc != target {
         result = build.target(&glibc).try_compile("dethrux");
     }
-    result.map_err(|error| {
+    if let Err(error) = result {
         eprintln!("{error}");
-        format!(
+        fail!(
             "the assembly does not compile for {target}: set CC to gcc or clang, or \
              DETHRUX_LIB_DIR"
-        )
-    })
+        );
+    }
 }

@@ -49,9 +49,9 @@ fn filled<F, E, T>(
     order: ByteOrder,
     from: &[F],
 ) -> (Vec<T>, Progress) {
-    let mut made = Vec::new();
+    let mut made = Vec::with_capacity(max_len(from.len()));
     // SAFETY: the library initializes what it wrote.
-    let progress = unsafe { append(&mut made, max_len(from.len()), |to| convert(order, from, to)) };
+    let progress = unsafe { append(&mut made, 0, |to| convert(order, from, to)) };
     let unused = made.capacity() - made.len();
     if unused > made.len().max(FEW) && made.capacity() < LARGE {
         made.shrink_to_fit();

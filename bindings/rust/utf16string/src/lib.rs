@@ -34,16 +34,21 @@ macro_rules! example {
     };
 }
 
-/// The documentation of a constructor that tests nothing.
+/// Constructors that test nothing.
 macro_rules! unchecked {
-    ($form:literal) => {
-        concat!(
-            "Returns the bytes as a string, without testing them.\n\n# Safety\n\n",
-            "The bytes are well-formed ",
-            $form,
-            "."
-        )
-    };
+    ($form:expr; $($name:ident($raw:ident: $Raw:ty) -> $Made:ty = $made:expr;)*) => {$(
+        /// Returns the bytes as a string, without testing them.
+        ///
+        /// # Safety
+        ///
+        #[doc = concat!("The bytes are well-formed ", $form, ".")]
+        #[allow(unused_unsafe)]
+        #[inline]
+        pub unsafe fn $name($raw: $Raw) -> $Made {
+            // SAFETY: the caller says it, and a `WStr` has the layout of its bytes.
+            unsafe { $made }
+        }
+    )*};
 }
 
 mod error;

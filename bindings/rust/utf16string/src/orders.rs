@@ -15,18 +15,10 @@ macro_rules! constructors {
                     Self::from_utf16_mut(raw);
             }
 
-            #[doc = unchecked!($name)]
-            #[inline]
-            pub unsafe fn $unchecked(raw: &[u8]) -> &Self {
-                // SAFETY: the caller says it.
-                unsafe { Self::from_utf16_unchecked(raw) }
-            }
-
-            #[doc = unchecked!($name)]
-            #[inline]
-            pub unsafe fn $unchecked_mut(raw: &mut [u8]) -> &mut Self {
-                // SAFETY: the caller says it.
-                unsafe { Self::from_utf16_unchecked_mut(raw) }
+            unchecked! {
+                $name;
+                $unchecked(raw: &[u8]) -> &Self = Self::from_utf16_unchecked(raw);
+                $unchecked_mut(raw: &mut [u8]) -> &mut Self = Self::from_utf16_unchecked_mut(raw);
             }
         }
 
@@ -36,11 +28,9 @@ macro_rules! constructors {
                 pub fn $new(buf: Vec<u8>) -> Result<Self, Utf16Error> = Self::from_utf16(buf);
             }
 
-            #[doc = unchecked!($name)]
-            #[inline]
-            pub unsafe fn $unchecked(buf: Vec<u8>) -> Self {
-                // SAFETY: the caller says it.
-                unsafe { Self::from_utf16_unchecked(buf) }
+            unchecked! {
+                $name;
+                $unchecked(buf: Vec<u8>) -> Self = Self::from_utf16_unchecked(buf);
             }
         }
     )*};

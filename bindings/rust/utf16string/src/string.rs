@@ -17,11 +17,10 @@ pub struct WString<E: 'static + ByteOrder> {
 }
 
 impl<E: ByteOrder> WString<E> {
-    #[doc = unchecked!("UTF-16 in the byte order")]
-    #[inline]
-    pub unsafe fn from_utf16_unchecked(buf: Vec<u8>) -> Self {
-        let text = utf16string::WString::from_utf16_unchecked(buf.into());
-        WString { text }
+    unchecked! {
+        "UTF-16 in the byte order";
+        from_utf16_unchecked(buf: Vec<u8>) -> Self =
+            WString { text: utf16string::WString::from_utf16_unchecked(buf.into()) };
     }
 
     /// Returns the vector of bytes, mutable.

@@ -48,18 +48,11 @@ pub(crate) fn validate<E: ByteOrder>(raw: &[u8]) -> Result<(), Utf16Error> {
 }
 
 impl<E: ByteOrder> WStr<E> {
-    #[doc = unchecked!("UTF-16 in the byte order")]
-    #[inline]
-    pub unsafe fn from_utf16_unchecked(raw: &[u8]) -> &Self {
-        // SAFETY: a string has the layout of its bytes.
-        unsafe { &*(raw as *const [u8] as *const Self) }
-    }
-
-    #[doc = unchecked!("UTF-16 in the byte order")]
-    #[inline]
-    pub unsafe fn from_utf16_unchecked_mut(raw: &mut [u8]) -> &mut Self {
-        // SAFETY: a string has the layout of its bytes.
-        unsafe { &mut *(raw as *mut [u8] as *mut Self) }
+    unchecked! {
+        "UTF-16 in the byte order";
+        from_utf16_unchecked(raw: &[u8]) -> &Self = &*(raw as *const [u8] as *const Self);
+        from_utf16_unchecked_mut(raw: &mut [u8]) -> &mut Self =
+            &mut *(raw as *mut [u8] as *mut Self);
     }
 
     /// Returns the bytes, mutable.
