@@ -57,14 +57,10 @@ impl<'a> Iterator for Utf16Chunks<'a> {
         if self.rest.is_empty() {
             return None;
         }
-        let (valid_len, invalid_len) = match validate(self.order, self.rest) {
-            Ok(()) => (self.rest.len(), 0),
-            Err(error) => {
-                let left = self.rest.len() - error.valid_up_to();
-                (error.valid_up_to(), error.error_len().unwrap_or(left))
-            }
-        };
+        let error = validate(self.order, self.rest).err();
+        let valid_len = error.map_or(self.rest.len(), |it| it.valid_up_to());
         let (valid, after) = self.rest.split_at(valid_len);
+        let invalid_len = error.and_then(|it| it.error_len()).unwrap_or(after.len());
         let (invalid, rest) = after.split_at(invalid_len);
         self.rest = rest;
         Some(Utf16Chunk { valid, invalid })

@@ -1,21 +1,7 @@
-#![cfg_attr(feature = "std", doc = include_str!("../README.md"))]
-//! # Examples
+#![cfg_attr(feature = "alloc", doc = include_str!("../README.md"))]
+//! # Without an allocator
 //!
-//! Text and its UTF-16:
-//!
-#![cfg_attr(feature = "alloc", doc = "```")]
-#![cfg_attr(not(feature = "alloc"), doc = "```ignore")]
-//! use dethrux::ByteOrder::LittleEndian;
-//!
-//! let utf16 = dethrux::encode(LittleEndian, "h\u{1F600}");
-//! assert_eq!(utf16, b"h\x00\x3D\xD8\x00\xDE");
-//! assert_eq!(dethrux::decode(LittleEndian, &utf16).unwrap(), "h\u{1F600}");
-//!
-//! let error = dethrux::decode(LittleEndian, b"h\x00\x00\xDCi\x00").unwrap_err();
-//! assert_eq!((error.valid_up_to(), error.error_len()), (2, Some(2)));
-//! ```
-//!
-//! Between buffers, without an allocator:
+//! Between buffers:
 //!
 //! ```
 //! use dethrux::{find, to_utf8, ByteOrder::LittleEndian, Status};
