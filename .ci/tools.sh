@@ -23,8 +23,9 @@ tools=(
     librust-memchr-dev librust-pkg-config-dev librust-serde-dev librust-simdutf8-dev
     # Other platforms.
     aarch64-linux-gnu-gcc:gcc-aarch64-linux-gnu aarch64-linux-gnu-g++:g++-aarch64-linux-gnu
-    libc6-dev-arm64-cross x86_64-w64-mingw32-gcc:gcc-mingw-w64-x86-64
-    x86_64-w64-mingw32-g++:g++-mingw-w64-x86-64 qemu-aarch64:qemu-user qemu-x86_64:qemu-user musl-gcc:musl-tools gdb:gdb
+    libc6-dev-arm64-cross i686-linux-gnu-gcc:gcc-i686-linux-gnu
+    x86_64-w64-mingw32-gcc:gcc-mingw-w64-x86-64 x86_64-w64-mingw32-g++:g++-mingw-w64-x86-64
+    qemu-aarch64:qemu-user qemu-x86_64:qemu-user musl-gcc:musl-tools gdb:gdb
     /usr/lib/wine/wine64:wine64
     # Python and JavaScript.
     python3:python3 pip:python3-pip "$python_headers:python3-dev" module=ensurepip:python3-venv

@@ -4,8 +4,8 @@
 # library and what it refuses, the packages, vendored sources, documentation without the library,
 # the oldest Rust, formatting and lints. With --tests it skips the last two. The last line is
 # 'N passed, M failed'. The library is what dist/Makefile builds, or is in the folder that
-# DETHRUX_LIB_DIR names. It needs crates as Debian packages them. Only apt-get, which downloads the
-# oldest Rust, needs a network.
+# DETHRUX_LIB_DIR names. It needs crates as Debian packages them. Only apt-get, which downloads older
+# Rust and its library for 32 bits, needs a network.
 set -uo pipefail
 here=$(cd "$(dirname "$0")" && pwd)
 top=$(cd "$here/../.." && pwd)
@@ -277,7 +277,7 @@ package() {
     for crate in dethrux dethrux-utf16string; do
         tar -C "$room" -xzf "$room/$crate-$version.crate" &&
             mv "$room/$crate-$version" "$room/$crate" &&
-            ls "$room/$crate"/LICENSE-{APACHE,MIT} || return
+            cat "$room/$crate"/LICENSE-* | cmp - <(cat "$top"/LICENSE-*) || return
     done
     ls "$room/dethrux/THIRD-PARTY.md" && cp -r "$room/dethrux" "$room/alone/" &&
         echo '{"files": {}}' > "$room/alone/dethrux/.cargo-checksum.json"
@@ -382,6 +382,15 @@ get_rust() {
     done
 }
 
+# Adds the library of a target with a `usize` of 32 bits to Rust 1.85, from lists of i386.
+get_32_bits() {
+    local apt=(apt-get -o APT::Sandbox::User=root -o "Dir::State::lists=$room/lists"
+        -o APT::Architectures::=amd64 -o APT::Architectures::=i386)
+    mkdir -p "$room/lists/partial" && "${apt[@]}" update && (cd "$room/lists" &&
+        "${apt[@]}" download libstd-rust-web-dev:i386=1.85.\*) &&
+        dpkg -x "$room"/lists/*.deb "$room/rust-1.85"
+}
+
 # Runs a step with an older Rust.
 with_rust() {
     local usr=$room/rust-$1/usr
@@ -403,6 +412,17 @@ test_old() {
     RUST_MIN_STACK=4194304 count 'the proved source with Rust 1.85' with_rust 1.85 \
         on_crate dethrux test --features pure $tests
     count 'utf16string with Rust 1.85' with_rust 1.85 on_crate dethrux-utf16string test --tests
+    count 'the library for 32 bits' get_32_bits
+    count 'the proved source with 32 bits' test_32_bits dethrux $tests
+    count 'utf16string with 32 bits' test_32_bits dethrux-utf16string --tests
+}
+
+# The proved source with a `usize` of 32 bits, which no proof covers. It has no vectors there, so it
+# is optimized, and keeps its checks.
+test_32_bits() {
+    CARGO_TARGET_I686_UNKNOWN_LINUX_GNU_LINKER=i686-linux-gnu-gcc CARGO_PROFILE_TEST_OPT_LEVEL=1 \
+        CARGO_TARGET_I686_UNKNOWN_LINUX_GNU_RUSTFLAGS=-Ctarget-feature=+crt-static \
+        with_rust 1.85 on_crate "$1" test --target i686-unknown-linux-gnu "${@:2}"
 }
 
 # What the build script compiles for other targets than this machine. cargo needs the standard
