@@ -14,21 +14,15 @@ use crate::proved::{kit::Global, utf16string};
 use crate::view::{byte_order, validate};
 use crate::{ByteOrder, Utf16Error, WStr, WString, WStringExt};
 
-/// Implementations whose methods are one expression each. What is in brackets are generics.
+/// Implementations of traits, of which some have a type in brackets.
 macro_rules! impls {
-    ($($(#[$doc:meta])* $Trait:path, $Type:ty {
-        $(type $Name:ident = $Made:ty;)?
-        $(fn $name:ident $([$($generic:tt)*])? ($($argument:tt)*) $(-> $Result:ty)? = $body:expr;)*
-    })*) => {$(
+    ($(
+        $(#[$doc:meta])* $Trait:path $([$Name:ident = $Made:ty])?, $Type:ty { $($methods:tt)* }
+    )*) => {$(
         $(#[$doc])*
         impl<'a, E: ByteOrder> $Trait for $Type {
             $(type $Name = $Made;)?
-            $(
-                #[inline]
-                fn $name $(<$($generic)*>)? ($($argument)*) $(-> $Result)? {
-                    $body
-                }
-            )*
+            methods! { $($methods)* }
         }
     )*};
 }
@@ -91,8 +85,7 @@ impls! {
     Clone, Box<WStr<E>> {
         fn clone(&self) -> Self = (**self).into();
     }
-    ToOwned, WStr<E> {
-        type Owned = WString<E>;
+    ToOwned[Owned = WString<E>], WStr<E> {
         fn to_owned(&self) -> WString<E> = self.into();
     }
     Borrow<WStr<E>>, WString<E> {
@@ -101,8 +94,7 @@ impls! {
     BorrowMut<WStr<E>>, WString<E> {
         fn borrow_mut(&mut self) -> &mut WStr<E> = self;
     }
-    Deref, WString<E> {
-        type Target = WStr<E>;
+    Deref[Target = WStr<E>], WString<E> {
         fn deref(&self) -> &WStr<E> = WStr::of(self.text.as_wstr());
     }
     DerefMut, WString<E> {
@@ -125,16 +117,13 @@ impls! {
         fn write_str(&mut self, text: &str) -> fmt::Result = self.text.write_str(text);
         fn write_char(&mut self, character: char) -> fmt::Result = Ok(self.text.push(character)?);
     }
-    FromStr, WString<E> {
-        type Err = Infallible;
+    FromStr[Err = Infallible], WString<E> {
         fn from_str(text: &str) -> Result<Self, Infallible> = Ok(text.into());
     }
-    TryFrom<&'a [u8]>, &'a WStr<E> {
-        type Error = Utf16Error;
+    TryFrom<&'a [u8]>[Error = Utf16Error], &'a WStr<E> {
         fn try_from(bytes: &'a [u8]) -> Result<Self, Utf16Error> = WStr::from_utf16(bytes);
     }
-    TryFrom<Vec<u8>>, WString<E> {
-        type Error = FromUtf16Error;
+    TryFrom<Vec<u8>>[Error = FromUtf16Error], WString<E> {
         fn try_from(bytes: Vec<u8>) -> Result<Self, FromUtf16Error> = match validate::<E>(&bytes) {
             // SAFETY: the bytes are well formed.
             Ok(()) => Ok(unsafe { Self::from_utf16_unchecked(bytes) }),
@@ -205,8 +194,7 @@ macro_rules! append {
             AddAssign<$Item>, WString<E> {
                 fn add_assign(&mut self, $item: $Item) = { let $to = self; $push };
             }
-            Add<$Item>, WString<E> {
-                type Output = Self;
+            Add<$Item>[Output = Self], WString<E> {
                 fn add(mut self, item: $Item) -> Self = { self += item; self };
             }
         }
