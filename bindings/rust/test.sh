@@ -413,12 +413,12 @@ test_old() {
         on_crate dethrux test --features pure $tests
     count 'utf16string with Rust 1.85' with_rust 1.85 on_crate dethrux-utf16string test --tests
     count 'the library for 32 bits' get_32_bits
-    count 'the proved source with 32 bits' test_32_bits dethrux $tests
-    count 'utf16string with 32 bits' test_32_bits dethrux-utf16string --tests
+    count 'the proved source with 32 bits' test_32_bits dethrux --features pure $tests
+    count 'utf16string with 32 bits' test_32_bits dethrux-utf16string --features pure --tests
 }
 
-# The proved source with a `usize` of 32 bits, which no proof covers. It has no vectors there, so it
-# is optimized, and keeps its checks.
+# The proved source with a `usize` of 32 bits, which no proof covers. It is optimized, because the
+# tables take long, and keeps its checks.
 test_32_bits() {
     CARGO_TARGET_I686_UNKNOWN_LINUX_GNU_LINKER=i686-linux-gnu-gcc CARGO_PROFILE_TEST_OPT_LEVEL=1 \
         CARGO_TARGET_I686_UNKNOWN_LINUX_GNU_RUSTFLAGS=-Ctarget-feature=+crt-static \

@@ -5,7 +5,14 @@
 //! of 16 bytes, and `Wide`, which is the widest.
 
 // With the cfg `dethrux_arrays` there are no instructions, for tests and for Miri.
-#[cfg_attr(all(not(dethrux_arrays), target_arch = "x86_64"), path = "x86_64.rs")]
+#[cfg_attr(
+    all(
+        not(dethrux_arrays),
+        any(target_arch = "x86_64", target_arch = "x86"),
+        target_feature = "sse2"
+    ),
+    path = "x86_64.rs"
+)]
 #[cfg_attr(
     all(not(dethrux_arrays), target_arch = "aarch64", target_feature = "neon"),
     path = "aarch64.rs"

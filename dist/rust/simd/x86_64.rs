@@ -1,7 +1,10 @@
-//! The registers of x86-64: of 16 bytes with SSE2, which each processor has, and of 32 with AVX2.
+//! The registers of x86: of 16 bytes with SSE2, which x86-64 always has, and of 32 with AVX2.
 //! Some operations are one instruction with SSSE3 or SSE4.1.
 
 use super::{Half, Register};
+#[cfg(target_arch = "x86")]
+use core::arch::x86::*;
+#[cfg(target_arch = "x86_64")]
 use core::arch::x86_64::*;
 
 pub(super) type Narrow = __m128i;

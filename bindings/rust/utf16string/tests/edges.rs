@@ -43,7 +43,7 @@ fn is_boundary(text: &str, at: usize) -> bool {
 /// Offsets to the end and past it.
 fn offsets(len: usize) -> impl Iterator<Item = usize> {
     let past = [len + 1, len + 2, 2 * len + 2];
-    let most = [1 << 63, usize::MAX - 1, usize::MAX];
+    let most = [1 << (usize::BITS - 1), usize::MAX - 1, usize::MAX];
     (0..=len).chain(past).chain(most)
 }
 
