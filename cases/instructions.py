@@ -56,25 +56,30 @@ def differ(found, wanted):
     return [it for it in zip(found, wanted) if abs(it[0] - it[1]) > 0.03 * it[1]]
 
 
+def fault(counts, found, wanted):
+    """What is wrong with the counts of a call in a way, or an empty text."""
+    if found is None or wanted is None:
+        return "there is no such call" if found is None else "the table has no such call"
+    if grows(counts):
+        return f"more than linear: {grows(counts)}"
+    return f"found and wanted: {differ(found, wanted)}" if differ(found, wanted) else ""
+
+
 def main(library, level="", *words):
     with tempfile.TemporaryDirectory() as room:
         counts = run_work(library, level, pathlib.Path(room))
-    grown = {key: grows(it) for key, it in sorted(counts.items())}
-    faults = [f"{key}: more than linear: {it}" for key, it in grown.items() if it]
     texts = sorted({text for it in counts.values() for text, _ in it})
     found = {(level, *key): [it[text, SHORT] for text in texts] for key, it in counts.items()}
-    table = read_table() if level and TABLE.exists() else {}
-    others = {key: row for key, row in table.items() if key[0] != level}
+    table = read_table()
     if "--write" in words:
-        write_table({**others, **found}, texts)
-    elif level:
-        wanted = {key: row for key, row in table.items() if key[0] == level}
-        faults += [f"only here or only there: {key}" for key in found.keys() ^ wanted.keys()]
-        for key in sorted(found.keys() & wanted.keys()):
-            if differ(found[key], wanted[key]):
-                faults.append(f"{key}: found and wanted: {differ(found[key], wanted[key])}")
-    print(*faults, f"{len(counts) - len(faults)} passed, {len(faults)} failed", sep="\n")
-    return bool(faults) or len(counts) < 50
+        table = {**{key: row for key, row in table.items() if key[0] != level}, **found}
+        write_table(table, texts)
+    wanted = {key: row for key, row in table.items() if key[0] == level} if level else found
+    keys = sorted(found.keys() | wanted.keys())
+    faults = {it: fault(counts.get(it[1:]), found.get(it), wanted.get(it)) for it in keys}
+    failed = [f"{key}: {why}" for key, why in faults.items() if why]
+    print(*failed, f"{len(keys) - len(failed)} passed, {len(failed)} failed", sep="\n")
+    return bool(failed) or len(keys) < 50
 
 
 sys.exit(main(*sys.argv[1:]))
