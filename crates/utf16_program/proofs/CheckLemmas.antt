@@ -85,8 +85,8 @@ module _ (order : Option Bool) (input left old new : Option (List ℕ)) (checker
     near : length piece ≤ 4096 → length (bytes ++ piece) ≤ length bytes + 4096
     near few = omega (arith, long_more, few)
 
-    -- the run ended at a block: a write failed after a prefix of its lines, or allocation failed for
-    -- one of them
+    -- the run ended at a block: a write failed after a prefix of its lines, or allocation failed
+    -- for one of them
     pub Checking-fails : (now : Option (List ℕ)) (ended_as : Outcome) → length piece ≤ 4096 → FailsBy new now (checker_lines checker (pending ++ piece)) ended_as
         → ChecksBy order input after old now ended_as
     Checking-fails now Write few fails =

@@ -38,8 +38,8 @@ module _ (order : Option Bool) (input left old new : Option (List ℕ)) where
   ChecksBy Long = FiltersSome (lines order) (report order) input left old new (2 ^ 64 - 1)
   ChecksBy Usage = ⊥
 
--- what the end of an input wrote, by its outcome: all lines that are left, of which `ill_formed` are
--- the ill-formed sequences of the input; a prefix; or nothing
+-- what the end of an input wrote, by its outcome: all lines that are left, of which `ill_formed`
+-- are the ill-formed sequences of the input; a prefix; or nothing
 abbrev pub EndsBy : Option (List ℕ) → Option (List ℕ) → List ℕ → ℕ → Outcome → Type 0
 EndsBy old new rest ill_formed Done = Appends old new rest × (ill_formed ≡ 0)
 EndsBy old new rest ill_formed IllFormed = Appends old new rest × (ill_formed ≢ 0)

@@ -1,5 +1,5 @@
--- What a job did, for each of its outcomes: to the bytes that remain in its reader and to those that
--- its writer holds, before and after, if these are known.
+-- What a job did, for each of its outcomes: to the bytes that remain in its reader and to those
+-- that its writer holds, before and after, if these are known.
 use Rattle.std.specs.Prelude.{◌≡◌, ℕ, List, Option, Result}
 use Rattle.utf16_streams.specs.Encoder.{EncodesAs, EncodesWithBom}
 use Rattle.utf16_streams.specs.Filter.{FiltersIn}

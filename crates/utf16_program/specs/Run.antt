@@ -8,9 +8,9 @@ use Rattle.utf16_program.specs.declared.words.Program.{Program}
 use Rattle.utf16_streams.specs.Watched.{Counts}
 use Rattle.utf16_streams.specs.declared.watched.Watched.{Watched}
 
--- If the words name a job, the outcome is the job's, and bytes were read and written as this outcome
--- says. With any other words the outcome is a refusal, and reader and writer were not called. The
--- I/O errors of the outcome were counted, and no others.
+-- If the words name a job, the outcome is the job's, and bytes were read and written as this
+-- outcome says. With any other words the outcome is a refusal, and reader and writer were not
+-- called. The I/O errors of the outcome were counted, and no others.
 abbrev pub Runs : {R W : Type 0} → Program → (Job → Outcome → Type 0)
     → List (List ℕ) → (Outcome → Type 0)
     → Watched R → Watched R → Watched W → Watched W → Outcome → Type 0

@@ -70,9 +70,9 @@ pub fn to_wtf8<E: Utf16Order>(raw: &[u8], to: &mut [u8]) -> Progress
 }
 
 /// Ends a stream in the direction `ToWtf8`: writes a pending leading surrogate to the start of a
-/// buffer. Afterwards the stream is a new one. `read` is 0. With `Incomplete`, an odd byte at the end
-/// of the stream, which is not a code unit, was left out. With `NoSpace`, the surrogate does not
-/// fit, and nothing changed. Bytes of the buffer after the written ones are unchanged.
+/// buffer. Afterwards the stream is a new one. `read` is 0. With `Incomplete`, an odd byte at the
+/// end of the stream, which is not a code unit, was left out. With `NoSpace`, the surrogate does
+/// not fit, and nothing changed. Bytes of the buffer after the written ones are unchanged.
 pub fn finish_wtf8<E: Utf16Order>(stream: &mut Stream, to: &mut [u8]) -> Progress
     ensures read { result.read ≡ 0 }
     ensures no_space { (result.stop ≡ NoSpace) ↔ (length to.new

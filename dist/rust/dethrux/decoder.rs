@@ -48,6 +48,7 @@ pub fn dethrux_decoder_feed(
 /// - ensures within: `result.written ≤ length to.new`
 /// - ensures rest: `drop result.written to.new ≡ drop result.written to.old`
 /// - ensures pending: `stop_of result ≡ Done → stream_pending decoder.new ≡ []`
+/// - ensures fresh: `stop_of result ≡ Done → IsNewStream decoder.new`
 /// - ensures no_space: `stop_of result ≢ Done → (stop_of result ≡ NoSpace) × (result.written ≡ 0)`
 /// - ensures unchanged: `stop_of result ≢ Done → (decoder.new ≡ decoder.old) × (to.new ≡ to.old)`
 /// - ensures numbers: `AreNumbers result.status result.error_len`

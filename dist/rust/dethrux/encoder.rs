@@ -51,6 +51,7 @@ pub fn dethrux_encoder_feed(
 /// - ensures within: `result.written ≤ length to.new`
 /// - ensures rest: `drop result.written to.new ≡ drop result.written to.old`
 /// - ensures pending: `stop_of result ≡ Done → stream_pending encoder.new ≡ []`
+/// - ensures fresh: `stop_of result ≡ Done → IsNewStream encoder.new`
 /// - ensures no_space: `stop_of result ≢ Done → (stop_of result ≡ NoSpace) × (result.written ≡ 0)`
 /// - ensures unchanged: `stop_of result ≢ Done → (encoder.new ≡ encoder.old) × (to.new ≡ to.old)`
 /// - ensures numbers: `AreNumbers result.status result.error_len`

@@ -105,6 +105,7 @@ pub fn dethrux_wtf8_decoder_feed(
 /// - ensures within: `result.written ≤ length to.new`
 /// - ensures rest: `drop result.written to.new ≡ drop result.written to.old`
 /// - ensures pending: `stop_of result ≢ NoSpace → stream_pending decoder.new ≡ []`
+/// - ensures fresh: `stop_of result ≢ NoSpace → IsNewStream decoder.new`
 /// - ensures unchanged: `stop_of result ≡ NoSpace → (result.written ≡ 0) × (decoder.new ≡
 ///   decoder.old) × (to.new ≡ to.old)`
 /// - ensures numbers: `AreNumbers result.status result.error_len`

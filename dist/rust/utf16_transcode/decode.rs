@@ -123,7 +123,8 @@ fn write_ascii_start<E: Utf16Order>(raw: &[u8], to: &mut [u8]) -> Moved {
 // Proved:
 //
 // - requires `Writes (TranscodesToUtf8 E.BIG) raw.now to.old from.read from.written`
-// - ensures `Writes (TranscodesToUtf8 E.BIG) raw.now to.new result.read result.written`
+// - ensures wrote: `Writes (TranscodesToUtf8 E.BIG) raw.now to.new result.read result.written`
+// - ensures more: `from.read ≤ result.read`
 #[inline(always)]
 fn write_ascii_from<E: Utf16Order>(raw: &[u8], to: &mut [u8], from: Moved) -> Moved {
     // The code units that fit if they are ASCII.
@@ -156,7 +157,8 @@ fn write_ascii_from<E: Utf16Order>(raw: &[u8], to: &mut [u8], from: Moved) -> Mo
 // - requires within: `end.read ≤ length raw.now`
 // - requires space: `end.written ≤ length to.old`
 // - requires ascii: `end.read + 2 * from.written ≡ from.read + 2 * end.written`
-// - ensures `Writes (TranscodesToUtf8 E.BIG) raw.now to.new result.read result.written`
+// - ensures wrote: `Writes (TranscodesToUtf8 E.BIG) raw.now to.new result.read result.written`
+// - ensures more: `from.read ≤ result.read`
 #[inline(always)]
 fn write_last_ascii<E: Utf16Order>(raw: &[u8], to: &mut [u8], from: Moved, end: Moved) -> Moved {
     if end.read <= from.read || end.read < 16 {
@@ -272,6 +274,8 @@ fn plain_first_char<E: Utf16Order>(rest: &[u8]) -> char {
 //
 // - ensures within: `result ≤ length bytes.now`
 // - ensures valid: `IsUtf16 E.BIG (take result bytes.now)`
+// - ensures longest: `(n : ℕ) → n ≤ length bytes.now → IsUtf16 E.BIG (take n bytes.now) → n ≤
+//   result`
 #[inline(never)]
 pub(crate) fn valid_up_to<E: Utf16Order>(bytes: &[u8]) -> usize {
     match validate_raw_utf16::<E>(bytes) {

@@ -16,13 +16,15 @@ pub trait Direction {
     /// The shortest input, in bytes, that is validated while it is written.
     const FRONT_LEN: usize;
 
-    /// Returns the length in bytes of a valid prefix: the bytes before the first ill-formed
-    /// sequence.
+    /// Returns the length in bytes of the longest valid prefix: the bytes before the first
+    /// ill-formed sequence.
     ///
     /// Proved:
     ///
     /// - ensures within: `result ≤ length bytes.now`
     /// - ensures valid: `IsValid (take result bytes.now)`
+    /// - ensures longest: `(n : ℕ) → n ≤ length bytes.now → IsValid (take n bytes.now) → n ≤
+    ///   result`
     fn valid_len(bytes: &[u8]) -> usize;
 
     /// Returns the first character and its length in bytes, or the `error_len` of the bytes if they
@@ -111,11 +113,15 @@ pub trait Direction {
     fn write(text: &[u8], to: &mut [u8]) -> usize;
 
     /// Writes a valid prefix, which may be empty, in the second encoding to the start of a buffer,
-    /// as far as it fits, and validates it at the same time.
+    /// as far as it fits, and validates it at the same time. If all of the bytes are valid and
+    /// surely fit, it leaves fewer than 66 of them.
     ///
     /// Proved:
     ///
-    /// - ensures `Writes (SameText IsValid other) rest.now to.new result.read result.written`
+    /// - ensures wrote: `Writes (SameText IsValid other) rest.now to.new result.read
+    ///   result.written`
+    /// - ensures most: `IsValid rest.now → room_for (length rest.now) ≤ length to.old → length
+    ///   rest.now < result.read + 66`
     fn write_front(rest: &[u8], to: &mut [u8]) -> Moved;
 
     /// States what proofs need, and does nothing. Fewer bytes need no more space, and a block fits

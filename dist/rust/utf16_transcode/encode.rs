@@ -194,47 +194,30 @@ pub(crate) fn write_char<E: Utf16Order>(c: char, to: &mut [u8], at: usize) -> us
 //
 // - ensures within: `result ≤ length text.now`
 // - ensures well_formed: `IsUtf8 (take result text.now)`
+// - ensures longest: `(n : ℕ) → n ≤ length text.now → IsUtf8 (take n text.now) → n ≤ result`
 fn valid_len(text: &[u8]) -> usize {
     if text.len() < BLOCK_LEN {
         return valid_prefix(text);
     }
-    let first = first_len(text);
-    let len = valid_prefix(&text[..first]);
-    if len < first {
+    let len = valid_prefix(&text[..BLOCK_LEN - 1]);
+    // A character of at most four bytes may be incomplete there.
+    if len + 4 < BLOCK_LEN {
         return len;
     }
     len + valid_prefix(&text[len..])
 }
 
-// Returns the length of a valid prefix, the longest one.
+// Returns the length of the longest valid prefix.
 //
 // Proved:
 //
 // - ensures within: `result ≤ length text.now`
 // - ensures well_formed: `IsUtf8 (take result text.now)`
+// - ensures longest: `(n : ℕ) → n ≤ length text.now → IsUtf8 (take n text.now) → n ≤ result`
 fn valid_prefix(text: &[u8]) -> usize {
     match crate::proved::simdutf8::compat::from_utf8(text) {
         Ok(_) => text.len(),
         Err(error) => error.valid_up_to(),
-    }
-}
-
-// Returns how many bytes to validate first: without the last character, which may be incomplete and
-// is left for the next ones.
-//
-// Proved:
-//
-// - requires `BLOCK_LEN ≤ length text.now`
-// - ensures `result ≤ length text.now`
-fn first_len(text: &[u8]) -> usize {
-    let mut len = BLOCK_LEN - 1;
-    while len > BLOCK_LEN - 4 && is_continuation(text[len - 1]) {
-        len -= 1;
-    }
-    if text[len - 1] < 0xC0 {
-        len
-    } else {
-        len - 1
     }
 }
 

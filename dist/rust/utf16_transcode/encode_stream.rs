@@ -44,7 +44,7 @@ pub fn feed_utf8<E: Utf16Order>(stream: &mut Stream, piece: &[u8], to: &mut [u8]
 }
 
 /// Ends the stream: writes U+FFFD in UTF-16 to the start of a buffer if bytes are pending, and
-/// nothing if not. Afterwards no bytes are pending. With `NoSpace` the buffer has fewer than two
+/// nothing if not. Afterwards the stream is a new one. With `NoSpace` the buffer has fewer than two
 /// bytes, and nothing changed. `read` is 0. Bytes of the buffer after the written ones are
 /// unchanged.
 ///
@@ -58,6 +58,7 @@ pub fn feed_utf8<E: Utf16Order>(stream: &mut Stream, piece: &[u8], to: &mut [u8]
 /// - ensures within: `result.written ≤ length to.new`
 /// - ensures rest: `drop result.written to.new ≡ drop result.written to.old`
 /// - ensures pending: `result.stop ≡ Done → stream_pending stream.new ≡ []`
+/// - ensures fresh: `result.stop ≡ Done → IsNewStream stream.new`
 /// - ensures no_space: `result.stop ≢ Done → (result.stop ≡ NoSpace) × (result.written ≡ 0)`
 /// - ensures unchanged: `result.stop ≢ Done → (stream.new ≡ stream.old) × (to.new ≡ to.old)`
 pub fn finish_utf8<E: Utf16Order>(stream: &mut Stream, to: &mut [u8]) -> Progress {

@@ -15,6 +15,7 @@ mod encode_lossy;
 mod encode_stream;
 mod items;
 pub mod joined;
+pub mod laws;
 mod lossy_direction;
 mod lossy_transcoding;
 mod progress;

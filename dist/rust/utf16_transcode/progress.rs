@@ -20,8 +20,8 @@ pub enum Stop {
 /// type of the reasons: `Stop`, unless a call can stop for others.
 #[derive(Clone, Copy, Debug, PartialEq, Eq)]
 pub struct Progress<S = Stop> {
-    /// The number of bytes of the input that were read: whole characters, and in a lossy call the
-    /// ill-formed sequences among them.
+    /// The number of bytes of the input that were read: whole characters, in a lossy call the
+    /// ill-formed sequences among them, and in `feed` the bytes that are pending now.
     pub read: usize,
     /// The number of bytes at the start of the buffer that hold what was read, in the other
     /// encoding. The bytes after them are unspecified.

@@ -1,8 +1,8 @@
 // packaging/erase wrote this from crates/utf16_transcode/src/sizes.rt: do not edit it.
 //! The length of a text in the other encoding, in bytes.
 //!
-//! Valid parts are counted with SIMD, and each ill-formed sequence adds the length of U+FFFD. No
-//! character is decoded.
+//! Valid parts are counted with SIMD, and each ill-formed sequence adds the length of U+FFFD. Only
+//! parts of fewer than sixteen bytes are counted character by character.
 
 use crate::proved::utf16_from_utf8::is_text;
 use crate::proved::utf16_to_utf8::utf8_len;

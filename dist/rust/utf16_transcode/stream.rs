@@ -23,7 +23,9 @@ pub const SHORT_CHUNK: usize = 512;
 #[repr(C)]
 #[derive(Clone, Copy, Debug)]
 pub struct Stream {
+    /// The pending bytes, at the start.
     pub bytes: [u8; 3],
+    /// How many bytes are pending.
     pub len: u8,
 }
 
@@ -33,7 +35,7 @@ impl Stream {
     /// Proved:
     ///
     /// - ensures pending: `stream_pending result ≡ []`
-    /// - ensures zero: `(result.bytes ≡ 0 ∷ 0 ∷ 0 ∷ []) × (result.len ≡ 0)`
+    /// - ensures zero: `IsNewStream result`
     pub fn new() -> Self {
         Stream {
             bytes: [0; 3],
@@ -128,8 +130,9 @@ impl Stream {
     }
 
     /// Ends the stream: writes the replacement of the pending bytes, if there are any, to the start
-    /// of a buffer. No bytes are pending afterwards. With `NoSpace`, the replacement does not fit,
-    /// and nothing changed. `read` is 0. Bytes of the buffer after the written ones are unchanged.
+    /// of a buffer. Afterwards the stream is a new one. With `NoSpace`, the replacement does not
+    /// fit, and nothing changed. `read` is 0. Bytes of the buffer after the written ones are
+    /// unchanged.
     ///
     /// Proved:
     ///
@@ -141,6 +144,7 @@ impl Stream {
     /// - ensures within: `result.written ≤ length to.new`
     /// - ensures rest: `drop result.written to.new ≡ drop result.written to.old`
     /// - ensures pending: `result.stop ≡ Done → stream_pending self.new ≡ []`
+    /// - ensures fresh: `result.stop ≡ Done → IsNewStream self.new`
     /// - ensures no_space: `result.stop ≢ Done → (result.stop ≡ NoSpace) × (result.written ≡ 0)`
     /// - ensures unchanged: `result.stop ≢ Done → (self.new ≡ self.old) × (to.new ≡ to.old)`
     pub fn finish<D: LossyDirection>(&mut self, to: &mut [u8]) -> Progress {

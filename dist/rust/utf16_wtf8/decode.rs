@@ -66,9 +66,9 @@ pub fn to_wtf8<E: Utf16Order>(raw: &[u8], to: &mut [u8]) -> Progress {
 }
 
 /// Ends a stream in the direction `ToWtf8`: writes a pending leading surrogate to the start of a
-/// buffer. No bytes are pending afterwards. `read` is 0. With `Incomplete`, an odd byte at the end
-/// of the stream, which is not a code unit, was left out. With `NoSpace`, the surrogate does not
-/// fit, and nothing changed. Bytes of the buffer after the written ones are unchanged.
+/// buffer. Afterwards the stream is a new one. `read` is 0. With `Incomplete`, an odd byte at the
+/// end of the stream, which is not a code unit, was left out. With `NoSpace`, the surrogate does
+/// not fit, and nothing changed. Bytes of the buffer after the written ones are unchanged.
 ///
 /// Proved:
 ///
@@ -84,6 +84,7 @@ pub fn to_wtf8<E: Utf16Order>(raw: &[u8], to: &mut [u8]) -> Progress {
 /// - ensures within: `result.written ≤ length to.new`
 /// - ensures rest: `drop result.written to.new ≡ drop result.written to.old`
 /// - ensures pending: `result.stop ≢ NoSpace → stream_pending stream.new ≡ []`
+/// - ensures fresh: `result.stop ≢ NoSpace → IsNewStream stream.new`
 /// - ensures unchanged: `result.stop ≡ NoSpace → (result.written ≡ 0) × (stream.new ≡ stream.old) ×
 ///   (to.new ≡ to.old)`
 pub fn finish_wtf8<E: Utf16Order>(stream: &mut Stream, to: &mut [u8]) -> Progress {

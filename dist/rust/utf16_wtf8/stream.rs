@@ -17,7 +17,9 @@ const JOINED_LEN: usize = 12;
 #[repr(C)]
 #[derive(Clone, Copy, Debug)]
 pub struct Wtf8Stream {
+    /// The pending bytes, at the start.
     pub bytes: [u8; 6],
+    /// How many bytes are pending.
     pub len: u8,
 }
 
