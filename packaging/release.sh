@@ -165,8 +165,6 @@ package() {
 make_crates() {
     local debian=/usr/share/cargo/registry registry=$room/registry words=()
     need cargo
-    # A package has only files below its own folder.
-    cp LICENSE-{APACHE,MIT} bindings/rust/utf16string/
     # A lock file would have the checksums of Debian's packages.
     ! cargo package --help | grep -q -e --exclude-lockfile || words=(--exclude-lockfile)
     if compgen -G "$debian/cc-*" > "$room/log"; then
