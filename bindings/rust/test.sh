@@ -417,10 +417,9 @@ test_old() {
     count 'utf16string with 32 bits' test_32_bits dethrux-utf16string --features pure --tests
 }
 
-# The proved source with a `usize` of 32 bits, which no proof covers. It is optimized, because the
-# tables take long, and keeps its checks.
+# The proved source with a `usize` of 32 bits, which no proof covers, in a debug build.
 test_32_bits() {
-    CARGO_TARGET_I686_UNKNOWN_LINUX_GNU_LINKER=i686-linux-gnu-gcc CARGO_PROFILE_TEST_OPT_LEVEL=1 \
+    CARGO_TARGET_I686_UNKNOWN_LINUX_GNU_LINKER=i686-linux-gnu-gcc RUST_MIN_STACK=4194304 \
         CARGO_TARGET_I686_UNKNOWN_LINUX_GNU_RUSTFLAGS=-Ctarget-feature=+crt-static \
         with_rust 1.85 on_crate "$1" test --target i686-unknown-linux-gnu "${@:2}"
 }
